@@ -1,11 +1,11 @@
-//! Reports what a conversion does to values: `report_conversion FROM TO.. MODE` reads little-endian values of the format
-//! FROM from standard input, and writes how many of them each format TO has exactly, what becomes of the others, how far
-//! they are moved, and how they are distributed over binades. With `--svg FILE` it draws that too.
+//! Reports what a conversion does to values: `report_conversion FROM TO.. MODE` reads little-endian values of the
+//! format FROM from standard input, and writes how many of them each format TO has exactly, what becomes of the others,
+//! how far they are moved, and how they are distributed over binades. With `--svg FILE` it draws that instead.
 //!
 //! `HELP` explains the arguments.
 //!
-//! The exit status is 0 for a report, 1 if the stream ended inside a value or a block, 2 for other arguments, 3 if there
-//! is not enough memory for them, and 4 if a read or a write failed.
+//! The exit status is 0 for a report, 1 if the stream ended inside a value or a block, 2 for other arguments, 3 if
+//! there is not enough memory for them, and 4 if a read or a write failed.
 #![forbid(unsafe_code)]
 
 mod decibels;

@@ -30,10 +30,11 @@ pub struct Binades([u64; BINADES]);
 /// What became of the numbers of a binade.
 #[derive(Clone, Copy, Default)]
 pub struct Fate {
+    /// Those whose results are other numbers, at most one unit in the last place away.
     pub inexact: u64,
-    /// Those that became zeros.
+    /// Those of them that became zeros.
     pub lost: u64,
-    /// Those that are past the largest value, once they are rounded.
+    /// Those past the largest value: their results are no numbers, or farther away.
     pub past: u64,
 }
 
@@ -116,10 +117,8 @@ impl Measures {
         for (i, (x, y)) in doubles(values).zip(doubles(&converted.results)).enumerate() {
             self.results.count(y);
             let scale = converted.scales.get(i / together).map_or(0, |code| i32::from(*code) - 127);
-            match x.category() {
-                Category::Normal => self.count_number(digits, scale, x, y),
-                Category::Zero => {}
-                Category::Infinity | Category::NaN => {}
+            if x.category() == Category::Normal {
+                self.count_number(digits, scale, x, y);
             }
         }
     }
@@ -134,20 +133,25 @@ impl Measures {
             self.exact += 1;
             return;
         }
-        self.fate(x, |fate| {
-            fate.inexact += 1;
-            fate.lost += u64::from(y.is_zero());
-        });
         // (x - y)^2 is exactly x * x - x * y - x * y + y * y.
         self.noise.add_product(x, x);
         self.noise.add_product(-x, y);
         self.noise.add_product(-x, y);
         self.noise.add_product(y, y);
-        let error = (quad(x).sub_r(quad(y), NEAREST).value).abs();
-        keep(&mut self.error, error, x);
+        let error = quad(x).sub_r(quad(y), NEAREST).value.abs();
         let highest = if y.is_zero() { i32::MIN } else { y.ilogb() };
         let last = highest.max(digits.least_exponent + scale) - (digits.precision - 1);
-        keep(&mut self.ulps, error.scalbn_r(-last, NEAREST), x);
+        let ulps = error.scalbn_r(-last, NEAREST);
+        keep(&mut self.error, error, x);
+        keep(&mut self.ulps, ulps, x);
+        self.fate(x, |fate| {
+            if ulps > Quad::from_u128(1).value {
+                fate.past += 1;
+            } else {
+                fate.inexact += 1;
+                fate.lost += u64::from(y.is_zero());
+            }
+        });
     }
 
     fn fate(&mut self, x: Double, change: impl Fn(&mut Fate)) {

@@ -7,20 +7,28 @@ use crate::target::{Target, Way, built_in_named, is_within_double};
 
 /// The help; `packaging/manual` makes the man page and the completions of it.
 pub const HELP: &str = "\
-usage: report_conversion [OPTION..] FROM TO.. MODE < values
+usage: report_conversion [--saturate | --saturate-finite | --saturate-all]
+           [--block-length N] [--svg FILE] FROM TO.. MODE < values
        report_conversion --help | --version
 
-Reads little-endian values of the format FROM from standard input, and reports
-what a conversion to each format TO does to them: how many it has exactly, how
-many become zero or are past its largest value, the largest errors, the ratio
-of signal to noise, and the same for each binade, the values with the same
-exponent. A conversion is that of convert_values. TO may be given up to four
-times.
+Reports what a conversion does to values: it reads little-endian values of the
+format FROM from standard input, and says of each format TO, of which there may
+be four, how many it has exactly, how many become zero or are past its largest
+value, how large the errors are, and the ratio of signal to noise; then the same
+for each binade, the values with the same exponent. A conversion is that of
+convert_values.
+
+A number is past the largest value if its result is no number, or is more than
+one ulp away, one unit in the last place of the result: it was saturated, or is
+below zero in a format without a sign. A number with another result is inexact.
+Errors and noise are those of all numbers whose results are numbers.
 
 FROM  half single double bfloat e5m2 e4m3fn e4m3fnuz e4m3 e5m2fnuz
       e4m3b11fnuz tf32
-TO    one of these, quad, x87, e2m1fn e2m3fn e3m2fn e3m4 e8m0fnu ue4m3, or
-      blocks with a common scale: mxfp4 mxfp6e2m3 mxfp6e3m2 mxfp8e4m3 mxfp8e5m2
+TO    half single double bfloat e5m2 e4m3fn e4m3fnuz e4m3 e5m2fnuz
+      e4m3b11fnuz tf32 quad x87
+      e2m1fn e2m3fn e3m2fn e3m4 e8m0fnu ue4m3
+      mxfp4 mxfp6e2m3 mxfp6e3m2 mxfp8e4m3 mxfp8e5m2  blocks with a scale
 MODE  even    to the nearest value, ties to even
       up      toward positive
       down    toward negative

@@ -11,10 +11,14 @@ const MARGIN: usize = 24;
 const NAMES: usize = 170;
 const TARGET: usize = 190;
 
-/// The longest bar, the height of a line, and that of a bar.
-const LONGEST: u64 = 170;
+/// The longest bar, the thinnest part of one, the height of a line, and that of a bar.
+const LONGEST: u64 = 164;
+const THINNEST: usize = 2;
 const LINE: usize = 20;
 const BAR: usize = 14;
+
+/// The width of a part's name in the key.
+const KEY: usize = 130;
 
 /// What a part of a bar stands for.
 const PARTS: [(&str, &str); 4] =
@@ -50,25 +54,27 @@ pub fn write_svg(report: Report<'_>, out: &mut impl Write) -> io::Result<()> {
     let rows = rows(report);
     let width = (2 * MARGIN + NAMES + TARGET * words.len()).max(2 * MARGIN + 9 * title.len());
     let height = 3 * MARGIN + LINE * (rows.len() + 3) + (BAR + 2) * binades.len();
-    writeln!(out, r#"<svg xmlns="http://www.w3.org/2000/svg" viewBox="0 0 {width} {height}" width="{width}" height="{height}" role="img">"#)?;
+    let size = format!(r#"viewBox="0 0 {width} {height}" width="{width}" height="{height}""#);
+    writeln!(out, r#"<svg xmlns="http://www.w3.org/2000/svg" {size} role="img">"#)?;
     writeln!(out, "<title>{title}</title>\n<style>\n{STYLE}</style>")?;
     writeln!(out, r#"<rect class="page" width="{width}" height="{height}" rx="6"/>"#)?;
     let mut y = MARGIN + LINE / 2;
     text(out, MARGIN, y, "", &title)?;
-    y += LINE;
+    y += LINE + LINE / 4;
     for (i, word) in words.iter().enumerate() {
         text(out, right_of(i), y, "end", word)?;
     }
     for row in &rows {
         y += LINE;
-        text(out, MARGIN, y, "soft", row.name.trim())?;
+        let name = row.name.trim_start();
+        text(out, MARGIN + 8 * (row.name.len() - name.len()), y, "soft", name)?;
         for (i, cell) in row.cells.iter().enumerate() {
             text(out, right_of(i), y, "end", cell)?;
         }
     }
     y += LINE + MARGIN / 2;
     for (i, (class, name)) in PARTS.iter().enumerate() {
-        let x = MARGIN + i * 150;
+        let x = MARGIN + i * KEY;
         writeln!(out, r#"<rect class="{class}" x="{x}" y="{}" width="10" height="10"/>"#, y - 10)?;
         text(out, x + 16, y, "small", name)?;
     }
@@ -94,18 +100,15 @@ fn text(out: &mut impl Write, x: usize, y: usize, class: &str, said: &str) -> io
     writeln!(out, r#"<text x="{x}" y="{y}" class="{class}">{said}</text>"#)
 }
 
-/// The bar of a binade, as long as its share of the fullest one.
-fn bar(out: &mut impl Write, x: usize, y: usize, count: u64, most: u64, fate: Fate) -> io::Result<()> {
+/// The bar of a binade, as long as its share of the fullest one. Each part that has values is wide enough to be seen.
+fn bar(out: &mut impl Write, mut x: usize, y: usize, count: u64, most: u64, fate: Fate) -> io::Result<()> {
     let parts = [count - fate.inexact - fate.past, fate.inexact - fate.lost, fate.lost, fate.past];
-    let scaled = |values: u64| (u128::from(values) * u128::from(LONGEST) / u128::from(most)) as usize;
-    let mut before = 0;
     for ((class, _), part) in PARTS.iter().zip(parts) {
-        let (from, to) = (scaled(before), scaled(before + part));
-        before += part;
-        // What there is is seen.
-        let width = if part > 0 { (to - from).max(1) } else { 0 };
-        if width > 0 {
-            writeln!(out, r#"<rect class="{class}" x="{}" y="{y}" width="{width}" height="{BAR}"/>"#, x + from)?;
+        if part > 0 {
+            let share = u128::from(part) * u128::from(LONGEST) / u128::from(most);
+            let width = THINNEST.max(share as usize);
+            writeln!(out, r#"<rect class="{class}" x="{x}" y="{y}" width="{width}" height="{BAR}"/>"#)?;
+            x += width;
         }
     }
     Ok(())

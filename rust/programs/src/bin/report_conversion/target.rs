@@ -124,10 +124,11 @@ impl Target {
 /// The mode of conversions that are exact.
 const EXACT: Round = Round::NearestTiesToEven;
 
-/// The values of a built-in format as doubles, which they are.
+/// The values of a built-in format as doubles, which they are, except that an infinity or a NaN may have become the
+/// largest number of a wider format; that is made the largest double.
 pub fn doubles_of(format: BuiltInFormat, values: &[u8], doubles: &mut [u8]) {
     let target = FlaggedFormat::BuiltIn(BuiltInFormat::Double);
-    let to = ArrayConversion { source: format, target, round: EXACT, overflow: Overflow::Rounded };
+    let to = ArrayConversion { source: format, target, round: EXACT, overflow: Overflow::Saturated };
     to.convert(doubles.len() / DOUBLE, values, doubles);
 }
 

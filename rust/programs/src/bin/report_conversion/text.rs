@@ -2,20 +2,22 @@
 
 use crate::decibels::hundredths;
 use crate::erased::apfloat_decimals::{rounded, shortest};
-use crate::erased::rustc_apfloat::ieee::{Double, Quad};
+use crate::erased::rustc_apfloat::ieee::{Double, IeeeFloat, Semantics};
 use crate::erased::rustc_apfloat::{Float, Round};
 use crate::measures::{Fate, Largest, exponent};
 use crate::run::Report;
 use std::io::{self, Write};
 
-/// The width of a column.
+/// The least width of a column, and the least space before what stands in it.
 const COLUMN: usize = 14;
+const SPACE: usize = 2;
 
 /// The length of the longest bar.
 const BAR: u64 = 20;
 
-/// The digits of an error.
-const DIGITS: u32 = 4;
+/// The digits of an error, and the most of a number.
+const ERROR_DIGITS: u32 = 4;
+const NUMBER_DIGITS: u32 = 9;
 
 /// A row of a report: what it says, and the word of each target.
 pub struct Row {
@@ -58,7 +60,8 @@ pub fn rows(report: Report<'_>) -> Vec<Row> {
     for (measures, counts) in report.measures {
         let (results, all, exact) = (measures.results, measures.all, measures.exact);
         let (error, ulps) = (measures.error, measures.ulps);
-        let of = |found: Largest| found.map_or("-".into(), |(_, x)| shortest_text(x));
+        let size = |found: Largest| found.map_or("0".into(), |(error, _)| rounded_text(error, ERROR_DIGITS));
+        let of = |found: Largest| found.map_or("-".into(), |(_, x)| number_text(x));
         let cells = [
             exact.to_string(),
             all.inexact.to_string(),
@@ -71,11 +74,11 @@ pub fn rows(report: Report<'_>) -> Vec<Row> {
             results.zeros.to_string(),
             results.infinities.to_string(),
             results.nans.to_string(),
-            error.map_or("0".into(), |(error, _)| rounded_text(error)),
+            size(error),
             of(error),
-            ulps.map_or("0".into(), |(ulps, _)| rounded_text(ulps)),
+            size(ulps),
             of(ulps),
-            ratio(measures.powers()),
+            if error.is_none() { "no noise".into() } else { ratio(measures.powers()) },
         ];
         for (row, cell) in rows.iter_mut().zip(cells) {
             row.cells.push(cell);
@@ -84,12 +87,9 @@ pub fn rows(report: Report<'_>) -> Vec<Row> {
     rows
 }
 
-/// The ratio of signal to noise.
+/// The ratio of signal to noise, if both can be written as doubles.
 fn ratio((signal, noise): (Double, Double)) -> String {
-    if noise.is_zero() {
-        return "no noise".into();
-    }
-    if signal.is_zero() || !signal.is_finite() || !noise.is_finite() {
+    if [signal, noise].iter().any(|power| power.is_zero() || !power.is_finite()) {
         return "-".into();
     }
     let hundredths = hundredths(signal, noise);
@@ -98,12 +98,16 @@ fn ratio((signal, noise): (Double, Double)) -> String {
     format!("{sign}{}.{:02} dB", magnitude / 100, magnitude % 100)
 }
 
-fn rounded_text(x: Quad) -> String {
-    rounded(x, DIGITS, Round::NearestTiesToEven).map_or("-".into(), |(decimal, _)| decimal.to_string())
+fn rounded_text<S: Semantics>(x: IeeeFloat<S>, digits: u32) -> String {
+    rounded(x, digits, Round::NearestTiesToEven).map_or("-".into(), |(decimal, _)| decimal.to_string())
 }
 
-fn shortest_text(x: Double) -> String {
-    shortest(x).map_or("-".into(), |decimal| decimal.to_string())
+/// The shortest decimal of a number, or a rounded one if that has more digits.
+fn number_text(x: Double) -> String {
+    match shortest(x) {
+        Some(decimal) if decimal.digits < 10_u128.pow(NUMBER_DIGITS) => decimal.to_string(),
+        _ => rounded_text(x, NUMBER_DIGITS),
+    }
 }
 
 /// The name of a binade.
@@ -111,40 +115,51 @@ pub fn binade_name(place: usize) -> String {
     format!("2^{}", exponent(place))
 }
 
-/// What became of the numbers of a binade, where something did.
-pub fn fate_text(fate: Fate) -> String {
+/// What became of the numbers of a binade.
+fn fate_text(fate: Fate) -> String {
     let said = [(fate.inexact - fate.lost, "inexact"), (fate.lost, "zero"), (fate.past, "past")];
-    let said: Vec<_> = said.iter().filter(|(count, _)| *count > 0).map(|(count, name)| format!("{count} {name}")).collect();
+    let said: Vec<_> =
+        said.iter().filter(|(count, _)| *count > 0).map(|(count, name)| format!("{count} {name}")).collect();
     if said.is_empty() { "exact".into() } else { said.join(" ") }
 }
 
 /// Writes the report.
 pub fn write_text(report: Report<'_>, out: &mut impl Write) -> io::Result<()> {
     writeln!(out, "{}\n", headline(&report))?;
-    let binades = report.binades.filled();
-    let most = binades.iter().map(|(_, count)| *count).max().unwrap_or(1);
     let words: Vec<_> = report.request.targets.iter().map(|(word, _)| word.to_string()).collect();
-    let fates: Vec<Vec<Fate>> = report.measures.iter().map(|(measures, _)| measures.fates.clone()).collect();
-    write_row("", &words, out)?;
-    for row in rows(report) {
-        write_row(row.name, &row.cells, out)?;
+    let binades = histogram(&report, &words);
+    let mut table = vec![Row { name: "", cells: words }];
+    table.extend(rows(report));
+    let longest = table.iter().flat_map(|row| &row.cells).map(String::len).max().unwrap_or(0);
+    let column = COLUMN.max(longest + SPACE);
+    for Row { name, cells } in table {
+        let cells: String = cells.iter().map(|cell| format!("{cell:>column$}")).collect();
+        writeln!(out, "{name:<18}{cells}")?;
     }
-    writeln!(out)?;
-    for (place, count) in binades {
-        let bar = "#".repeat((count * BAR).div_ceil(most) as usize);
-        write!(out, "{:<8}{count:>12} {bar:<20}", binade_name(place))?;
-        for (word, fates) in words.iter().zip(&fates) {
-            write!(out, "  {word}: {}", fate_text(fates[place]))?;
-        }
+    if !binades.is_empty() {
         writeln!(out)?;
     }
-    Ok(())
+    binades.iter().try_for_each(|line| writeln!(out, "{}", line.trim_end()))
 }
 
-fn write_row(name: &str, cells: &[String], out: &mut impl Write) -> io::Result<()> {
-    write!(out, "{name:<18}")?;
-    for cell in cells {
-        write!(out, "{cell:>COLUMN$}")?;
+/// A heading, and a line for each binade that has numbers.
+fn histogram(report: &Report<'_>, words: &[String]) -> Vec<String> {
+    let binades = report.binades.filled();
+    let Some(most) = binades.iter().map(|(_, count)| *count).max() else {
+        return Vec::new();
+    };
+    let mut lines = vec![format!("{:<8}{:>12} {:<20}", "binade", "numbers", "")];
+    for (place, count) in &binades {
+        let bar = "#".repeat((count * BAR).div_ceil(most) as usize);
+        lines.push(format!("{:<8}{count:>12} {bar:<20}", binade_name(*place)));
     }
-    writeln!(out)
+    for (word, (measures, _)) in words.iter().zip(&report.measures) {
+        let fates = binades.iter().map(|(place, _)| fate_text(measures.fates[*place]));
+        let cells: Vec<_> = std::iter::once(word.clone()).chain(fates).collect();
+        let width = cells.iter().map(String::len).max().unwrap_or(0);
+        for (line, cell) in lines.iter_mut().zip(cells) {
+            line.push_str(&format!("  {cell:<width$}"));
+        }
+    }
+    lines
 }
