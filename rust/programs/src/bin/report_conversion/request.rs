@@ -53,21 +53,12 @@ a read or a write failed.
 ";
 
 /// The options.
-const OPTIONS: &[&str] = &[
-    "--help",
-    "-h",
-    "--version",
-    "--saturate",
-    "--saturate-finite",
-    "--saturate-all",
-    "--block-length",
-    "--svg",
-];
+const OPTIONS: &[&str] =
+    &["--help", "-h", "--version", "--saturate", "--saturate-finite", "--saturate-all", "--block-length", "--svg"];
 
 /// The formats that values may have.
-const SOURCES: &[&str] = &[
-    "half", "single", "double", "bfloat", "e5m2", "e4m3fn", "e4m3fnuz", "e4m3", "e5m2fnuz", "e4m3b11fnuz", "tf32",
-];
+const SOURCES: &[&str] =
+    &["half", "single", "double", "bfloat", "e5m2", "e4m3fn", "e4m3fnuz", "e4m3", "e5m2fnuz", "e4m3b11fnuz", "tf32"];
 
 /// What values may be converted to.
 const TARGETS: &[&str] = &[

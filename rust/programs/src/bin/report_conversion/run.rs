@@ -95,8 +95,7 @@ impl<'a> Report<'a> {
     /// The report on all values.
     fn read(request: Request<'a>, input: &mut impl Read) -> io::Result<Report<'a>> {
         let measures = request.targets.iter().map(|_| (Measures::new(), Counts::NONE)).collect();
-        let mut report =
-            Report { request, values: Kinds::default(), binades: Binades::new(), measures, left_over: 0 };
+        let mut report = Report { request, values: Kinds::default(), binades: Binades::new(), measures, left_over: 0 };
         let bytes = width(report.request.way.source, Extended::Packed) * report.request.values_together();
         let mut buffer = vec![0; (VALUES_AT_ONCE / report.request.values_together()).max(1) * bytes];
         loop {
