@@ -1630,10 +1630,10 @@ class ReportTests(unittest.TestCase):
 
     def test_texts(self):
         found = apfloat.report([1, 1.0625, 1000, 2.0 ** -10], apfloat.e4m3fn)
-        lines = str(found).splitlines()
+        lines = [' '.join(line.split()) for line in str(found).splitlines()]
         self.assertEqual(lines[0], 'double to e4m3fn')
-        self.assertIn('2^9               1 ##########            1 past', lines)
-        self.assertIn('2^0               2 ####################  1 inexact', lines)
+        self.assertEqual(lines[-3:], ['2^9 1 ########## 1 past', '2^0 2 #################### 1 inexact',
+                                      '2^-10 1 ########## 1 zero'])
         self.assertTrue(str(apfloat.report([], apfloat.half)).endswith(' inf dB'))
 
     def test_refusals(self):
