@@ -3104,7 +3104,7 @@ def report(of: Any, to: Any, round: int | None = None, saturate: bool | str = Fa
 
     >>> made = report(single.array([1, 1.0625, 1000, 2.0 ** -10, math.inf]), e4m3fn)
     >>> made
-    <single to e4m3fn: 4 numbers, 1 exact, 2 inexact, 1 past the largest, 24.84 dB>
+    <single to e4m3fn: 4 numbers, 1 exact, 2 inexact, 1 past the largest, 27.36 dB>
     >>> made.become_zero, made.counts['overflow'], float(made.max_error), float(made.max_ulps), made.binades[0]
     (1, 1, 0.0625, 0.5, Fate(numbers=2, inexact=1, become_zero=0, past=0))
     """

@@ -1560,8 +1560,6 @@ def integers(xs):
 class ReportTests(unittest.TestCase):
     """What a conversion does to values."""
 
-    TARGETS = apfloat.e4m3fn, apfloat.float4_e2m1fn, apfloat.bfloat, apfloat.float8_e8m0fnu, 'mxfp4', 'mxfp8e4m3'
-
     # The digits of a target, and the exponent of its least digit.
     DIGITS = {apfloat.e4m3fn: (4, -9), apfloat.float4_e2m1fn: (2, -1), apfloat.bfloat: (8, -133),
               apfloat.float8_e8m0fnu: (1, -127)}
@@ -1573,13 +1571,13 @@ class ReportTests(unittest.TestCase):
                   for _ in range(320)]
             values = apfloat.single.array(xs)
             given = list(values.numbers())
-            for target in self.TARGETS[:4]:
+            for target, digits in self.DIGITS.items():
                 found = apfloat.report(values, target, round=mode)
                 with apfloat.Context(mode):
                     made = values.to(target)
                 results = list(made.to(apfloat.double).numbers())
                 self.assertEqual(found.counts, made.counts)
-                self.compare(found, given, results, [self.DIGITS[target]] * len(given))
+                self.compare(found, given, results, [digits] * len(given))
 
     def compare(self, found, given, results, digits):
         """Compares a report with one by fractions, by the digits of each result and the exponent of the least one."""
