@@ -82,17 +82,19 @@ import re
 import struct
 import sys
 import types
-from typing import Any, Callable, Generic, Iterable, Iterator, Self, Sequence, TypeVar, Union, cast, overload
+from typing import (
+    Any, Callable, Generic, Iterable, Iterator, NamedTuple, Self, Sequence, TypeVar, Union, cast, overload,
+)
 
 __version__ = '0.1.0'
 
 __all__ = [
-    'Array', 'Blocks', 'Context', 'DOWNWARD', 'Flags', 'Format', 'Machine', 'Mask', 'NEAREST_AWAY', 'NEAREST_EVEN',
-    'Refused', 'Rounding', 'StorageFormat', 'StoredArray', 'TOWARD_ZERO', 'UPWARD', 'Value', 'bfloat', 'bfloat16',
-    'context', 'double', 'double_pair', 'e4m3', 'e4m3b11fnuz', 'e4m3fn', 'e4m3fnuz', 'e5m2', 'e5m2fnuz',
+    'Array', 'Blocks', 'Context', 'DOWNWARD', 'Fate', 'Flags', 'Format', 'Machine', 'Mask', 'NEAREST_AWAY',
+    'NEAREST_EVEN', 'Refused', 'Report', 'Rounding', 'StorageFormat', 'StoredArray', 'TOWARD_ZERO', 'UPWARD', 'Value',
+    'bfloat', 'bfloat16', 'context', 'double', 'double_pair', 'e4m3', 'e4m3b11fnuz', 'e4m3fn', 'e4m3fnuz', 'e5m2', 'e5m2fnuz',
     'float4_e2m1fn', 'float6_e2m3fn', 'float6_e3m2fn', 'float8_e3m4', 'float8_e4m3', 'float8_e4m3b11fnuz',
     'float8_e4m3fn', 'float8_e4m3fnuz', 'float8_e5m2', 'float8_e5m2fnuz', 'float8_e8m0fnu', 'finfo', 'half',
-    'machine', 'mx', 'quad', 'single', 'tf32', 'ue4m3', 'x87',
+    'machine', 'mx', 'quad', 'report', 'single', 'tf32', 'ue4m3', 'x87',
 ]
 
 
@@ -2993,6 +2995,137 @@ def _repacked(name: str, format: Any, data: bytes, length: int) -> bytes:
     if code:
         raise Refused(code)
     return room.raw[:length]
+
+
+# ---- what a conversion does
+
+# The forms of blocks, by the names that programs have for them, with their elements.
+_FORMS = {'mxfp8e5m2': 'e5m2', 'mxfp8e4m3': 'e4m3', 'mxfp6e3m2': 'e3m2', 'mxfp6e2m3': 'e2m3', 'mxfp4': 'e2m1'}
+# Numbers are counted in units of 2^-1074, the smallest double, and errors in ulps in units of 2^-2200 of one.
+_UNIT, _ULP_UNIT = 1074, 2200
+
+
+class Fate(NamedTuple):
+    """How many numbers there are, and of these how many are inexact, of the inexact ones become zero, and are past the
+    largest value."""
+
+    numbers: int = 0
+    inexact: int = 0
+    become_zero: int = 0
+    past: int = 0
+
+
+class Report:
+    """What a conversion does to values, as `report` says it.
+
+    `zeros`, `infinities` and `nans` count the values given, and `numbers` the others, of which `exact` stay the same,
+    `inexact` become another number, `become_zero` of them zero, and `past` are past the largest value: their result is
+    no number, or more than one ulp away. `counts` are those of the conversion. `max_error` and `max_ulps` are exact
+    fractions, 0 if no number is moved, `max_error_of` and `max_ulps_of` the numbers that are moved so far, or None.
+    `snr_db` is the ratio of signal to noise, an infinity without noise; `binades` has a `Fate` for each exponent.
+    """
+
+    numbers = zeros = infinities = nans = 0
+    max_error_of: float | None = None
+    max_ulps_of: float | None = None
+
+    def __init__(self, name: str, counts: dict[str, int], moves: Iterable[tuple[float, float, int]],
+                 precision: int) -> None:
+        self.name, self.counts = name, counts
+        signal = noise = error = ulps = 0
+        fates: dict[int, list[int]] = {}
+        for x, y, last in moves:
+            if x == 0 or not math.isfinite(x):
+                kind = 'zeros' if x == 0 else 'nans' if x != x else 'infinities'
+                setattr(self, kind, getattr(self, kind) + 1)
+                continue
+            self.numbers += 1
+            fate = fates.setdefault(math.frexp(x)[1] - 1, [0] * 4)
+            fate[0] += 1
+            if not math.isfinite(y):
+                fate[3] += 1
+                continue
+            exact = _units(x)
+            signal += exact * exact
+            if x == y:
+                continue
+            moved = abs(exact - _units(y))
+            noise += moved * moved
+            if y:
+                last = max(last, math.frexp(y)[1] - precision)
+            in_ulps = moved << _ULP_UNIT - _UNIT - last
+            if moved > error:
+                error, self.max_error_of = moved, x
+            if in_ulps > ulps:
+                ulps, self.max_ulps_of = in_ulps, x
+            if in_ulps >> _ULP_UNIT and in_ulps != 1 << _ULP_UNIT:
+                fate[3] += 1
+            else:
+                fate[1] += 1
+                fate[2] += y == 0
+        self.max_error, self.max_ulps = fractions.Fraction(error, 1 << _UNIT), fractions.Fraction(ulps, 1 << _ULP_UNIT)
+        self.binades = {exponent: Fate(*fates[exponent]) for exponent in sorted(fates, reverse=True)}
+        _, self.inexact, self.become_zero, self.past = map(sum, zip(*self.binades.values(), Fate()))
+        self.exact = self.numbers - self.inexact - self.past
+        self.snr_db = 10 * (math.log10(signal) - math.log10(noise)) if noise else math.inf
+
+    def __repr__(self) -> str:
+        return (f'<{self.name}: {self.numbers} numbers, {self.exact} exact, {self.inexact} inexact, '
+                f'{self.past} past the largest, {self.snr_db:.2f} dB>')
+
+    def __str__(self) -> str:
+        rows = [
+            ('numbers', self.numbers), ('zeros', self.zeros), ('infinities', self.infinities), ('NaNs', self.nans),
+            ('exact', self.exact), ('inexact', self.inexact), ('become zero', self.become_zero),
+            ('past the largest', self.past), ('largest error', f'{float(self.max_error):.4g}'),
+            ('  of the value', self.max_error_of), ('largest, in ulps', f'{float(self.max_ulps):.4g}'),
+            ('  of the value', self.max_ulps_of), ('signal to noise', f'{self.snr_db:.2f} dB'),
+        ]
+        lines = [self.name, *(f'{label:18}{"-" if said is None else said!s:>24}' for label, said in rows)]
+        most = max((fate.numbers for fate in self.binades.values()), default=1)
+        for exponent, fate in self.binades.items():
+            parts = (fate.inexact - fate.become_zero, 'inexact'), (fate.become_zero, 'zero'), (fate.past, 'past')
+            said = ' '.join(f'{count} {part}' for count, part in parts if count) or 'exact'
+            lines.append(f'2^{exponent:<6}{fate.numbers:12} {"#" * -(-fate.numbers * 20 // most):20}  {said}')
+        return '\n'.join(lines)
+
+
+def _units(x: float) -> int:
+    """A number in units of the smallest double."""
+    numerator, denominator = x.as_integer_ratio()
+    return numerator << _UNIT + 1 - denominator.bit_length()
+
+
+def report(of: Any, to: Any, round: int | None = None, saturate: bool | str = False, block: int = 32) -> Report:
+    """What a conversion of an array or of numbers does, to a format, a storage format or blocks of 'mxfp4',
+    'mxfp6e2m3', 'mxfp6e3m2', 'mxfp8e4m3' or 'mxfp8e5m2', in a mode, or that of the context.
+
+    All values have to be doubles; those of lists are rounded to `double`. What is measured is exact.
+
+    >>> made = report(single.array([1, 1.0625, 1000, 2.0 ** -10, math.inf]), e4m3fn)
+    >>> made
+    <single to e4m3fn: 4 numbers, 1 exact, 2 inexact, 1 past the largest, 27.36 dB>
+    >>> made.become_zero, made.counts['overflow'], float(made.max_error), float(made.max_ulps), made.binades[0]
+    (1, 1, 0.0625, 0.5, Fate(numbers=2, inexact=1, become_zero=0, past=0))
+    """
+    values = _values_of(of).reshape(-1)
+    given = values.numbers()
+    with Context(context().mode if round is None else round):
+        if isinstance(to, str):
+            if to not in _FORMS:
+                raise ValueError(f'{to!r} is none of {", ".join(_FORMS)}')
+            blocks = mx.quantize(values, _FORMS[to], block)
+            format: Any = blocks.codes.format
+            counts, scales = blocks.counts, [code - 127 for code in blocks.scales.bits for _ in range(block)]
+        else:
+            made = values.to(to, saturate)
+            format, counts, scales = to, made.counts, [0] * values.size
+    with Context():
+        # An infinity may have become the largest number of a wider format.
+        results = blocks.dequantize(double) if isinstance(to, str) else made.to(double, saturate=True)
+        last = int(finfo(format).smallest_subnormal.log_b())
+    moves = zip(given, results.numbers(), [last + scale for scale in scales])
+    return Report(f'{values.format} to {to}', counts, moves, format._precision)
 
 
 # ---- shapes

@@ -1557,6 +1557,92 @@ def integers(xs):
     return integers(xs.tolist()) if isinstance(xs, Array) else int(xs)
 
 
+class ReportTests(unittest.TestCase):
+    """What a conversion does to values."""
+
+    # The digits of a target, and the exponent of its least digit.
+    DIGITS = {apfloat.e4m3fn: (4, -9), apfloat.float4_e2m1fn: (2, -1), apfloat.bfloat: (8, -133),
+              apfloat.float8_e8m0fnu: (1, -127)}
+
+    def test_measures(self):
+        draw = random.Random(21)
+        for mode in apfloat.Rounding:
+            xs = [draw.choice([0.0, math.inf, math.nan, 1.5, draw.gauss(0, 1), draw.gauss(0, 1e3), draw.gauss(0, 1e-3)])
+                  for _ in range(320)]
+            values = apfloat.single.array(xs)
+            given = list(values.numbers())
+            for target, digits in self.DIGITS.items():
+                found = apfloat.report(values, target, round=mode)
+                with apfloat.Context(mode):
+                    made = values.to(target)
+                results = list(made.to(apfloat.double).numbers())
+                self.assertEqual(found.counts, made.counts)
+                self.compare(found, given, results, [digits] * len(given))
+
+    def compare(self, found, given, results, digits):
+        """Compares a report with one by fractions, by the digits of each result and the exponent of the least one."""
+        self.assertEqual((found.zeros, found.infinities, found.nans),
+                         (given.count(0), sum(map(math.isinf, given)), sum(map(math.isnan, given))))
+        fates, errors, ulps, powers = {}, [0], [0], []
+        for x, y, (precision, last) in zip(given, results, digits):
+            if x == 0 or not math.isfinite(x):
+                continue
+            fate = fates.setdefault(math.frexp(x)[1] - 1, [0] * 4)
+            fate[0] += 1
+            if math.isfinite(y):
+                error = abs(Fraction(x) - Fraction(y))
+                ulp = Fraction(2) ** max(last, math.frexp(y)[1] - precision if y else last)
+                errors.append(error)
+                ulps.append(error / ulp)
+                powers.append((Fraction(x) ** 2, error ** 2))
+                fate[1] += 0 < error <= ulp
+                fate[2] += y == 0 and error <= ulp
+                fate[3] += error > ulp
+            else:
+                fate[3] += 1
+        self.assertEqual({exponent: list(fate) for exponent, fate in found.binades.items()}, fates)
+        sums = [sum(column) for column in zip(*fates.values())]
+        self.assertEqual([found.numbers, found.inexact, found.become_zero, found.past], sums)
+        self.assertEqual(found.exact, found.numbers - found.inexact - found.past)
+        self.assertEqual((found.max_error, found.max_ulps), (max(errors), max(ulps)))
+        signal, noise = (sum(column) for column in zip(*powers))
+        self.assertAlmostEqual(found.snr_db, 10 * math.log10(signal / noise), places=9)
+
+    def test_blocks(self):
+        draw = random.Random(22)
+        values = apfloat.single.array([draw.gauss(0, 1) * 2.0 ** draw.randint(-4, 4) for _ in range(320)])
+        for form, element, precision, last in ('mxfp4', 'e2m1', 2, -1), ('mxfp8e4m3', 'e4m3', 4, -9):
+            made = apfloat.mx.quantize(values, element, block=16)
+            digits = [(precision, last + scale - 127) for scale in made.scales.bits for _ in range(16)]
+            found = apfloat.report(values.reshape(2, -1), form, block=16)
+            self.assertEqual(found.counts, made.counts)
+            self.compare(found, list(values.numbers()), list(made.dequantize(apfloat.double).numbers()), digits)
+
+    def test_saturation(self):
+        xs = [1.0, 449.0, 1e6, math.inf, math.nan]
+        found = apfloat.report(xs, apfloat.e4m3fn, saturate=True)
+        self.assertEqual((found.exact, found.inexact, found.past, found.max_error), (1, 1, 1, 10 ** 6 - 448))
+        self.assertEqual((found.max_error_of, found.counts['nans']), (1e6, 2))
+        self.assertEqual(apfloat.report(xs, apfloat.quad, saturate='all').exact, 3)
+        self.assertEqual(apfloat.report(xs, apfloat.double).snr_db, math.inf)
+
+    def test_texts(self):
+        found = apfloat.report([1, 1.0625, 1000, 2.0 ** -10], apfloat.e4m3fn)
+        lines = [' '.join(line.split()) for line in str(found).splitlines()]
+        self.assertEqual(lines[0], 'double to e4m3fn')
+        self.assertEqual(lines[-3:], ['2^9 1 ########## 1 past', '2^0 2 #################### 1 inexact',
+                                      '2^-10 1 ########## 1 zero'])
+        self.assertTrue(str(apfloat.report([], apfloat.half)).endswith(' inf dB'))
+
+    def test_refusals(self):
+        with self.assertRaisesRegex(ValueError, "'mxfp5' is none of"):
+            apfloat.report([1.0], 'mxfp5')
+        with self.assertRaises(ValueError):
+            apfloat.report(apfloat.quad.array(['0.1']), apfloat.half)
+        with self.assertRaises(ValueError):
+            apfloat.report([1.0] * 33, 'mxfp4')
+
+
 class TypeTests(unittest.TestCase):
     """What mypy finds out."""
 
