@@ -3,6 +3,7 @@ pub mod LastDigits
 pub mod Lines
 pub mod OneReading
 pub mod ParsedNumbers
+pub mod PutTexts
 pub mod SpelledTexts
 pub mod TextFronts
 pub mod TextParts

@@ -1,4 +1,5 @@
 pub mod Bounded
+pub mod Buffers
 pub mod CutDecimals
 pub mod Cuts
 pub mod DecimalTexts

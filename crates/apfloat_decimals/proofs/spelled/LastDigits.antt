@@ -10,8 +10,10 @@ use Rattle.std.proofs.lemmas.Fmt.{decimal_by_steps_wide, decimal_step_wide}
 use Rattle.std.proofs.lemmas.List.{append_assoc, length-append, length-take-le, replicate_more, take_at, take-take}
 use Rattle.std.proofs.lemmas.Nat.{mod-mul-add, pow-add}
 use Rattle.std.specs.Fmt.{decimal}
-use Rattle.apfloat_decimals.specs.Texts.{last_digits, padded}
+use Rattle.apfloat_decimals.specs.Buffers.{IsPut, IsStored}
+use Rattle.apfloat_decimals.specs.Texts.{last_digits, padded, AreZerosFrom}
 use Rattle.apfloat_decimals.proofs.numbers.Values.{power_pos}
+use Rattle.apfloat_decimals.proofs.spelled.PutTexts.{put_same, put_then}
 use Rattle.apfloat_decimals.proofs.spelled.WrittenNumbers.{below_power, length_more, single}
 
 append_none : (text : List ℕ) → text ++ [] ≡ text
@@ -131,21 +133,40 @@ last_joined first second n text =
     ∙ ap (λ (x : List ℕ). text ++ (last_digits first (n / 10 ^ second) ++ x)) (last_within second n)
     ∙ ap (λ (x : List ℕ). text ++ x) (sym (last_split first second n))
 
--- the same for the last digits of a number that has no more
-pub count_joined : (second count n : ℕ) (text : List ℕ) → second ≤ count
-    → (text ++ last_digits (count - second) (n / 10 ^ second)) ++ last_digits second (n % 10 ^ second)
-    ≡ text ++ last_digits count n
-count_joined second count n text within =
-    let all : count - second + second ≡ count = omega (arith, within) in
-    last_joined (count - second) second n text ∙ ap (λ (k : ℕ). text ++ last_digits k n) all
+-- that is so for what is stored
+pub stored_both : (first second n at : ℕ) (old mid new : List ℕ)
+    → IsStored old at (last_digits first (n / 10 ^ second)) mid (at + first)
+    → IsStored mid (at + first) (last_digits second (n % 10 ^ second)) new (at + first + second)
+    → IsStored old at (last_digits (first + second) n) new (at + (first + second))
+stored_both first second n at old mid new x y =
+    let end : at + first + second ≡ at + (first + second) = omega arith in
+    record {
+      taken = ap (λ (k : ℕ). take k new) (sym end) ∙ y.taken
+          ∙ ap (λ (t : List ℕ). t ++ last_digits second (n % 10 ^ second)) x.taken
+          ∙ last_joined first second n (take at old);
+      same = λ i l. y.same i (omega (arith, l)) ∙ x.same i (omega (arith, l));
+    }
 
--- there is room for the upper digits, and then for the lower ones
-pub count_room : (first second n : ℕ) (text : List ℕ) → length text + (first + second) ≤ 64
-    → length (text ++ last_digits first n) + second ≤ 64
-count_room first second n text room =
-    let upper = last_length first n in
-    let both = length-append text (last_digits first n) in
-    omega (arith, upper, both, room)
+-- what is stored before zeros is put
+pub stored_put : (count n at : ℕ) (old new : List ℕ) → AreZerosFrom at old
+    → IsStored old at (last_digits count n) new (at + count) → IsPut old at (last_digits count n) new (at + count)
+stored_put count n at old new zeros x =
+    let long = last_length count n in
+    record {
+      taken = x.taken;
+      moved = omega (arith, long);
+      zeros = λ i l. x.same i l ∙ zeros i (omega (arith, l));
+    }
+
+-- putting the upper digits of a number that has no more, and then the lower ones, puts all
+pub digits_put : {old mid new : List ℕ} {at between end : ℕ} (second count n : ℕ) → second ≤ count
+    → IsPut old at (last_digits (count - second) (n / 10 ^ second)) mid between
+    → IsPut mid between (last_digits second (n % 10 ^ second)) new end → IsPut old at (last_digits count n) new end
+digits_put second count n within x y =
+    let all : count - second + second ≡ count = omega (arith, within) in
+    put_same
+    (ap (λ (t : List ℕ). last_digits (count - second) (n / 10 ^ second) ++ t) (last_within second n)
+    ∙ sym (last_split (count - second) second n) ∙ ap (λ (k : ℕ). last_digits k n) all) (put_then x y)
 
 -- the upper digits are those of a lesser number
 pub upper_few : (second count n : ℕ) → second ≤ count → n < 10 ^ count
@@ -156,19 +177,17 @@ upper_few second count n within few =
     ap (λ (k : ℕ). 10 ^ k) (sym all) ∙ pow-add 10 (count - second) second in
     (div-lt_iff_lt-mul (power_pos 10 second (lit< tt))).1 (omega (arith, few, split))
 
--- appending one digit or none
-pub digit_joined : (count n : ℕ) (text : List ℕ) → count ≡ 1 → n < 10 ^ count
-    → text ++ ((48 + n) ∷ []) ≡ text ++ last_digits count n
+-- one digit or none
+pub one_digit : (count n : ℕ) → count ≡ 1 → n < 10 ^ count → (48 + n) ∷ [] ≡ last_digits count n
 unfolding last_digits
-digit_joined count n text one few =
+one_digit count n one few =
     let ten : 10 ^ count ≡ 10 = ap (λ (k : ℕ). 10 ^ k) one ∙ omega arith in
     let same : 48 + n ≡ 48 + n % 10 = omega (arith, ten, few) in
-    ap (λ (k : ℕ). text ++ (k ∷ [])) same ∙ ap (λ (k : ℕ). text ++ last_digits k n) (sym one)
+    ap (λ (k : ℕ). k ∷ []) same ∙ ap (λ (k : ℕ). last_digits k n) (sym one)
 
-pub none_joined : (count n : ℕ) (text : List ℕ) → count ≡ 0 → text ≡ text ++ last_digits count n
+pub no_digits : (count n : ℕ) → count ≡ 0 → [] ≡ last_digits count n
 unfolding last_digits
-none_joined count n text none =
-    sym (append_none text) ∙ ap (λ (k : ℕ). text ++ last_digits k n) (sym none)
+no_digits count n none = ap (λ (k : ℕ). last_digits k n) (sym none)
 
 -- the decimal digits of a number are its last ones, as many as it has
 pub all_last : (n : ℕ) → n < 2 ^ 128 → last_digits (length (decimal n)) n ≡ decimal n
@@ -186,6 +205,9 @@ all_last n few =
         let longer : length (ds ++ ((48 + m % 10) ∷ [])) ≡ suc (length ds) =
         length_more ds (48 + m % 10) ∙ omega arith in
         ap (λ (k : ℕ). last_digits k m) longer ∙ ap (λ (x : List ℕ). x ++ ((48 + m % 10) ∷ [])) same
+
+pub all_digits : (count n : ℕ) → n < 2 ^ 128 → count ≡ length (decimal n) → last_digits count n ≡ decimal n
+all_digits count n few is = ap (λ (k : ℕ). last_digits k n) is ∙ all_last n few
 
 -- the last digits of 0 are zeros
 zeros_last : (count : ℕ) → last_digits count 0 ≡ replicate count 48

@@ -7,7 +7,7 @@ use Rattle.std.proofs.lemmas.Int.{ints}
 use Rattle.apfloat_model.specs.arithmetic.Exact.{up, down}
 use lib.Signed.{mag}
 use Rattle.std.proofs.Math.Nat.{div-eq_of_lt, div-lt_iff_lt-mul, mod-eq_of_lt, mod-le, mod-lt, pow-le-pow_right}
-use Rattle.std.proofs.lemmas.Bool.{and_parts, cases_lt, eqb-false, eqb-true, false≢true, leb-true}
+use Rattle.std.proofs.lemmas.Bool.{and_parts, cases_lt, eqb-false, eqb-true, false≢true, leb-true, ne_eqb}
 use Rattle.std.proofs.lemmas.Nat.{pow-add}
 use Rattle.std.proofs.lemmas.Fmt.{decimal_nonempty, decimal_step_wide, decimal_digit, length-decimal-le_wide}
 use Rattle.std.proofs.lemmas.Fmt.{length_signed_le}
@@ -89,19 +89,12 @@ below_one_length n places few within =
     let all = length-append (48 ∷ []) (codes "." ++ (replicate (places - length (decimal n)) 48 ++ decimal n)) in
     ap (λ (x : List ℕ). length x) (below_one n places few within) ∙ omega (arith, zeros, both, dot, all, within)
 
--- appending these parts one by one appends the number
-pub below_one_joined : (n count places : ℕ) (text first second third : List ℕ) → n < 2 ^ 128
-    → count ≡ length (decimal n) → count ≤ places → first ≡ text ++ (48 ∷ [])
-    → second ≡ first ++ codes "."
-    → third ≡ second ++ replicate (places - count) 48 → third ++ decimal n ≡ text ++ pointed n places
-below_one_joined n count places text first second third few counted within one two three =
-    let rest : List ℕ = replicate (places - length (decimal n)) 48 ++ decimal n in
-    let all : second ≡ (text ++ (48 ∷ [])) ++ codes "." = two ∙ ap (λ (x : List ℕ). x ++ codes ".") one in
-    ap (λ (x : List ℕ). x ++ decimal n) (three ∙ ap (λ (k : ℕ). second ++ replicate (places - k) 48) counted)
-    ∙ append_assoc second (replicate (places - length (decimal n)) 48) (decimal n)
-    ∙ ap (λ (x : List ℕ). x ++ rest) all ∙ append_assoc (text ++ (48 ∷ [])) (codes ".") rest
-    ∙ append_assoc text (48 ∷ []) (codes "." ++ rest)
-    ∙ ap (λ (x : List ℕ). text ++ x) (sym (below_one n places few (omega (arith, counted, within))))
+-- the same with the number of its digits
+pub below_one_counted : (n count places : ℕ) → n < 2 ^ 128 → count ≡ length (decimal n) → count ≤ places
+    → (48 ∷ []) ++ (codes "." ++ (replicate (places - count) 48 ++ decimal n)) ≡ pointed n places
+below_one_counted n count places few is within =
+    ap (λ (k : ℕ). (48 ∷ []) ++ (codes "." ++ (replicate (places - k) 48 ++ decimal n))) is
+    ∙ sym (below_one n places few (omega (arith, is, within)))
 
 -- the length of a number with a dot
 pub pointed_length : (n places : ℕ) → n < 2 ^ 128 → 0 < places → places ≤ 44
@@ -156,10 +149,9 @@ scientific_length n e few fits =
     omega (arith, pointed_is, exponent, tail, both)
 
 -- where all of such a text has room, its parts have
-pub scientific_room : (text : List ℕ) (n count : ℕ) (e : ℤ) → count ≡ length (decimal n)
-    → length text + length (scientific_text n e) ≤ 64
-    → length text + (length (some_pointed n (count - 1)) + (1 + length (signed_decimal (e +ℤ pos (count - 1))))) ≤ 64
-scientific_room text n count e is room =
+pub scientific_room : (at n count : ℕ) (e : ℤ) → count ≡ length (decimal n) → at + length (scientific_text n e) ≤ 64
+    → at + (length (some_pointed n (count - 1)) + (1 + length (signed_decimal (e +ℤ pos (count - 1))))) ≤ 64
+scientific_room at n count e is room =
     let front : List ℕ = some_pointed n (length (decimal n) - 1) in
     let back : List ℕ = signed_decimal (e +ℤ pos (length (decimal n) - 1)) in
     let both = length-append front (codes "e" ++ back) in
@@ -170,19 +162,11 @@ scientific_room text n count e is room =
 pub first_fits : (e : ℤ) (count : ℕ) → FitsSigned w32 e → count ≤ 39 → FitsSigned w64 (e +ℤ pos (count - 1))
 first_fits e count fits most = omega (arith, ints, fits, most)
 
--- appending these parts one by one appends the number
-pub scientific_joined : (text first second : List ℕ) (n count : ℕ) (e place : ℤ) → count ≡ length (decimal n)
-    → place ≡ e +ℤ pos (count - 1) → first ≡ text ++ some_pointed n (count - 1) → second ≡ first ++ codes "e"
-    → second ++ signed_decimal place ≡ text ++ scientific_text n e
-scientific_joined text first second n count e place counted is one two =
-    let front : List ℕ = some_pointed n (count - 1) in
-    let back : List ℕ = codes "e" ++ signed_decimal (e +ℤ pos (count - 1)) in
-    ap (λ (z : ℤ). second ++ signed_decimal z) is
-    ∙ ap (λ (xs : List ℕ). xs ++ signed_decimal (e +ℤ pos (count - 1))) two
-    ∙ append_assoc first (codes "e") (signed_decimal (e +ℤ pos (count - 1)))
-    ∙ ap (λ (xs : List ℕ). xs ++ back) one
-    ∙ append_assoc text front back
-    ∙ ap (λ (k : ℕ). text ++ (some_pointed n (k - 1) ++ (codes "e" ++ signed_decimal (e +ℤ pos (k - 1))))) counted
+-- its parts
+pub scientific_counted : (n count : ℕ) (e : ℤ) → count ≡ length (decimal n)
+    → some_pointed n (count - 1) ++ (codes "e" ++ signed_decimal (e +ℤ pos (count - 1))) ≡ scientific_text n e
+scientific_counted n count e is =
+    ap (λ (k : ℕ). some_pointed n (k - 1) ++ (codes "e" ++ signed_decimal (e +ℤ pos (k - 1)))) is
 
 -- the bounds of the exponent of a number that is written without an exponent
 plain_parts : (n : ℕ) (e : ℤ) → is_plain n e ≡ true
@@ -208,6 +192,14 @@ plain_from n (negsuc k) false few plain is_whole =
 pub plain_length : (n : ℕ) (e : ℤ) → n < 2 ^ 128 → is_plain n e ≡ true → length (plain_text n e) ≤ 46
 plain_length n e few plain = plain_from n e (eqb (down e) 0) few plain refl
 
+-- a number that is not 0 is written in one of two ways
+pub magnitude_by : (n : ℕ) (e : ℤ) (plain : Bool) → (n ≡ 0 → ⊥) → is_plain n e ≡ plain
+    → (if plain then plain_text n e else scientific_text n e) ≡ magnitude_text n e
+magnitude_by n e plain some is =
+    sym (ap (λ (b : Bool).
+    if b then codes "0.0" else (if is_plain n e then plain_text n e else scientific_text n e)) (ne_eqb n 0 some)
+    ∙ ap (λ (b : Bool). if b then plain_text n e else scientific_text n e) is)
+
 magnitude_from : (n : ℕ) (e : ℤ) (none plain : Bool) → n < 2 ^ 128 → FitsSigned w32 e → is_plain n e ≡ plain
     → length (if none then codes "0.0" else (if plain then plain_text n e else scientific_text n e)) ≤ 58
 magnitude_from n e true plain few fits is = lit≤ tt
@@ -220,14 +212,6 @@ magnitude_length n e few fits = magnitude_from n e (eqb n 0) (is_plain n e) few 
 pub sign_length : (negative : Bool) → length (sign_text negative) ≤ 1
 sign_length true = lit≤ tt
 sign_length false = lit≤ tt
-
-pub signed_length : (negative : Bool) (n : ℕ) (e : ℤ) → n < 2 ^ 128 → FitsSigned w32 e
-    → length (sign_text negative ++ magnitude_text n e) < 64
-signed_length negative n e few fits =
-    let sign = sign_length negative in
-    let magnitude = magnitude_length n e few fits in
-    let both = length-append (sign_text negative) (magnitude_text n e) in
-    omega (arith, sign, magnitude, both)
 
 -- ---- bytes with zeros after a text
 

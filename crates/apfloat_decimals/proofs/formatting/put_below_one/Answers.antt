@@ -1,7 +1,7 @@
-use Rattle.std.proofs.Common.{◌-◌, ◌++◌, ◌∷◌, [], replicate, ℕ, ◌∙◌, arith, take}
-use Rattle.std.proofs.lemmas.List.{length-append, length-replicate}
-use Rattle.apfloat_decimals.proofs.spelled.Lines.{below_one_joined, below_one_length}
-use Rattle.apfloat_decimals.proofs.spelled.WrittenNumbers.{length_more}
+use Rattle.std.proofs.Common.{◌-◌, ℕ, arith}
+use Rattle.std.proofs.lemmas.List.{length-replicate}
+use Rattle.apfloat_decimals.proofs.spelled.Lines.{below_one_counted, below_one_length}
+use Rattle.apfloat_decimals.proofs.spelled.PutTexts.{put_same, put_then}
 use Rattle.apfloat_decimals.proofs.formatting.put_below_one.Goals as goal
 
 pub put_byte-at-requires-clause-room : goal.put_byte-at-requires-clause-room
@@ -14,32 +14,35 @@ pub put_byte-at-requires-2-clause-room : goal.put_byte-at-requires-2-clause-room
 put_byte-at-requires-2-clause-room c =
     let all = below_one_length c.args.number c.args.places (omega arith)
     (omega (arith, c.requires.count, c.requires.places)) in
-    let one = length_more (take c.args.at c.args.bytes.now) 48 in
-    rw c.put_byte-at.ensures.text (omega (arith, all, one, c.requires.room))
+    omega (arith, all, c.requires.room, c.put_byte-at.ensures.moved)
 
 pub put_zeros-at-requires-clause-room : goal.put_zeros-at-requires-clause-room
 put_zeros-at-requires-clause-room c =
     let all = below_one_length c.args.number c.args.places (omega arith)
     (omega (arith, c.requires.count, c.requires.places)) in
-    let one = length_more (take c.args.at c.args.bytes.now) 48 in
-    let two = length_more ((take c.args.at c.args.bytes.now) ++ (48 ∷ [])) 46 in
-    rw (c.put_byte-at-2.ensures.text, c.put_byte-at.ensures.text) (omega (arith, all, one, two, c.requires.room))
+    omega (arith, all, c.requires.room, c.put_byte-at.ensures.moved, c.put_byte-at-2.ensures.moved)
 
 pub put_counted-requires-clause-room : goal.put_counted-requires-clause-room
 put_counted-requires-clause-room c =
     let all = below_one_length c.args.number c.args.places (omega arith)
     (omega (arith, c.requires.count, c.requires.places)) in
-    let one = length_more (take c.args.at c.args.bytes.now) 48 in
-    let two = length_more ((take c.args.at c.args.bytes.now) ++ (48 ∷ [])) 46 in
     let zeros = length-replicate {A = ℕ} (c.args.places - c.args.count) 48 in
-    let three = length-append (((take c.args.at c.args.bytes.now) ++ (48 ∷ [])) ++ (46 ∷ []))
-    (replicate (c.args.places - c.args.count) 48) in
-    rw (c.put_zeros-at.ensures.text, c.put_byte-at-2.ensures.text, c.put_byte-at.ensures.text)
-    (omega (arith, all, one, two, three, zeros, c.requires.count, c.requires.places, c.requires.room))
+    let third = c.put_zeros-at.ensures.moved in
+    omega (
+      arith,
+      all,
+      zeros,
+      third,
+      c.requires.count,
+      c.requires.places,
+      c.requires.room,
+      c.put_byte-at.ensures.moved,
+      c.put_byte-at-2.ensures.moved,
+    )
 
-pub returns-clause-text : goal.returns-clause-text
-returns-clause-text c =
-    c.put_counted.ensures.text
-    ∙ below_one_joined c.args.number c.args.count c.args.places (take c.args.at c.args.bytes.now) _ _ _
-    (omega arith) c.requires.count
-    c.requires.places c.put_byte-at.ensures.text c.put_byte-at-2.ensures.text c.put_zeros-at.ensures.text
+pub returns : goal.returns
+returns c =
+    put_same
+    (below_one_counted c.args.number c.args.count c.args.places (omega arith) c.requires.count c.requires.places)
+    (put_then c.put_byte-at.ensures
+    (put_then c.put_byte-at-2.ensures (put_then c.put_zeros-at.ensures c.put_counted.ensures)))

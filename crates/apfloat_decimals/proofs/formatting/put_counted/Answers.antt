@@ -1,7 +1,7 @@
-use Rattle.std.proofs.Common.{◌++◌, List, ℕ, ap, ◌∙◌, arith, take}
+use Rattle.std.proofs.Common.{arith}
 use Rattle.std.proofs.lemmas.Fmt.{length-decimal-le_wide}
-use Rattle.apfloat_decimals.specs.Texts.{last_digits}
-use Rattle.apfloat_decimals.proofs.spelled.LastDigits.{all_last}
+use Rattle.apfloat_decimals.proofs.spelled.LastDigits.{all_digits}
+use Rattle.apfloat_decimals.proofs.spelled.PutTexts.{put_same}
 use Rattle.apfloat_decimals.proofs.spelled.WrittenNumbers.{below_power}
 use Rattle.apfloat_decimals.proofs.formatting.put_counted.Goals as goal
 
@@ -13,8 +13,6 @@ put_last-requires-clause-most c =
 pub put_last-requires-clause-few : goal.put_last-requires-clause-few
 put_last-requires-clause-few c = rw c.requires.count (below_power c.args.number (omega arith))
 
-pub returns-then-number-clause-text : goal.returns-then-number-clause-text
-returns-then-number-clause-text c =
-    c.put_last.ensures.text
-    ∙ ap (λ (k : ℕ). (take c.args.at c.args.bytes.now) ++ last_digits k c.args.number) c.requires.count
-    ∙ ap (λ (x : List ℕ). (take c.args.at c.args.bytes.now) ++ x) (all_last c.args.number (omega arith))
+pub returns-then-number : goal.returns-then-number
+returns-then-number c =
+    put_same (all_digits c.args.count c.args.number (omega arith) c.requires.count) c.put_last.ensures

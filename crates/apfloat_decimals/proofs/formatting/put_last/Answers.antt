@@ -1,20 +1,10 @@
-use Rattle.std.proofs.Common.{◌/◌, ◌%◌, ◌-◌, ◌++◌, List, ℕ, ap, ◌∙◌, arith, take}
-use Rattle.apfloat_decimals.specs.Texts.{last_digits}
-use Rattle.apfloat_decimals.proofs.spelled.LastDigits.{count_joined, count_room, upper_few}
+use Rattle.std.proofs.Common.{arith}
+use Rattle.apfloat_decimals.proofs.spelled.LastDigits.{digits_put, upper_few}
 use Rattle.apfloat_decimals.proofs.formatting.put_last.Goals as goal
 
 pub put_up_to_sixteen-at-requires-clause-few : goal.put_up_to_sixteen-at-requires-clause-few
-put_up_to_sixteen-at-requires-clause-few c =
-    upper_few 8 c.args.count c.args.number (omega arith) c.requires.few
+put_up_to_sixteen-at-requires-clause-few c = upper_few 8 c.args.count c.args.number (omega arith) c.requires.few
 
-pub put_eight-requires-clause-room : goal.put_eight-requires-clause-room
-put_eight-requires-clause-room c =
-    rw c.put_up_to_sixteen-at.ensures.text
-    (count_room (c.args.count - 8) 8 (c.args.number / 100000000) (take c.args.at c.args.bytes.now)
-    (omega (arith, c.requires.room)))
-
-pub returns-then-count-gt16-clause-text : goal.returns-then-count-gt16-clause-text
-returns-then-count-gt16-clause-text c =
-    c.put_eight.ensures.text ∙ ap (λ (x : List ℕ). x ++ last_digits 8 (c.args.number % 100000000))
-    c.put_up_to_sixteen-at.ensures.text
-    ∙ count_joined 8 c.args.count c.args.number (take c.args.at c.args.bytes.now) (omega arith)
+pub returns-then-count-gt16 : goal.returns-then-count-gt16
+returns-then-count-gt16 c =
+    digits_put 8 c.args.count c.args.number (omega arith) c.put_up_to_sixteen-at.ensures c.put_eight.ensures

@@ -1,15 +1,6 @@
-use Rattle.std.proofs.Common.{◌≡◌, ◌+◌, ◌%◌, ◌++◌, take, List, ℕ, ap, sym, ◌∙◌, arith}
-use Rattle.apfloat_decimals.specs.Texts.{last_digits}
-use Rattle.apfloat_decimals.proofs.spelled.LastDigits.{last_joined}
+use Rattle.apfloat_decimals.proofs.spelled.LastDigits.{stored_both}
 use Rattle.apfloat_decimals.proofs.formatting.store_four.Goals as goal
 
-pub returns-clause-taken : goal.returns-clause-taken
-returns-clause-taken c =
-    let end : c.args.at + 2 + 2 ≡ c.args.at + 4 = omega arith in
-    ap (λ (n : ℕ). take n c.store_pair-2.new.bytes) (sym end) ∙ c.store_pair-2.ensures.taken
-    ∙ ap (λ (x : List ℕ). x ++ last_digits 2 (c.args.number % 100)) c.store_pair.ensures.taken
-    ∙ last_joined 2 2 c.args.number _
-
-pub returns-clause-same : goal.returns-clause-same
-returns-clause-same c = λ i h.
-    c.store_pair-2.ensures.same i (omega (arith, h)) ∙ c.store_pair.ensures.same i (omega (arith, h))
+pub returns : goal.returns
+returns c =
+    stored_both 2 2 c.args.number c.args.at c.args.bytes.now _ _ c.store_pair.ensures c.store_pair-2.ensures

@@ -1,5 +1,6 @@
 use Rattle.std.proofs.Common.{◌≡◌, ◌+◌, ◌-◌, ◌*◌, ◌/◌, ◌%◌, ◌<◌, ◌++◌, ◌∷◌, take, drop, List, ℕ, []}
-use Rattle.std.proofs.Common.{ap, ◌∙◌, true, refl, arith}
+use Rattle.std.proofs.Common.{ap, ◌∙◌, true, refl, arith, rules}
+use Rattle.std.proofs.lemmas.Grind.{common_steps}
 use Rattle.std.proofs.lemmas.Slice.{take-put_mid}
 use Rattle.apfloat_decimals.specs.declared.formatting.TheConstants.{PAIRS}
 use Rattle.apfloat_decimals.proofs.spelled.LastDigits.{are_pairs, pair_after, pair_from}
@@ -15,13 +16,17 @@ characters n few =
     let all : 0 + n ≡ n = omega arith in
     rw all at (pair_from 0 PAIRS n table (omega (arith, few)))
 
-pub returns-clause-taken : goal.returns-clause-taken
-returns-clause-taken c =
+pub returns : goal.returns
+returns c =
     let two : 2 * c.args.number + 2 - 2 * c.args.number ≡ 2 = omega arith in
     let copied : c.copy_from_slice.new.self ≡ (48 + c.args.number / 10) ∷ (48 + c.args.number % 10) ∷ [] =
     c.copy_from_slice.ensures.after ∙ ap (λ (k : ℕ). take k (drop (2 * c.args.number) PAIRS)) two
     ∙ characters c.args.number c.requires.few in
-    take-put_mid c.args.at (c.args.at + 2 - c.args.at) c.args.bytes.now c.copy_from_slice.new.self (c.args.at + 2)
-    (rw copied (omega arith)) (omega (arith, c.requires.room))
-    ∙ ap (λ (x : List ℕ). take c.args.at c.args.bytes.now ++ x) copied
-    ∙ pair_after c.args.number (take c.args.at c.args.bytes.now) c.requires.few
+    record {
+      taken =
+          take-put_mid c.args.at (c.args.at + 2 - c.args.at) c.args.bytes.now c.copy_from_slice.new.self
+          (c.args.at + 2) (rw copied (omega arith)) (omega (arith, c.requires.room))
+          ∙ ap (λ (x : List ℕ). take c.args.at c.args.bytes.now ++ x) copied
+          ∙ pair_after c.args.number (take c.args.at c.args.bytes.now) c.requires.few;
+      same = first_of (search rules, grind (arith, common_steps));
+    }

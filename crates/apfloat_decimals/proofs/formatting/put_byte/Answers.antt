@@ -1,0 +1,10 @@
+use Rattle.std.proofs.Common.{arith, rules}
+use Rattle.std.proofs.lemmas.Grind.{common_steps}
+use Rattle.apfloat_decimals.proofs.formatting.put_byte.Goals as goal
+
+pub returns : goal.returns
+returns c = record {
+  taken = first_of (search rules, grind (arith, common_steps));
+  moved = first_of (search rules, grind (arith, common_steps));
+  zeros = first_of (search rules, grind (arith, common_steps));
+}
