@@ -54,7 +54,8 @@ ROWS = (
     ('rounding to odd', 'to_odd', 'to_odd', r'APFLOAT_TO_ODD|apfloat_\w*odd', r'to_\w*odd', r'\w*to_odd', 'add_odd'),
     ('random digits', 'RandomDigits', 'RandomDigits', r'APFLOAT_RANDOM_DIGITS|apfloat_\w*(?:random|stochastic)\w*',
      r'\w*(?:random|stochastic)\w*', r'\w*(?:random|stochastic)\w*', '--stochastic'),
-    ('what a conversion did', 'Counts', 'Counts', 'apfloat_convert_array', 'convert_array', 'report', 'report_conversion'),
+    ('what a conversion did', 'Counts', 'Counts', 'apfloat_convert_array', 'convert_array', 'report',
+     'report_conversion'),
     ("a format's constants", 'Semantics', 'Constants', 'apfloat_format_facts', 'numeric_limits', 'finfo', None),
     ('formats chosen at run time', 'BuiltInFormat', 'AnyFloat', 'APFLOAT_HALF', 'any_value', 'Format', 'half'),
 )

@@ -91,7 +91,8 @@ __version__ = '0.1.0'
 __all__ = [
     'Array', 'Blocks', 'Context', 'DOWNWARD', 'Fate', 'Flags', 'Format', 'Machine', 'Mask', 'NEAREST_AWAY',
     'NEAREST_EVEN', 'Refused', 'Report', 'Rounding', 'StorageFormat', 'StoredArray', 'TOWARD_ZERO', 'UPWARD', 'Value',
-    'bfloat', 'bfloat16', 'context', 'double', 'double_pair', 'e4m3', 'e4m3b11fnuz', 'e4m3fn', 'e4m3fnuz', 'e5m2', 'e5m2fnuz',
+    'bfloat', 'bfloat16', 'context', 'double', 'double_pair', 'e4m3', 'e4m3b11fnuz', 'e4m3fn', 'e4m3fnuz', 'e5m2',
+    'e5m2fnuz',
     'float4_e2m1fn', 'float6_e2m3fn', 'float6_e3m2fn', 'float8_e3m4', 'float8_e4m3', 'float8_e4m3b11fnuz',
     'float8_e4m3fn', 'float8_e4m3fnuz', 'float8_e5m2', 'float8_e5m2fnuz', 'float8_e8m0fnu', 'finfo', 'half',
     'machine', 'mx', 'quad', 'report', 'single', 'tf32', 'ue4m3', 'x87',

@@ -51,7 +51,8 @@ fn codes() -> Vec<u8> {
 
 type Compare = fn(Small, Small) -> StatusAnd<bool>;
 
-/// The predicates, and which relations satisfy them: less, equal, greater, unordered (tables 5.1 to 5.3 of the standard).
+/// The predicates, and which relations satisfy them: less, equal, greater, unordered (IEEE 754-2019, tables 5.1 to
+/// 5.3).
 const QUIET: [(Predicate, Compare, [bool; 4]); 12] = [
     (Predicate::Equal, comparisons::compare_quiet_equal, [false, true, false, false]),
     (Predicate::NotEqual, comparisons::compare_quiet_not_equal, [true, false, true, true]),
