@@ -3,7 +3,7 @@ use Rattle.std.proofs.Common.{◌≡◌, ℕ, zero, suc, ◌+◌, ◌-◌, ◌*�
 use Rattle.std.proofs.Common.{true, false, cond, not}
 use Rattle.std.proofs.Common.{◌&&◌, eqb, leb, ltb, sym, refl, ap, ◌∙◌, ⊎_elim, arith}
 use Rattle.std.specs.Bool.{MatchBool}
-use Rattle.std.proofs.Math.Nat.{mul-le-mul_right, mod-eq_of_lt}
+use Rattle.std.proofs.Math.Nat.{mod-eq_of_lt}
 use Rattle.std.proofs.lemmas.Bool.{cases_eq, cases_lt, eq-eqb, eqb-true, false≢true, ltb-true, ne_eqb}
 use Rattle.std.proofs.lemmas.Bool.{MatchBool-at_false}
 use Rattle.std.proofs.lemmas.Nat.{mod_below, pow_pos}
@@ -16,8 +16,8 @@ use Rattle.apfloat_model.proofs.general.Powers.{twice_half}
 use Rattle.small_formats.specs.declared.ConversionRound.{ConversionRound}
 use Rattle.small_formats.specs.declared.ConversionRound.TheVariants.{Ieee}
 use Rattle.small_formats.specs.Codes.{point}
-use Rattle.small_formats.specs.Modes.{IsPickBy, ieee_mode}
-use Rattle.small_formats.specs.PicksBy.{IsCodePickBy, IsPointPickBy, index_by}
+use Rattle.small_formats.specs.Modes.{IsPickBy, ieee_mode, takes_next}
+use Rattle.small_formats.specs.PicksBy.{IsCodePickBy, IsPointPickBy}
 use Rattle.p3109_formats.specs.Laws.{AreCodePicksPicks, IsProjectedOnce}
 use Rattle.p3109_formats.specs.ModeLaws.{AreProjectionsOfModes, IsProjectedByOnce}
 use Rattle.p3109_formats.specs.ModeConversions.{IsIntoProjectionBy, IsProjectedNumberBy}
@@ -26,6 +26,7 @@ use Rattle.p3109_formats.specs.Projections.{IsProjection, Projection, is_negativ
 use Rattle.p3109_formats.specs.Projections.{nan_code, projected_datum, projected_format, projected_status}
 use Rattle.p3109_formats.specs.Projections.{projected_value, sign_bits, unsigned_codes}
 use Rattle.small_formats.proofs.CodePicks.{code_picks_by}
+use Rattle.small_formats.proofs.IndexPicks.{index_pick_once}
 use Rattle.small_formats.proofs.ModesOnce.{pick_by_once}
 use Rattle.small_formats.proofs.OneAnswer.{AreSame, code_is}
 use Rattle.small_formats.proofs.Points.{one_number, points_in_order}
@@ -33,35 +34,6 @@ use Rattle.p3109_formats.proofs.Codes.{four_codes}
 use Rattle.small_formats.proofs.RandomCounts.{picks_of_model}
 
 -- ---- picks
-
--- two points with the number between them and the next ones are one
-low_once : (p amount parts a b : ℕ) → 0 < p → point p a * parts ≤ amount → amount < point p (a + 1) * parts
-    → point p b * parts ≤ amount → amount < point p (b + 1) * parts → a ≡ b
-low_once p amount parts a b some from to from' to' =
-    ⊎_elim
-    (λ (l : a < b). absurd (crossed a b l to from'))
-    (λ (l : b ≤ a).
-    ⊎_elim (λ (k : b < a). absurd (crossed b a k to' from)) (λ (k : a ≤ b). omega (arith, l, k)) (cases_lt b a))
-    (cases_lt a b)
-  where
-    crossed : (i j : ℕ) → i < j → amount < point p (i + 1) * parts → point p j * parts ≤ amount → ⊥
-    crossed i j l above below =
-        ⊎_elim
-        (λ (k : i + 1 < j).
-        let more = points_in_order p (i + 1) j some k in
-        let times : point p (i + 1) * parts ≤ point p j * parts = mul-le-mul_right parts (omega (arith, more)) in
-        omega (arith, times, above, below))
-        (λ (k : j ≤ i + 1).
-        let same : j ≡ i + 1 = omega (arith, l, k) in
-        let at : point p j * parts ≡ point p (i + 1) * parts = ap (λ (n : ℕ). point p n * parts) same in
-        omega (arith, at, above, below))
-        (cases_lt (i + 1) j)
-
-code_pick_once : (p : ℕ) (mode : ConversionRound) (negative : Bool) (amount parts i j : ℕ) → 0 < p
-    → IsCodePickBy p mode negative amount parts i → IsCodePickBy p mode negative amount parts j → i ≡ j
-code_pick_once p mode negative amount parts i j some x y =
-    let same = low_once p amount parts x.low y.low some x.from x.to y.from y.to in
-    x.is ∙ ap (λ (n : ℕ). index_by p mode negative amount parts n) same ∙ sym y.is
 
 pub point_pick_once : (p : ℕ) (mode : ConversionRound) (negative : Bool) (amount parts i j : ℕ) → 0 < p
     → IsPointPickBy p mode negative amount parts i → IsPointPickBy p mode negative amount parts j → i ≡ j
@@ -73,7 +45,9 @@ point_pick_once p mode negative amount parts i j some = by_digits (eqb p 1)
         → MatchBool one (IsCodePickBy p mode negative amount parts j)
         (IsPickBy p mode negative amount parts (point p j))
         → i ≡ j
-    by_digits true x y = code_pick_once p mode negative amount parts i j some x y
+    by_digits true x y =
+        index_pick_once (takes_next mode negative) (point p) amount parts i j (λ a b less. points_in_order p a b some less)
+        x y
     by_digits false x y =
         one_number p i j some (pick_by_once p mode negative amount parts (point p i) (point p j) x y)
 
@@ -272,7 +246,7 @@ point_pick_of p mode negative amount parts index = by_digits (eqb p 1)
         (IsPickBy p (Ieee mode) negative amount parts (point p index))
         → MatchBool one (IsCodePick p mode negative amount parts index)
         (IsPick p mode negative amount parts (point p index))
-    by_digits true x = record { low = x.low; from = x.from; to = x.to; is = x.is }
+    by_digits true x = x
     by_digits false x = picks_of_model p mode negative amount parts (point p index) x
 
 point_pick_by : (p : ℕ) (mode : Round) (negative : Bool) (amount parts index : ℕ)
@@ -284,15 +258,14 @@ point_pick_by p mode negative amount parts index = by_digits (eqb p 1)
         (IsPick p mode negative amount parts (point p index))
         → MatchBool one (IsCodePickBy p (Ieee mode) negative amount parts index)
         (IsPickBy p (Ieee mode) negative amount parts (point p index))
-    by_digits true x = record { low = x.low; from = x.from; to = x.to; is = x.is }
+    by_digits true x = x
     by_digits false x =
         record { below = x.below; above = x.above; is_below = x.is_below; is_above = x.is_above; is = x.is }
 
 pub code_picks : AreCodePicksPicks
 code_picks p mode negative amount parts index two some x =
     picks_of_model p mode negative amount parts (point p index)
-    (code_picks_by p (Ieee mode) negative amount parts index two some
-    (record { low = x.low; from = x.from; to = x.to; is = x.is }))
+    (code_picks_by p (Ieee mode) negative amount parts index two some x)
 
 -- only a number is rounded
 by_number : (none without : Bool) (A B C D : Type 0) → (C → D)

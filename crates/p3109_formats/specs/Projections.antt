@@ -1,6 +1,6 @@
 -- The formats of IEEE P3109: a width, a precision, with or without a sign, with or without infinities. They have one
 -- zero and one NaN.
-use Rattle.std.specs.Prelude.{◌≡◌, ℕ, ◌+◌, ◌-◌, ◌*◌, ◌%◌, ◌^◌, ◌<◌, ◌≤◌, Bool}
+use Rattle.std.specs.Prelude.{◌≡◌, ℕ, ◌+◌, ◌-◌, ◌*◌, ◌%◌, ◌^◌, ◌≤◌, Bool}
 use Rattle.std.specs.Prelude.{true, false, not, ◌&&◌, eqb, ltb, leb, if◌then◌else◌}
 use Rattle.std.specs.Bool.{MatchBool}
 use Rattle.apfloat_model.specs.declared.kinds.NonfiniteBehavior.TheVariants.{NanNegativeZero}
@@ -11,6 +11,7 @@ use Rattle.apfloat_model.specs.formats.Nan.{invalid_bit, invalid_if, is_signalin
 use Rattle.apfloat_model.specs.rounding.Rounding.{IsPick, inexact_bit, leads_out, ok_bits, overflow_bit, signed_quanta}
 use Rattle.apfloat_model.specs.rounding.Rounding.{takes_above, underflow_bit}
 use Rattle.small_formats.specs.Codes.{point}
+use Rattle.small_formats.specs.IndexPicks.{IsIndexPick}
 
 -- named as in the types of these formats
 pub record Projection : Type 0 where
@@ -83,19 +84,10 @@ projected_format c =
 
 -- ---- one rounding
 
--- Between the points with the indices `low` and `low + 1`, of which the mode takes one. A tie to even goes to the even
--- index.
-abbrev pub index_between : ℕ → Round → Bool → ℕ → ℕ → ℕ → ℕ
-index_between precision mode negative amount parts low =
-    if eqb (point precision low * parts) amount then low
-    else (if takes_above mode negative (amount - point precision low * parts)
-    (point precision (low + 1) * parts - amount) (eqb (low % 2) 1) then low + 1 else low)
-
-pub record IsCodePick (precision : ℕ) (mode : Round) (negative : Bool) (amount parts index : ℕ) : Type 0 where
-  pub low : ℕ
-  pub from : point precision low * parts ≤ amount
-  pub to : amount < point precision (low + 1) * parts
-  pub is : index ≡ index_between precision mode negative amount parts low
+-- the index of one of the two points around a magnitude; a tie to even goes to the even index
+abbrev pub IsCodePick : ℕ → Round → Bool → ℕ → ℕ → ℕ → Type 0
+IsCodePick precision mode negative amount parts index =
+    IsIndexPick (takes_above mode negative) (point precision) amount parts index
 
 -- The index of the point that is picked. A significand of one digit is always odd, so there the codes decide a tie.
 abbrev pub IsPointPick : ℕ → Round → Bool → ℕ → ℕ → ℕ → Type 0

@@ -2,6 +2,7 @@ pub mod Points
 pub mod StoredPicks
 mod StoredNumbers
 mod ScalePicks
+pub mod IndexPicks
 pub mod ScaleModes
 pub mod OneAnswer
 pub mod CodesCompared

@@ -11,10 +11,11 @@ use Rattle.apfloat_model.proofs.rounding.Neighbours.{below_is, above_is_same, ab
 use Rattle.apfloat_model.proofs.rounding.Picks.{odd_is}
 use Rattle.small_formats.specs.declared.modes.ConversionRound.{ConversionRound}
 use Rattle.small_formats.specs.Codes.{point}
+use Rattle.small_formats.specs.IndexPicks.{index_between}
 use Rattle.small_formats.specs.ModeConversions.{IsSaturatedBy}
 use Rattle.small_formats.specs.Modes.{IsPickBy, ieee_mode, takes_next}
 use Rattle.small_formats.specs.Picks.{IsPointDelivered}
-use Rattle.small_formats.specs.PicksBy.{IsPointAt, index_by, moves}
+use Rattle.small_formats.specs.PicksBy.{IsPointAt, moves}
 use Rattle.small_formats.specs.Storage.{StorageConstants, IsLawfulStorage}
 use Rattle.small_formats.proofs.MovesScaled.{moves_alike}
 
@@ -147,7 +148,7 @@ pub index_is : (p : ℕ) (mode : ConversionRound) (negative : Bool) (amount part
     → point p low * parts ≤ amount
     → moved
     ≡ moves mode negative (amount - point p low * parts) (point p (low + 1) * parts - amount) (eqb (low % 2) 1)
-    → cond moved (low + 1) low ≡ index_by p mode negative amount parts low
+    → cond moved (low + 1) low ≡ index_between (takes_next mode negative) (point p) amount parts low
 index_is p mode negative amount parts low moved from e =
     code_between mode negative amount (point p low * parts) (point p (low + 1) * parts) low moved from e
 

@@ -14,9 +14,10 @@ use Rattle.apfloat_model.proofs.general.Powers.{two_pos}
 use Rattle.apfloat_model.proofs.rounding.KeptDigits.{kept_stands}
 use Rattle.apfloat_model.proofs.rounding.Losses.{stands_from, stands_past, stands_to}
 use Rattle.small_formats.specs.declared.modes.ConversionRound.{ConversionRound}
-use Rattle.small_formats.specs.Modes.{ieee_mode}
+use Rattle.small_formats.specs.IndexPicks.{IsIndexPick}
+use Rattle.small_formats.specs.Modes.{ieee_mode, takes_next}
 use Rattle.small_formats.specs.PicksBy.{moves}
-use Rattle.small_formats.specs.ScaleModes.{IsDeliveredScaleBy, IsPickedCodeBy}
+use Rattle.small_formats.specs.ScaleModes.{IsDeliveredScaleBy}
 use Rattle.small_formats.proofs.ModePicks.{code_between, moves_kept, stays}
 
 -- ---- below the least scale
@@ -75,6 +76,10 @@ code_moves mode digits amount parts low odd z some at least most h =
 choice : (moved test : Bool) (low : ℕ) → moved ≡ test → cond moved (low + 1) low ≡ cond test (low + 1) low
 choice moved test low e = ap (λ (b : Bool). cond b (low + 1) low) e
 
+-- the code of one of the two scales around a number
+abbrev pub IsPickedCode : ConversionRound → ℕ → ℕ → ℕ → Type 0
+IsPickedCode mode amount parts code = IsIndexPick (takes_next mode false) (λ low. 2 ^ low) amount parts code
+
 -- the mode moves a number from the scale below it, or not
 abbrev pub MovesCode : ConversionRound → ℕ → ℕ → ℕ → Bool → Type 0
 MovesCode mode amount parts low moved =
@@ -82,7 +87,7 @@ MovesCode mode amount parts low moved =
 
 pub picked_code_is : (mode : ConversionRound) (amount parts low picked : ℕ) (loss : Loss) (moved : Bool) → 0 < parts
     → StandsFor 1 loss amount (2 ^ low * parts) → MovesCode mode amount parts low moved
-    → picked ≡ cond moved (low + 1) low → IsPickedCodeBy mode amount parts picked
+    → picked ≡ cond moved (low + 1) low → IsPickedCode mode amount parts picked
 picked_code_is mode amount parts low picked loss moved some h is at =
     let u : 0 < 2 ^ low * parts = mul-pos (pow_pos low) some in
     let from = stands_from 1 loss amount (2 ^ low * parts) h in
@@ -134,7 +139,7 @@ least_delivered mode amount parts code status l at flags =
     record { picked = 0; is_picked = inl (l, refl); code_is = at; status_is = rw (off, less) flags }
 
 pub scale_past : (mode : ConversionRound) (amount parts picked code status : ℕ)
-    → IsPickedCodeBy mode amount parts picked → 254 < picked
+    → IsPickedCode mode amount parts picked → 254 < picked
     → code ≡ cond (leads_out (ieee_mode mode) false) 255 254
     → status ≡ cond (leads_out (ieee_mode mode) false) 20 16
     → IsDeliveredScaleBy mode amount parts code status
@@ -143,7 +148,7 @@ scale_past mode amount parts picked code status x l at flags =
     record { picked = picked; is_picked = inr x; code_is = rw past at; status_is = rw past flags }
 
 pub scale_within : (mode : ConversionRound) (amount parts picked code status : ℕ) (exact : Bool)
-    → IsPickedCodeBy mode amount parts picked → eqb (2 ^ picked * parts) amount ≡ exact → picked ≤ 254
+    → IsPickedCode mode amount parts picked → eqb (2 ^ picked * parts) amount ≡ exact → picked ≤ 254
     → code ≡ picked
     → status ≡ cond exact 0 16 → IsDeliveredScaleBy mode amount parts code status
 scale_within mode amount parts picked code status exact x same l at flags =

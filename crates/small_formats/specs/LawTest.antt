@@ -1,5 +1,5 @@
 -- The law of a storage format as a test that can be computed: a format with literal constants proves its law by `refl`.
-use Rattle.std.specs.Prelude.{◌≡◌, ℤ, pos, ◌≤ℤ◌, neg_ℤ, Bool, true, ◌&&◌, leb, ltb}
+use Rattle.std.specs.Prelude.{◌≡◌, pos, neg_ℤ, Bool, true, ◌&&◌, leb, ltb}
 use Rattle.std.proofs.Common.{subst, sym, T}
 use Rattle.std.proofs.lemmas.Bool.{and_parts, leb-true, ltb-true}
 use lib.Signed.{le_z, le_z_yes}
@@ -14,9 +14,6 @@ lawful_test c =
     && (le_z (neg_ℤ (pos format_bound)) c.min_exp
     && le_z c.min_exp (pos 0))))
 
-at_most : (a b : ℤ) → le_z a b ≡ true → a ≤ℤ b
-at_most a b e = le_z_yes (subst T (sym e) tt)
-
 -- constants that pass the test are lawful
 pub lawful_from_test : (c : StorageConstants) → lawful_test c ≡ true → IsLawfulStorage c
 lawful_from_test c e =
@@ -28,6 +25,6 @@ lawful_from_test c e =
       precision_low = leb-true _ _ a.0;
       exponent = ltb-true _ _ b.0;
       bits_high = leb-true _ _ d.0;
-      min_exp_low = at_most _ _ f.0;
-      min_exp_high = at_most _ _ f.1;
+      min_exp_low = le_z_yes (subst T (sym f.0) tt);
+      min_exp_high = le_z_yes (subst T (sym f.1) tt);
     }

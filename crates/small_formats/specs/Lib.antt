@@ -1,6 +1,7 @@
 pub mod Storage
 pub mod Codes
 pub mod Conversions
+pub mod IndexPicks
 pub mod Scales
 pub mod ScaleModes
 pub mod Types

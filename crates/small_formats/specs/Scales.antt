@@ -1,5 +1,5 @@
 -- Scales: the powers of two from 2 ^ -127 to 2 ^ 127, and a NaN, in 8 bits. There is no sign and no zero.
-use Rattle.std.specs.Prelude.{◌≡◌, ◌⊎◌, ℕ, ◌+◌, ◌-◌, ◌*◌, ◌%◌, ◌^◌, ◌<◌, ◌≤◌, Bool, true, false, not, eqb}
+use Rattle.std.specs.Prelude.{◌≡◌, ◌⊎◌, ℕ, ◌+◌, ◌*◌, ◌^◌, ◌<◌, Bool, true, false, not, eqb}
 use Rattle.std.specs.Prelude.{ltb, if◌then◌else◌}
 use Rattle.std.specs.Bool.{MatchBool}
 use Rattle.apfloat_model.specs.declared.kinds.NonfiniteBehavior.TheVariants.{NanOnly}
@@ -9,6 +9,7 @@ use Rattle.apfloat_model.specs.formats.Datum.{Datum, finite, infinite, nan}
 use Rattle.apfloat_model.specs.formats.Nan.{invalid_bit, invalid_if, is_signaling}
 use Rattle.apfloat_model.specs.rounding.Rounding.{takes_above, leads_out, ok_bits, overflow_bit}
 use Rattle.apfloat_model.specs.rounding.Rounding.{underflow_bit, inexact_bit}
+use Rattle.small_formats.specs.IndexPicks.{IsIndexPick}
 
 -- the quantum is the least scale
 abbrev pub scale_format : Format
@@ -34,22 +35,10 @@ scale_of code = if eqb code nan_code then nan false 0 else finite false (2 ^ cod
 
 -- ---- numbers: the scale whose code is even is the one that ties go to, where they go to even
 
--- Between the scales of the code `low` and of the next one; the mode takes one of the two.
-abbrev pub picked_code : Round → ℕ → ℕ → ℕ → ℕ
-picked_code mode amount parts low =
-    if eqb (2 ^ low * parts) amount then low
-    else (if takes_above mode false (amount - 2 ^ low * parts) (2 ^ (low + 1) * parts - amount) (eqb (low % 2) 1)
-    then low + 1 else low)
-
-pub record IsPickedCode (mode : Round) (amount parts code : ℕ) : Type 0 where
-  pub low : ℕ
-  pub from : 2 ^ low * parts ≤ amount
-  pub to : amount < 2 ^ (low + 1) * parts
-  pub is : code ≡ picked_code mode amount parts low
-
--- below the least scale there is nothing: that scale is the result
-abbrev pub IsPickedScale : Round → ℕ → ℕ → ℕ → Type 0
-IsPickedScale mode amount parts code = ((amount < parts) × (code ≡ 0)) ⊎ IsPickedCode mode amount parts code
+-- Between two scales one of the two is taken. Below the least scale there is nothing: that scale is the result.
+abbrev pub IsPickedScale : (ℕ → ℕ → Bool → Bool) → ℕ → ℕ → ℕ → Type 0
+IsPickedScale takes amount parts code =
+    ((amount < parts) × (code ≡ 0)) ⊎ IsIndexPick takes (λ low. 2 ^ low) amount parts code
 
 abbrev pub delivered_code : Round → ℕ → ℕ
 delivered_code mode picked =
@@ -62,15 +51,18 @@ scale_status mode amount parts picked =
     else (if eqb (2 ^ picked * parts) amount then ok_bits
     else (if ltb amount parts then underflow_bit + inexact_bit else inexact_bit))
 
--- the positive magnitude amount / parts quanta, rounded once
-pub record IsDeliveredScale (mode : Round) (amount parts code status : ℕ) : Type 0 where
+-- The positive magnitude amount / parts quanta, rounded once: `takes` decides between two scales, and the mode what is
+-- delivered past the largest one.
+pub record IsDeliveredScale (mode : Round) (takes : ℕ → ℕ → Bool → Bool) (amount parts code status : ℕ)
+    : Type 0 where
   pub picked : ℕ
-  pub is_picked : IsPickedScale mode amount parts picked
+  pub is_picked : IsPickedScale takes amount parts picked
   pub code_is : code ≡ delivered_code mode picked
   pub status_is : status ≡ scale_status mode amount parts picked
 
-pub record IsScaleOf (f : Format) (mode : Round) (quanta code status : ℕ) (loses_info : Bool) : Type 0 where
-  pub is_rounded : IsDeliveredScale mode (quanta * 2 ^ scale_format.scale) (2 ^ f.scale) code status
+pub record IsScaleOf (f : Format) (mode : Round) (takes : ℕ → ℕ → Bool → Bool) (quanta code status : ℕ)
+    (loses_info : Bool) : Type 0 where
+  pub is_rounded : IsDeliveredScale mode takes (quanta * 2 ^ scale_format.scale) (2 ^ f.scale) code status
   pub loses_is : loses_info ≡ not (eqb status ok_bits)
 
 -- ---- any value
@@ -82,12 +74,15 @@ pub record IsCode (given flags : ℕ) (loses : Bool) (code status : ℕ) (loses_
 
 -- A value of the format f becomes this code. A zero becomes the least scale, and infinity the NaN; what is below zero
 -- has no scale, and becomes the NaN, which is invalid. A NaN loses its payload.
-abbrev pub IsScale : Format → Round → Datum → ℕ → ℕ → Bool → Type 0
-IsScale f mode (nan b s) code status loses_info =
+abbrev pub IsScaleIn : Format → Round → (ℕ → ℕ → Bool → Bool) → Datum → ℕ → ℕ → Bool → Type 0
+IsScaleIn f mode takes (nan b s) code status loses_info =
     IsCode nan_code (invalid_if (is_signaling f s)) (not (eqb (payload_mask f) 0)) code status loses_info
-IsScale f mode (infinite b) code status loses_info =
+IsScaleIn f mode takes (infinite b) code status loses_info =
     IsCode nan_code (if b then invalid_bit else inexact_bit) true code status loses_info
-IsScale f mode (finite b n) code status loses_info =
+IsScaleIn f mode takes (finite b n) code status loses_info =
     MatchBool (eqb n 0) (IsCode 0 (underflow_bit + inexact_bit) true code status loses_info)
     (MatchBool b (IsCode nan_code invalid_bit true code status loses_info)
-    (IsScaleOf f mode n code status loses_info))
+    (IsScaleOf f mode takes n code status loses_info))
+
+abbrev pub IsScale : Format → Round → Datum → ℕ → ℕ → Bool → Type 0
+IsScale f mode x code status loses_info = IsScaleIn f mode (takes_above mode false) x code status loses_info

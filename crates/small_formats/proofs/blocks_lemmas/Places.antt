@@ -63,25 +63,6 @@ at_most_all flag (status ∷ flags) =
     one_more true rest = omega (arith, rest)
     one_more false rest = omega (arith, rest)
 
--- counts of fewer elements than a machine word can count
-pub room_for : (flags : List ℕ) (counts : Counts) → counts ≡ counts_of flags → length flags < 2 ^ 64 - 1
-    → BlockCountsHaveRoom counts
-room_for flags counts e l =
-    let a : counts.invalid ≡ count_raised 1 flags = ap (λ (k : Counts). k.invalid) e in
-    let b : counts.overflow ≡ count_raised 4 flags = ap (λ (k : Counts). k.overflow) e in
-    let d : counts.underflow ≡ count_raised 8 flags = ap (λ (k : Counts). k.underflow) e in
-    let f : counts.inexact ≡ count_raised 16 flags = ap (λ (k : Counts). k.inexact) e in
-    let p = at_most_all 1 flags in
-    let q = at_most_all 4 flags in
-    let r = at_most_all 8 flags in
-    let t = at_most_all 16 flags in
-    record {
-      invalid = omega (arith, a, p, l);
-      overflow = omega (arith, b, q, l);
-      underflow = omega (arith, d, r, l);
-      inexact = omega (arith, f, t, l);
-    }
-
 -- ---- the elements before a place
 
 pub record AreWritten {A B : Type 0} (Holds : A → B → ℕ → Type 0) (count : ℕ) (read : List A)
@@ -92,6 +73,27 @@ pub record AreWritten {A B : Type 0} (Holds : A → B → ℕ → Type 0) (count
       → slice_get written place ≡ Some y → slice_get flags place ≡ Some status → Holds x y status
   pub counted : counts ≡ counts_of flags
 
+-- counts of fewer elements than a machine word can count
+pub room_for : {A B : Type 0} {Holds : A → B → ℕ → Type 0} {count : ℕ} {read : List A} {written : List B}
+    {counts : Counts} → AreWritten Holds count read written counts → count < 2 ^ 64 - 1 → BlockCountsHaveRoom counts
+room_for {counts = counts} so_far l =
+    let flags = so_far.flags in
+    let size = so_far.flags_size in
+    let a : counts.invalid ≡ count_raised 1 flags = ap (λ (k : Counts). k.invalid) so_far.counted in
+    let b : counts.overflow ≡ count_raised 4 flags = ap (λ (k : Counts). k.overflow) so_far.counted in
+    let d : counts.underflow ≡ count_raised 8 flags = ap (λ (k : Counts). k.underflow) so_far.counted in
+    let f : counts.inexact ≡ count_raised 16 flags = ap (λ (k : Counts). k.inexact) so_far.counted in
+    let p = at_most_all 1 flags in
+    let q = at_most_all 4 flags in
+    let r = at_most_all 8 flags in
+    let t = at_most_all 16 flags in
+    record {
+      invalid = omega (arith, a, p, size, l);
+      overflow = omega (arith, b, q, size, l);
+      underflow = omega (arith, d, r, size, l);
+      inexact = omega (arith, f, t, size, l);
+    }
+
 pub none_written : {A B : Type 0} → (Holds : A → B → ℕ → Type 0) (read : List A) (written : List B)
     → AreWritten Holds 0 read written (counts_of [])
 none_written Holds read written = record {
@@ -101,12 +103,11 @@ none_written Holds read written = record {
   counted = refl;
 }
 
-pub one_written : {A B : Type 0} → (Holds : A → B → ℕ → Type 0) (count : ℕ) (read : List A)
-    (written : List B) (counts more : Counts) (x : A) (y : B) (status : ℕ) → count < length written
-    → slice_get read count ≡ Some x
-    → Holds x y status → more ≡ with_status counts status → AreWritten Holds count read written counts
+pub one_written : {A B : Type 0} {Holds : A → B → ℕ → Type 0} {count : ℕ} {read : List A} {written : List B}
+    {counts more : Counts} → AreWritten Holds count read written counts → (x : A) (y : B) (status : ℕ)
+    → count < length written → slice_get read count ≡ Some x → Holds x y status → more ≡ with_status counts status
     → AreWritten Holds (count + 1) read (slice_set written count y) more
-one_written {A} {B} Holds count read written counts more x y status l at here counted so_far = record {
+one_written {A} {B} {Holds} {count} {read} {written} so_far x y status l at here counted = record {
   flags = so_far.flags ++ status ∷ [];
   flags_size = length_push so_far.flags status ∙ ap (λ n. n + 1) so_far.flags_size;
   counted = counted ∙ ap (λ (k : Counts). with_status k status) so_far.counted ∙ counts_more so_far.flags status;
@@ -131,17 +132,17 @@ one_written {A} {B} Holds count read written counts more x y status l at here co
       (cases_lt place count);
 }
 
-pub all_written : {A B : Type 0} → (Holds : A → B → ℕ → Type 0) (read : List A) (written : List B)
-    (counts : Counts)
-    → length written ≡ length read → AreWritten Holds (length read) read written counts
-    → AreCounted Holds read written counts
-all_written Holds read written counts size all = record {
+pub all_written : {A B : Type 0} {Holds : A → B → ℕ → Type 0} {count : ℕ} {read : List A} {written : List B}
+    {counts : Counts} → AreWritten Holds count read written counts → count ≡ length read
+    → length written ≡ length read → AreCounted Holds read written counts
+all_written {read = read} all last size = record {
   flags = all.flags;
   in_places = record {
     same_size = size;
-    flags_size = all.flags_size;
+    flags_size = all.flags_size ∙ last;
     each = λ place x y status read_at written_at flag_at.
-        all.each place x y status (slice_get_within read place x read_at) read_at written_at flag_at;
+        all.each place x y status (omega (arith, last, slice_get_within read place x read_at)) read_at written_at
+        flag_at;
   };
   counted = all.counted;
 }

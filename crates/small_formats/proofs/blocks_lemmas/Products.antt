@@ -13,13 +13,12 @@ use Rattle.apfloat_model.specs.formats.Datum.{finite}
 use Rattle.apfloat_model.specs.formats.Formats.{half_constants}
 use Rattle.apfloat_model.specs.formats.Lawful.{format_with as library_format}
 use Rattle.apfloat_model.specs.order.Classes.{is_negative, quanta_of}
+use Rattle.apfloat_model.specs.order.Positive.{IsPositive}
 use Rattle.apfloat_model.proofs.general.Powers.{both_above_zero}
 use Rattle.apfloat_arithmetic.specs.other_formats.Extended.{seen}
 use Rattle.apfloat_arithmetic.specs.other_formats.FormatOf.{IsProductTo}
 use Rattle.small_formats.specs.Codes.{datum_of, is_negative_code, magnitude_of, point}
 use Rattle.small_formats.specs.Storage.{StorageConstants, format_with as stored_format}
-use Rattle.small_formats.specs.declared.blocks.elements.ElementFormat.{ElementFormat}
-use Rattle.small_formats.specs.blocks.Elements.{element_datum, format_of_element}
 use Rattle.small_formats.proofs.blocks_lemmas.SameFractions.{delivered_across}
 
 -- amount * 2 ^ -places is n * 2 ^ -t
@@ -44,7 +43,7 @@ tests_same : (n n' : ℕ) → 0 < n → 0 < n' → eqb n 0 ≡ eqb n' 0
 tests_same n n' p q = ne_eqb n 0 (λ e. omega (arith, e, p)) ∙ sym (ne_eqb n' 0 (λ e. omega (arith, e, q)))
 
 -- a product with a positive number is that with the same number in another format
-pub product_by : (g : Format) (mode : Round) (x : Extended) (n t n' t' : ℕ) (value : Datum) (status : ℕ)
+product_by : (g : Format) (mode : Round) (x : Extended) (n t n' t' : ℕ) (value : Datum) (status : ℕ)
     → 0 < g.precision → 0 < n → 0 < n' → IsSameNumber n' t' n t
     → IsProductOf g mode x (number false n t) value status → IsProductOf g mode x (number false n' t') value status
 product_by g mode (not_number s d) n t n' t' value status some p q e h = h
@@ -57,7 +56,7 @@ product_by g mode (number b m s) n t n' t' value status some p q e h =
     (products_same m s m s n t n' t' g.scale refl e) h
 
 -- a product of a number is that of the same number in another format
-pub product_of_number : (g : Format) (mode : Round) (b : Bool) (m s m' s' n t : ℕ) (value : Datum) (status : ℕ)
+product_of_number : (g : Format) (mode : Round) (b : Bool) (m s m' s' n t : ℕ) (value : Datum) (status : ℕ)
     → 0 < g.precision → IsSameNumber m' s' m s → IsProductOf g mode (number b m s) (number false n t) value status
     → IsProductOf g mode (number b m' s') (number false n t) value status
 product_of_number g mode b m s m' s' n t value status some e h =
@@ -68,42 +67,25 @@ product_of_number g mode b m s m' s' n t value status some e h =
 -- ---- elements
 
 -- the product of a value and a positive y is its product with amount * 2 ^ -places, if that is the number of y
-pub product_in : (f h g : Format) (mode : Round) (x y value : Datum) (status amount places : ℕ) → 0 < g.precision
-    → y ≡ finite false (quanta_of y) → 0 < quanta_of y → IsProductTo f h g mode x y value status
+pub product_in : (f h g : Format) (mode : Round) (x datum y value : Datum) (status : ℕ) → 0 < g.precision
+    → IsPositive h y → x ≡ datum → IsProductTo f h g mode x y value status → (amount places : ℕ)
     → IsSameNumber amount places (quanta_of y) h.scale
-    → IsProductOf g mode (seen f g x) (number false amount places) value status
-product_in f h g mode x y value status amount places precise is some p same =
-    product_by g mode (seen f g x) (quanta_of y) h.scale amount places value status precise some
-    (both_above_zero (quanta_of y) amount h.scale places same some) same
-    (subst (λ (d : Datum). IsProductTo f h g mode x d value status) is p)
+    → IsProductOf g mode (seen f g datum) (number false amount places) value status
+product_in f h g mode x datum y value status precise positive is p amount places same =
+    product_by g mode (seen f g datum) (quanta_of y) h.scale amount places value status precise positive.some
+    (both_above_zero (quanta_of y) amount h.scale places same positive.some) same
+    (rw (sym is) (subst (λ (d : Datum). IsProductTo f h g mode x d value status) positive.is p))
 
 -- the product of a half is that of the code of a storage format with the same number
 pub product_of_half : (c : StorageConstants) (h g : Format) (mode : Round) (code : ℕ) (half y value : Datum)
-    (status amount places : ℕ) → 0 < g.precision
-    → half ≡ finite (is_negative (datum_of c code)) (quanta_of half)
-    → quanta_of half * 2 ^ (stored_format c).scale ≡ quanta_of (datum_of c code) * 2 ^ 24
-    → y ≡ finite false (quanta_of y) → 0 < quanta_of y
-    → IsProductTo (library_format half_constants) h g mode half y value status
+    (status : ℕ) → 0 < g.precision → IsPositive h y
+    → (half ≡ finite (is_negative (datum_of c code)) (quanta_of half))
+    × (quanta_of half * 2 ^ (stored_format c).scale ≡ quanta_of (datum_of c code) * 2 ^ 24)
+    → IsProductTo (library_format half_constants) h g mode half y value status → (amount places : ℕ)
     → IsSameNumber amount places (quanta_of y) h.scale
     → IsProductOf g mode (seen (stored_format c) g (datum_of c code)) (number false amount places) value status
-product_of_half c h g mode code half y value status amount places precise half_is moved is some p same =
+product_of_half c h g mode code half y value status precise positive of p amount places same =
     product_of_number g mode (is_negative_code c code) (quanta_of half) 24 (point c.precision (magnitude_of c code))
-    (stored_format c).scale amount places value status precise (sym moved)
-    (subst (λ (x : Datum). IsProductOf g mode (seen (library_format half_constants) g x) (number false amount places)
-    value status) half_is
-    (product_in (library_format half_constants) h g mode half y value status amount places precise is some p same))
-
--- what holds of the known format holds of the element's
-pub product_case : (known element : ElementFormat) (g : Format) (mode : Round) (code n t : ℕ) (value : Datum)
-    (status : ℕ) → element ≡ known
-    → ((amount places : ℕ) → amount * 2 ^ t ≡ n * 2 ^ places
-    → IsProductOf g mode (seen (format_of_element known) g (element_datum known code)) (number false amount places)
-    value status)
-    → (amount places : ℕ) → amount * 2 ^ t ≡ n * 2 ^ places
-    → IsProductOf g mode (seen (format_of_element element) g (element_datum element code))
-    (number false amount places) value status
-product_case known element g mode code n t value status e h =
-    subst (λ (k : ElementFormat). (amount places : ℕ) → amount * 2 ^ t ≡ n * 2 ^ places
-    → IsProductOf g mode (seen (format_of_element k) g (element_datum k code)) (number false amount places) value
-    status)
-    (sym e) h
+    (stored_format c).scale amount places value status precise (sym of.1)
+    (product_in (library_format half_constants) h g mode half _ y value status precise positive of.0 p amount places
+    same)

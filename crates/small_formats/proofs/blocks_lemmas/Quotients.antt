@@ -1,6 +1,6 @@
 -- A quotient of the library as an element of a format of 8 bits: saturated, in any fraction that equals it.
 use Rattle.std.proofs.Common.{◌≡◌, ℕ, zero, suc, ◌+◌, ◌*◌, ◌^◌, ◌<◌, Bool, true, false, cond, eqb, ltb, refl, ap}
-use Rattle.std.proofs.Common.{◌∙◌, subst, sym, arith, if◌then◌else◌}
+use Rattle.std.proofs.Common.{◌∙◌, subst, arith, if◌then◌else◌}
 use Rattle.std.proofs.Math.Nat.{mul-pos}
 use Rattle.std.proofs.lemmas.Bool.{ne_eqb}
 use Rattle.std.proofs.lemmas.Nat.{pow_pos}
@@ -16,9 +16,7 @@ use Rattle.apfloat_model.specs.rounding.Outcome.{settled, rounded, invalid, Yiel
 use Rattle.apfloat_model.specs.rounding.Rounding.{IsDelivered, leads_out, past_largest, signed_quanta, zero_sign}
 use Rattle.apfloat_model.proofs.rounding.Deliveries.{past_not_finite}
 use Rattle.apfloat_arithmetic.specs.other_formats.FormatOf.{IsQuotientTo}
-use Rattle.small_formats.specs.Quotients.{IsRatioOf}
-use Rattle.small_formats.specs.declared.blocks.elements.ElementFormat.{ElementFormat}
-use Rattle.small_formats.specs.blocks.Elements.{IsElement, IsSaturatedIn, format_of_element}
+use Rattle.small_formats.specs.blocks.Elements.{IsSaturatedIn}
 use Rattle.small_formats.proofs.blocks_lemmas.SameFractions.{delivered_across}
 
 -- ---- saturating
@@ -92,17 +90,3 @@ quotient_across f h g mode x y value status amount parts precise number is some 
     delivered_across g mode (is_negative x) amount parts (quanta_of x * 2 ^ (h.scale + g.scale))
     (quanta_of y * 2 ^ f.scale) value status precise p (mul-pos some (pow_pos f.scale)) (e ∙ omega arith)
     (quotient_number f h g mode x y value status number is some q)
-
--- ---- the format of the element
-
--- what holds of the known format holds of the element's
-pub element_case : (known element : ElementFormat) (f h : Format) (mode : Round) (x y : Datum) (code status : ℕ)
-    → element ≡ known
-    → ((amount parts : ℕ) → 0 < parts → IsRatioOf f h (format_of_element known) x y amount parts
-    → IsElement known mode (is_negative x) amount parts code status)
-    → (amount parts : ℕ) → 0 < parts → IsRatioOf f h (format_of_element element) x y amount parts
-    → IsElement element mode (is_negative x) amount parts code status
-element_case known element f h mode x y code status e t =
-    subst (λ (k : ElementFormat). (amount parts : ℕ) → 0 < parts
-    → IsRatioOf f h (format_of_element k) x y amount parts
-    → IsElement k mode (is_negative x) amount parts code status) (sym e) t

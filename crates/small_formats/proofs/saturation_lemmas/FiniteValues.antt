@@ -1,6 +1,6 @@
 -- Conversions that saturate, by the class of what is converted.
-use Rattle.std.proofs.Common.{◌≡◌, ℕ, Bool, true, false, eqb, cond, refl}
-use Rattle.apfloat_model.proofs.order.Categories.{no_nan}
+use Rattle.std.proofs.Common.{◌≡◌, ◌∙◌, ℕ, Bool, true, false, eqb, cond, refl, ap}
+use Rattle.apfloat_model.specs.declared.kinds.Category.{Category}
 use Rattle.apfloat_model.specs.declared.kinds.Category.TheVariants.{NaN, Infinity as InfiniteCategory, Zero, Normal}
 use Rattle.apfloat_model.specs.declared.kinds.Round.{Round}
 use Rattle.apfloat_model.specs.order.Classes.{category_of, is_finite, is_negative}
@@ -9,6 +9,7 @@ use Rattle.apfloat_model.specs.formats.Datum.{Datum, finite, infinite, nan}
 use Rattle.apfloat_model.specs.formats.Format.{Format, largest}
 use Rattle.small_formats.specs.declared.saturation.saturation.FiniteNan.{FiniteNan}
 use Rattle.small_formats.specs.declared.saturation.saturation.FiniteNan.TheVariants.{Kept, Largest}
+use Rattle.small_formats.specs.declared.saturation.saturation.ValueClass.{ValueClass}
 use Rattle.small_formats.specs.declared.saturation.saturation.ValueClass.TheVariants.{Number, Infinity, NotANumber}
 use Rattle.small_formats.specs.saturation.Saturation.{IsFiniteConversion, class_of, saturated}
 
@@ -44,29 +45,20 @@ number_saturated nans f g mode (nan b s) rounded value status loses e h v = cc
 
 -- ---- classes
 
-not_infinite : (none : Bool) → cond none Zero Normal ≡ InfiniteCategory → ⊥
-not_infinite true e = cc
-not_infinite false e = cc
+abbrev pub class_in : Category → ValueClass
+class_in NaN = NotANumber
+class_in InfiniteCategory = Infinity
+class_in Zero = Number
+class_in Normal = Number
 
-pub nan_class : (x : Datum) → category_of x ≡ NaN → class_of x ≡ NotANumber
-nan_class (finite b n) e = absurd (no_nan (eqb n 0) e)
-nan_class (infinite b) e = cc
-nan_class (nan b s) e = refl
+number_class : (none : Bool) → Number ≡ class_in (cond none Zero Normal)
+number_class true = refl
+number_class false = refl
 
-pub infinite_class : (x : Datum) → category_of x ≡ InfiniteCategory → class_of x ≡ Infinity
-infinite_class (finite b n) e = absurd (not_infinite (eqb n 0) e)
-infinite_class (infinite b) e = refl
-infinite_class (nan b s) e = cc
-
-pub zero_class : (x : Datum) → category_of x ≡ Zero → class_of x ≡ Number
-zero_class (finite b n) e = refl
-zero_class (infinite b) e = cc
-zero_class (nan b s) e = cc
-
-pub normal_class : (x : Datum) → category_of x ≡ Normal → class_of x ≡ Number
-normal_class (finite b n) e = refl
-normal_class (infinite b) e = cc
-normal_class (nan b s) e = cc
+pub class_of_category : (x : Datum) (category : Category) → category_of x ≡ category → class_of x ≡ class_in category
+class_of_category (nan b s) category e = ap class_in e
+class_of_category (infinite b) category e = ap class_in e
+class_of_category (finite b n) category e = number_class (eqb n 0) ∙ ap class_in e
 
 -- ---- the saturated value
 

@@ -8,7 +8,7 @@ ghost use Rattle.apfloat_model.specs.formats.Format.{Format, largest};
 ghost use Rattle.apfloat_ieee.specs.FlaggedTypes.{format_of};
 ghost use Rattle.apfloat_model.specs.arithmetic.Conversions.{IsConversion};
 ghost use Rattle.apfloat_model.specs.declared.kinds.Round.{Round};
-ghost use Rattle.small_formats.specs.saturation.Saturation.{IsConversionBy, IsFiniteConversion, class_of, saturated};
+ghost use Rattle.small_formats.specs.saturation.Saturation.{IsConversionBy, class_of, saturated};
 
 use apfloat_base::{Category, Float, FloatConvert, Round, Status, StatusAnd};
 use apfloat_ieee::{Flagged, IeeeFloat};
@@ -100,37 +100,20 @@ pub fn treat<T: Flagged>(
     match overflow {
         Overflow::Rounded => answer,
         Overflow::Saturated => answer.status.and(saturated(class, negative, answer.value)),
-        Overflow::Finite(nans) => made_finite(nans, class, negative, answer, loses_info),
-    }
-}
-
-/// `treat` by `Overflow::Finite`: infinities and, if `nans` says so, NaNs become the largest value too.
-#[inline]
-fn made_finite<T: Flagged>(
-    nans: FiniteNan,
-    class: ValueClass,
-    negative: bool,
-    answer: StatusAnd<IeeeFloat<T>>,
-    loses_info: &mut bool,
-) -> StatusAnd<IeeeFloat<T>>
-    ensures { let g = format_of T.Flagged in (f : Format) (mode : Round) (x : Datum)
-        → class_of x ≡ class → is_negative x ≡ negative
-        → IsConversion f g mode x answer.value (bits_of answer.status) loses_info.old
-        → IsFiniteConversion nans f g mode x result.value (bits_of result.status) loses_info.new }
-{
-    match class {
-        ValueClass::NotANumber => match nans {
-            FiniteNan::Kept => answer,
-            FiniteNan::Largest => {
+        Overflow::Finite(nans) => match class {
+            ValueClass::NotANumber => match nans {
+                FiniteNan::Kept => answer,
+                FiniteNan::Largest => {
+                    *loses_info = true;
+                    Status::INVALID_OP.and(largest_of_sign(false))
+                }
+            },
+            ValueClass::Infinity => {
                 *loses_info = true;
-                Status::INVALID_OP.and(largest_of_sign(false))
+                Status::INEXACT.and(largest_of_sign(negative))
             }
+            ValueClass::Number => answer.status.and(saturated(class, negative, answer.value)),
         },
-        ValueClass::Infinity => {
-            *loses_info = true;
-            Status::INEXACT.and(largest_of_sign(negative))
-        }
-        ValueClass::Number => answer.status.and(saturated(class, negative, answer.value)),
     }
 }
 

@@ -6,38 +6,14 @@ use Rattle.round_to_odd.proofs.numbers.digits_below_quantum.Goals as goal
 
 pub returns-then-exponent-quantum : goal.returns-then-exponent-quantum
 returns-then-exponent-quantum g c =
-    let law = g.S.Flagged.lawful.parameters in
     ends_below (format_of g.S.Flagged) g.S.Flagged.MIN_EXP c.args.exponent _
     (scale_is (constants_of g.S.Flagged) g.S.Flagged.lawful)
-    (omega (
-      arith,
-      ints,
-      c.if-exponent-quantum.true,
-      law.precision_low,
-      law.precision_high,
-      law.min_exp_low,
-      law.min_exp_high,
-      c.PRECISION.ensures,
-      c.MIN_EXP.ensures,
-      c.requires.low,
-      c.requires.high,
-    ))
+    (omega (arith, ints, g.S.Flagged.lawful.parameters, c.requires, c.PRECISION.ensures, c.MIN_EXP.ensures,
+    c.if-exponent-quantum.true))
 
 pub returns-else-exponent-quantum : goal.returns-else-exponent-quantum
 returns-else-exponent-quantum g c =
-    let law = g.S.Flagged.lawful.parameters in
     ends_above (format_of g.S.Flagged) g.S.Flagged.MIN_EXP c.args.exponent
     (scale_is (constants_of g.S.Flagged) g.S.Flagged.lawful)
-    (omega (
-      arith,
-      ints,
-      c.if-exponent-quantum.false,
-      law.precision_low,
-      law.precision_high,
-      law.min_exp_low,
-      law.min_exp_high,
-      c.PRECISION.ensures,
-      c.MIN_EXP.ensures,
-      c.requires.low,
-      c.requires.high,
-    ))
+    (omega (arith, ints, g.S.Flagged.lawful.parameters, c.requires, c.PRECISION.ensures, c.MIN_EXP.ensures,
+    c.if-exponent-quantum.false))

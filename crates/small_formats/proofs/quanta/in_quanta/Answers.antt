@@ -10,10 +10,8 @@ returns-clause-number g c =
     let f = format_of g.S.Semantics in
     let exponent = c.magnitude_of-number.result.exponent in
     let within = c.magnitude_of-number.ensures.within in
-    let low = within.low in
-    let high = within.high in
     let exact = to_z-of_z w32 exponent
-    (exponent_fits exponent (record { low = omega (arith, ints, low); high = omega (arith, ints, high) })) in
+    (exponent_fits exponent (record { low = omega (arith, ints, within); high = omega (arith, ints, within) })) in
     let value = rw exact at c.unit_of.ensures.value in
     let unit = to_z-of_z w32 c.unit_of.result (record { sfits = c.unit_of.type_inv }) in
     rw unit

@@ -10,10 +10,8 @@ returns-clause-number g c =
     let f = format_of g.S.Semantics in
     let exponent = c.number-number.result.exponent in
     let within = c.number-number.ensures.within in
-    let low = within.low in
-    let high = within.high in
     let exact = to_z-of_z w32 exponent
-    (exponent_fits exponent (record { low = omega (arith, ints, low); high = omega (arith, ints, high) })) in
+    (exponent_fits exponent (record { low = omega (arith, ints, within); high = omega (arith, ints, within) })) in
     let value = rw exact at c.last_exponent.ensures.value in
     let last = to_z-of_z w32 c.last_exponent.result (record { sfits = c.last_exponent.type_inv }) in
     rw (last, c.lengthened.ensures.value)

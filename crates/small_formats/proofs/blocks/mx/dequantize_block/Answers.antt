@@ -1,10 +1,7 @@
-use Rattle.std.proofs.Common.{◌≡◌, ℕ, ◌<◌, ◌∙◌, get_or, length, refl, subst, arith}
+use Rattle.std.proofs.Common.{◌<◌, ◌∙◌, get_or, length, refl, arith}
 use Rattle.std.proofs.lemmas.Option.{slice_get-get_or}
-use Rattle.apfloat_model.specs.formats.Datum.{Datum}
 use Rattle.apfloat_model.specs.rounding.Flags.{bits_of}
-use Rattle.apfloat_ieee.specs.FlaggedTypes.{format_of}
-use Rattle.small_formats.specs.blocks.MxBlocks.{IsScaled}
-use Rattle.small_formats.proofs.blocks_lemmas.Places.{AreWritten, all_written, length_set, one_written, room_for}
+use Rattle.small_formats.proofs.blocks_lemmas.Places.{all_written, length_set, one_written, room_for}
 use Rattle.small_formats.proofs.blocks.mx.dequantize_block.Goals as goal
 
 -- a code with more bits
@@ -19,36 +16,24 @@ scaled-answer-requires g c =
     (omega (arith, c.loop-index-test.true))
 
 pub with-counts-requires : goal.with-counts-requires
-with-counts-requires g c =
-    let so_far = c.loop-index.invariant.1 in
-    let size = so_far.flags_size in
-    room_for so_far.flags c.loop-index.counts so_far.counted (omega (arith, size, c.loop-index-test.true))
+with-counts-requires g c = room_for c.loop-index.invariant.1 (omega (arith, c.loop-index-test.true))
 
 pub loop-index-preserved : goal.loop-index-preserved
 loop-index-preserved g c =
     let size = c.loop-index.invariant.0 in
     let here = slice_get-get_or c.args.codes.now c.loop-index.index 0 (omega (arith, c.loop-index-test.true)) in (
       length_set c.loop-index.values c.loop-index.index c.scaled-answer.result.value ∙ size,
-      one_written (λ (code : ℕ) (value : Datum) (status : ℕ). IsScaled c.args.element (format_of g.G.Flagged)
-          c.args.round c.args.scale code value status) c.loop-index.index c.args.codes.now c.loop-index.values
-          c.loop-index.counts c.with-counts.result (get_or c.args.codes.now c.loop-index.index 0)
+      one_written c.loop-index.invariant.1 (get_or c.args.codes.now c.loop-index.index 0)
           c.scaled-answer.result.value (bits_of c.scaled-answer.result.status)
-          (omega (arith, size, c.loop-index-test.true)) here c.scaled-answer.ensures c.with-counts.ensures
-          c.loop-index.invariant.1,
+          (omega (arith, size, c.loop-index-test.true)) here c.scaled-answer.ensures c.with-counts.ensures,
     )
 
 pub returns : goal.returns
 returns g c =
-    let last : c.loop-index.index ≡ length c.args.codes.now =
-    omega (arith, c.loop-index-test.false, c.loop-index.auto.index-end) in
     let some : 0 < length c.args.codes.now = grind (arith, c.is_empty.ensures, c.if-is_empty.false) in (
       some,
       c.if-values-codes.false,
       rw c.bits.ensures.value at (c.are_narrow.ensures.yes c.if-not-are_narrow.false),
-      all_written (λ (code : ℕ) (value : Datum) (status : ℕ). IsScaled c.args.element (format_of g.G.Flagged)
-          c.args.round c.args.scale code value status) c.args.codes.now c.loop-index.values c.loop-index.counts
-          c.loop-index.invariant.0
-          (subst (λ (n : ℕ). AreWritten (λ (code : ℕ) (value : Datum) (status : ℕ). IsScaled c.args.element
-          (format_of g.G.Flagged) c.args.round c.args.scale code value status) n c.args.codes.now c.loop-index.values
-          c.loop-index.counts) last c.loop-index.invariant.1),
+      all_written c.loop-index.invariant.1 (omega (arith, c.loop-index-test.false, c.loop-index.auto.index-end))
+          c.loop-index.invariant.0,
     )

@@ -1,14 +1,14 @@
-use Rattle.std.proofs.Common.{◌≡◌, ℕ, ◌*◌, ◌^◌, ◌∙◌, length, refl, subst, arith}
+use Rattle.std.proofs.Common.{ℕ, ◌*◌, ◌^◌, ◌∙◌, length, refl, arith}
 use Rattle.std.proofs.Math.Nat.{mul-pos}
 use Rattle.std.proofs.lemmas.Nat.{pow_pos}
 use Rattle.std.proofs.lemmas.Option.{slice_get_read}
 use Rattle.apfloat_model.specs.order.Classes.{quanta_of}
 use Rattle.apfloat_model.specs.rounding.Flags.{bits_of}
 use Rattle.apfloat_ieee.specs.Types.{format_of}
-use Rattle.small_formats.specs.blocks.Elements.{IsQuotientBy, format_of_element}
+use Rattle.small_formats.specs.blocks.Elements.{format_of_element}
 use Rattle.small_formats.proofs.blocks_lemmas.Fractions.{element_fraction}
 use Rattle.small_formats.proofs.blocks_lemmas.Greatest.{finite_at}
-use Rattle.small_formats.proofs.blocks_lemmas.Places.{AreWritten, all_written, length_set, none_written, one_written, room_for}
+use Rattle.small_formats.proofs.blocks_lemmas.Places.{all_written, length_set, none_written, one_written, room_for}
 use Rattle.small_formats.proofs.blocks.mx.write_quotients.Goals as goal
 
 pub quotient_code-answer-requires-clause-finite : goal.quotient_code-answer-requires-clause-finite
@@ -21,10 +21,8 @@ quotient_code-answer-requires-clause-finite g c =
 -- the flags are the same for each fraction; one is that of the divisor's quanta
 pub with-counts-requires : goal.with-counts-requires
 with-counts-requires g c =
-    let so_far = c.loop-index.invariant.1 (quanta_of c.args.y) (2 ^ (format_of g.R.Semantics).scale)
-    c.requires.positive.some refl in
-    let size = so_far.flags_size in
-    room_for so_far.flags c.loop-index.counts so_far.counted (omega (arith, size, c.loop-index-test.true))
+    room_for (c.loop-index.invariant.1 (quanta_of c.args.y) (2 ^ (format_of g.R.Semantics).scale)
+    c.requires.positive.some refl) (omega (arith, c.loop-index-test.true))
 
 pub loop-index-init : goal.loop-index-init
 loop-index-init g c =
@@ -43,8 +41,7 @@ loop-index-preserved g c =
       λ divisor unit p e.
           let t = format_of_element c.args.element in
           let parts : ℕ = 2 ^ f.scale * divisor in
-          one_written (IsQuotientBy c.args.element f c.args.round divisor unit) index values c.loop-index.codes
-          c.loop-index.counts c.with-counts.result x c.quotient_code-answer.result.value
+          one_written (c.loop-index.invariant.1 divisor unit p e) x c.quotient_code-answer.result.value
           (bits_of c.quotient_code-answer.result.status) (omega (arith, size, c.loop-index-test.true)) here (
             c.quotient_code-answer.ensures.below,
             c.quotient_code-answer.ensures.code (quanta_of x * 2 ^ t.scale * unit) parts (mul-pos (pow_pos f.scale) p)
@@ -52,15 +49,10 @@ loop-index-preserved g c =
                 divisor unit
                 e),
           )
-          c.with-counts.ensures (c.loop-index.invariant.1 divisor unit p e),
+          c.with-counts.ensures,
     )
 
 pub returns : goal.returns
 returns g c = λ divisor unit p e.
-    let f = format_of g.S.Semantics in
-    let last : c.loop-index.index ≡ length c.args.values.now =
-    omega (arith, c.loop-index-test.false, c.loop-index.auto.index-end) in
-    all_written (IsQuotientBy c.args.element f c.args.round divisor unit) c.args.values.now c.loop-index.codes
-    c.loop-index.counts c.loop-index.invariant.0
-    (subst (λ (n : ℕ). AreWritten (IsQuotientBy c.args.element f c.args.round divisor unit) n c.args.values.now
-    c.loop-index.codes c.loop-index.counts) last (c.loop-index.invariant.1 divisor unit p e))
+    all_written (c.loop-index.invariant.1 divisor unit p e)
+    (omega (arith, c.loop-index-test.false, c.loop-index.auto.index-end)) c.loop-index.invariant.0

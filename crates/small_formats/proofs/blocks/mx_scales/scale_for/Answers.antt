@@ -40,42 +40,35 @@ exponent g c =
 pub overflow_sub-ilogb : goal.overflow_sub-ilogb
 overflow_sub-ilogb g c =
     let within = (exponent g (goal.at.overflow_sub-ilogb g c).After-ilogb).within in
-    let low = within.low in
-    let high = within.high in
     let exact = to_z-of_z w32 c.ilogb.result (record { sfits = c.ilogb.type_inv }) in
     let most = to_z-of_z w32 c.max_exp.result (record { sfits = c.max_exp.type_inv }) in
-    let value = c.max_exp.ensures.value in
-    let few = c.max_exp.ensures.few in
+    let element = c.max_exp.ensures in
     rw (exact, most)
     (exponent_fits (c.ilogb.result -ℤ c.max_exp.result)
-    (record { low = omega (arith, ints, low, few); high = omega (arith, ints, high, few) }))
+    (record { low = omega (arith, ints, within, element); high = omega (arith, ints, within, element) }))
 
 pub clamped_code-requires : goal.clamped_code-requires
 clamped_code-requires g c =
     let within = (exponent g (goal.at.clamped_code-requires g c).After-ilogb).within in
-    let low = within.low in
-    let high = within.high in
     let exact = to_z-of_z w32 c.ilogb.result (record { sfits = c.ilogb.type_inv }) in
     let most = to_z-of_z w32 c.max_exp.result (record { sfits = c.max_exp.type_inv }) in
-    let value = c.max_exp.ensures.value in
-    let few = c.max_exp.ensures.few in
+    let element = c.max_exp.ensures in
     record {
-      low = omega (arith, ints, low, high, exact, most, value, few);
-      high = omega (arith, ints, low, high, exact, most, value, few);
+      low = omega (arith, ints, within, exact, most, element);
+      high = omega (arith, ints, within, exact, most, element);
     }
 
 pub returns-clause-value : goal.returns-clause-value
 returns-clause-value g c =
     let at = exponent g (goal.at.returns-clause-value g c).After-ilogb in
     let first = c.ilogb.result in
-    let low = at.within.low in
-    let high = at.within.high in
+    let within = at.within in
     let exact = to_z-of_z w32 first (record { sfits = c.ilogb.type_inv }) in
     let most = to_z-of_z w32 c.max_exp.result (record { sfits = c.max_exp.type_inv }) in
     let few = c.max_exp.ensures.few in
     let z = first -ℤ pos (max_exp c.args.element) in
     let whole = to_z-of_z w32 z
-    (exponent_fits z (record { low = omega (arith, ints, low, few); high = omega (arith, ints, high, few) })) in
+    (exponent_fits z (record { low = omega (arith, ints, within, few); high = omega (arith, ints, within, few) })) in
     match_false _ _ _
     (sym (zero_test c.args.greatest c.requires.sign) ∙ sym c.is_zero.ensures ∙ c.if-is_zero.false)
     (record {

@@ -1,25 +1,21 @@
 use Rattle.std.proofs.Common.{refl, sym, ◌∙◌}
 use Rattle.std.proofs.lemmas.Bool.{eq-eqb, ne_eqb}
-use Rattle.apfloat_model.proofs.general.Choices.{match_false, match_true}
 use Rattle.small_formats.proofs.blocks.nvfp4.quantize_nvfp4_block.Goals as goal
 
 pub returns-then-is_empty : goal.returns-then-is_empty
-returns-then-is_empty g c = match_true _ _ _ (sym c.is_empty.ensures ∙ c.if-is_empty.true) (refl, refl)
+returns-then-is_empty g c = rw (sym c.is_empty.ensures ∙ c.if-is_empty.true) (refl, refl)
 
 pub returns-then-codes-values : goal.returns-then-codes-values
 returns-then-codes-values g c =
-    match_false _ _ _ (sym c.is_empty.ensures ∙ c.if-is_empty.false)
-    (match_false _ _ _ (ne_eqb _ _ c.if-codes-values.true) (refl, refl))
+    rw (sym c.is_empty.ensures ∙ c.if-is_empty.false, ne_eqb _ _ c.if-codes-values.true) (refl, refl)
 
 pub returns-then-not-is_positive : goal.returns-then-not-is_positive
 returns-then-not-is_positive g c =
-    match_false _ _ _ (sym c.is_empty.ensures ∙ c.if-is_empty.false)
-    (match_true _ _ _ (eq-eqb _ _ c.if-codes-values.false)
-    (match_false _ _ _ (sym c.is_positive.ensures.test ∙ c.if-not-is_positive.true) (refl, refl)))
+    rw (sym c.is_empty.ensures ∙ c.if-is_empty.false, eq-eqb _ _ c.if-codes-values.false,
+    sym c.is_positive.ensures.test ∙ c.if-not-is_positive.true) (refl, refl)
 
 pub returns : goal.returns
 returns g c =
-    match_false _ _ _ (sym c.is_empty.ensures ∙ c.if-is_empty.false)
-    (match_true _ _ _ (eq-eqb _ _ c.if-codes-values.false)
-    (match_true _ _ _ (sym c.is_positive.ensures.test ∙ c.if-not-is_positive.false)
-    (record { block = c.quantize_some.result; is = refl; is_block = c.quantize_some.ensures })))
+    rw (sym c.is_empty.ensures ∙ c.if-is_empty.false, eq-eqb _ _ c.if-codes-values.false,
+    sym c.is_positive.ensures.test ∙ c.if-not-is_positive.false)
+    (record { block = c.quantize_some.result; is = refl; is_block = c.quantize_some.ensures })
