@@ -46,7 +46,8 @@ point_pick_once p mode negative amount parts i j some = by_digits (eqb p 1)
         (IsPickBy p mode negative amount parts (point p j))
         → i ≡ j
     by_digits true x y =
-        index_pick_once (takes_next mode negative) (point p) amount parts i j (λ a b less. points_in_order p a b some less)
+        index_pick_once (takes_next mode negative) (point p) amount parts i j
+        (λ a b less. points_in_order p a b some less)
         x y
     by_digits false x y =
         one_number p i j some (pick_by_once p mode negative amount parts (point p i) (point p j) x y)
