@@ -8,12 +8,26 @@ pub returns-then-exponent-quantum : goal.returns-then-exponent-quantum
 returns-then-exponent-quantum g c =
     ends_below (format_of g.S.Flagged) g.S.Flagged.MIN_EXP c.args.exponent _
     (scale_is (constants_of g.S.Flagged) g.S.Flagged.lawful)
-    (omega (arith, ints, g.S.Flagged.lawful.parameters, c.requires, c.PRECISION.ensures, c.MIN_EXP.ensures,
-    c.if-exponent-quantum.true))
+    (omega (
+      arith,
+      ints,
+      g.S.Flagged.lawful.parameters,
+      c.requires,
+      c.PRECISION.ensures,
+      c.MIN_EXP.ensures,
+      c.if-exponent-quantum.true,
+    ))
 
 pub returns-else-exponent-quantum : goal.returns-else-exponent-quantum
 returns-else-exponent-quantum g c =
     ends_above (format_of g.S.Flagged) g.S.Flagged.MIN_EXP c.args.exponent
     (scale_is (constants_of g.S.Flagged) g.S.Flagged.lawful)
-    (omega (arith, ints, g.S.Flagged.lawful.parameters, c.requires, c.PRECISION.ensures, c.MIN_EXP.ensures,
-    c.if-exponent-quantum.false))
+    (omega (
+      arith,
+      ints,
+      g.S.Flagged.lawful.parameters,
+      c.requires,
+      c.PRECISION.ensures,
+      c.MIN_EXP.ensures,
+      c.if-exponent-quantum.false,
+    ))

@@ -14,20 +14,30 @@ returns-then-values-codes g c =
 
 pub returns-then-not-is_positive : goal.returns-then-not-is_positive
 returns-then-not-is_positive g c =
-    rw (sym c.is_empty.ensures ∙ c.if-is_empty.false, eq-eqb _ _ c.if-values-codes.false,
-    sym c.is_positive.ensures.test ∙ c.if-not-is_positive.true) (refl, refl)
+    rw (
+      sym c.is_empty.ensures ∙ c.if-is_empty.false,
+      eq-eqb _ _ c.if-values-codes.false,
+      sym c.is_positive.ensures.test ∙ c.if-not-is_positive.true,
+    ) (refl, refl)
 
 pub returns-then-scale-gt-NAN_SCALE : goal.returns-then-scale-gt-NAN_SCALE
 returns-then-scale-gt-NAN_SCALE g c =
-    rw (sym c.is_empty.ensures ∙ c.if-is_empty.false, eq-eqb _ _ c.if-values-codes.false,
-    sym c.is_positive.ensures.test ∙ c.if-not-is_positive.false,
-    lt-leb c.args.scale 127 c.if-scale-gt-NAN_SCALE.true) (refl, refl)
+    rw (
+      sym c.is_empty.ensures ∙ c.if-is_empty.false,
+      eq-eqb _ _ c.if-values-codes.false,
+      sym c.is_positive.ensures.test ∙ c.if-not-is_positive.false,
+      lt-leb c.args.scale 127 c.if-scale-gt-NAN_SCALE.true,
+    ) (refl, refl)
 
 pub returns-then-not-are_narrow : goal.returns-then-not-are_narrow
 returns-then-not-are_narrow g c =
     let most : c.args.scale ≤ 127 = omega (arith, c.if-scale-gt-NAN_SCALE.false) in
-    rw (sym c.is_empty.ensures ∙ c.if-is_empty.false, eq-eqb _ _ c.if-values-codes.false,
-    sym c.is_positive.ensures.test ∙ c.if-not-is_positive.false, le-leb c.args.scale 127 most)
+    rw (
+      sym c.is_empty.ensures ∙ c.if-is_empty.false,
+      eq-eqb _ _ c.if-values-codes.false,
+      sym c.is_positive.ensures.test ∙ c.if-not-is_positive.false,
+      le-leb c.args.scale 127 most,
+    )
     (inr (record { wide = c.are_narrow.ensures.no c.if-not-are_narrow.true; refused = (refl, refl) }))
 
 pub scaled-answer-requires-clause-code : goal.scaled-answer-requires-clause-code
@@ -56,8 +66,12 @@ loop-index-preserved g c =
 pub returns : goal.returns
 returns g c =
     let most : c.args.scale ≤ 127 = omega (arith, c.if-scale-gt-NAN_SCALE.false) in
-    rw (sym c.is_empty.ensures ∙ c.if-is_empty.false, eq-eqb _ _ c.if-values-codes.false,
-    sym c.is_positive.ensures.test ∙ c.if-not-is_positive.false, le-leb c.args.scale 127 most)
+    rw (
+      sym c.is_empty.ensures ∙ c.if-is_empty.false,
+      eq-eqb _ _ c.if-values-codes.false,
+      sym c.is_positive.ensures.test ∙ c.if-not-is_positive.false,
+      le-leb c.args.scale 127 most,
+    )
     (inl (record {
       counts = c.loop-index.counts;
       is = refl;

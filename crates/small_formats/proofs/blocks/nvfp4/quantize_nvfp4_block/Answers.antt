@@ -11,11 +11,17 @@ returns-then-codes-values g c =
 
 pub returns-then-not-is_positive : goal.returns-then-not-is_positive
 returns-then-not-is_positive g c =
-    rw (sym c.is_empty.ensures ∙ c.if-is_empty.false, eq-eqb _ _ c.if-codes-values.false,
-    sym c.is_positive.ensures.test ∙ c.if-not-is_positive.true) (refl, refl)
+    rw (
+      sym c.is_empty.ensures ∙ c.if-is_empty.false,
+      eq-eqb _ _ c.if-codes-values.false,
+      sym c.is_positive.ensures.test ∙ c.if-not-is_positive.true,
+    ) (refl, refl)
 
 pub returns : goal.returns
 returns g c =
-    rw (sym c.is_empty.ensures ∙ c.if-is_empty.false, eq-eqb _ _ c.if-codes-values.false,
-    sym c.is_positive.ensures.test ∙ c.if-not-is_positive.false)
+    rw (
+      sym c.is_empty.ensures ∙ c.if-is_empty.false,
+      eq-eqb _ _ c.if-codes-values.false,
+      sym c.is_positive.ensures.test ∙ c.if-not-is_positive.false,
+    )
     (record { block = c.quantize_some.result; is = refl; is_block = c.quantize_some.ensures })
