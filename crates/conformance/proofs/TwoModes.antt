@@ -14,25 +14,43 @@ use Rattle.apfloat_model.proofs.Determined.{reading_or_refusal, refusal_once}
 use Rattle.apfloat_model.proofs.rounding.ModesAgree.{AgreesWhereOk, AgreesButForZeros, reading_agrees}
 use Rattle.apfloat_model.proofs.rounding.OutwardRoundings.{Encloses}
 use Rattle.apfloat_model.proofs.rounding.OutwardResults.{reading_encloses}
+use Rattle.conformance.specs.TwoModes.{AreInModes}
 use Rattle.conformance.specs.TwoReadings.{AreReadings}
 
-pub same_if_ok : (R : Round → Datum → ℕ → Type 0) → AgreesWhereOk R
+same_if_ok : (R : Round → Datum → ℕ → Type 0) → AgreesWhereOk R
     → (mode other : Round) (one two : StatusAnd Datum)
     → Gives (R mode) one → Gives (R other) two → AreSameIfOk one two
 same_if_ok R agrees mode other one two x y = λ e.
     agrees mode other one.value two.value (bits_of two.status) (subst (λ (s : ℕ). R mode one.value s) e x) y
 
-pub same_but_for_zeros : (R : Round → Datum → ℕ → Type 0) → AgreesButForZeros R → (mode other : Round)
-    (one two : StatusAnd Datum) → Gives (R mode) one → Gives (R other) two → AreSameIfOkButForZeros one two
-same_but_for_zeros R agrees mode other one two x y = λ e.
-    agrees mode other one.value two.value (bits_of two.status) (subst (λ (s : ℕ). R mode one.value s) e x) y
-
-pub bounds_if_outward : (IsExact : ℕ → Type 0) (R : Round → Datum → ℕ → Type 0) → Encloses IsExact R
+bounds_if_outward : (IsExact : ℕ → Type 0) (R : Round → Datum → ℕ → Type 0) → Encloses IsExact R
     → (mode other : Round) (one two : StatusAnd Datum) → Gives (R mode) one → Gives (R other) two
     → AreOutward mode other → AreBoundsUnlessNan IsExact one two
 bounds_if_outward IsExact R encloses mode other one two x y o =
     encloses one.value two.value (bits_of one.status) (bits_of two.status)
     (subst (λ (m : Round). Gives (R m) one) o.downward x) (subst (λ (m : Round). Gives (R m) two) o.upward y)
+
+pub in_modes : (IsExact : ℕ → Type 0) (R : Round → Datum → ℕ → Type 0) → AgreesWhereOk R → Encloses IsExact R
+    → (mode other : Round) (one two : StatusAnd Datum) → Gives (R mode) one → Gives (R other) two
+    → AreInModes R AreSameIfOk IsExact mode other one two
+in_modes IsExact R agrees encloses mode other one two x y = record {
+  in_mode = x;
+  in_other = y;
+  same = same_if_ok R agrees mode other one two x y;
+  bounds = bounds_if_outward IsExact R encloses mode other one two x y;
+}
+
+-- the same of what may be an exact zero of either sign
+pub but_for_zeros : (R : Round → Datum → ℕ → Type 0) → AgreesButForZeros R → Encloses IsOk R → (mode other : Round)
+    (one two : StatusAnd Datum) → Gives (R mode) one → Gives (R other) two
+    → AreInModes R AreSameIfOkButForZeros IsOk mode other one two
+but_for_zeros R agrees encloses mode other one two x y = record {
+  in_mode = x;
+  in_other = y;
+  same = λ e.
+      agrees mode other one.value two.value (bits_of two.status) (subst (λ (s : ℕ). R mode one.value s) e x) y;
+  bounds = bounds_if_outward IsOk R encloses mode other one two x y;
+}
 
 -- ---- readings
 

@@ -5,4 +5,5 @@ pub mod LawPremises
 pub mod Plain
 pub mod Statuses
 pub mod Summands
+pub mod TwoModes
 pub mod TwoReadings

@@ -4,27 +4,14 @@ use Rattle.rustc_apfloat.specs.TwoModes.{IsOkOrOfZero}
 use Rattle.rustc_apfloat.specs.FlaggedTypes.{format_of}
 use Rattle.apfloat_model.proofs.rounding.ModesAgree.{conversion_agrees}
 use Rattle.apfloat_model.proofs.rounding.OutwardResults.{conversion_encloses}
-use Rattle.conformance.proofs.TwoModes.{same_if_ok, bounds_if_outward}
+use Rattle.conformance.proofs.TwoModes.{in_modes}
 use Rattle.conformance.proofs.two_modes.conversions.Goals as goal
 
-pub returns-clause-in_mode : goal.returns-clause-in_mode
-returns-clause-in_mode g c = (_, c.convert_r-one.ensures.converted)
-
-pub returns-clause-in_other : goal.returns-clause-in_other
-returns-clause-in_other g c = (_, c.convert_r.ensures.converted)
-
-pub returns-clause-same : goal.returns-clause-same
-returns-clause-same g c =
-    same_if_ok
+pub returns : goal.returns
+returns g c =
+    in_modes (IsOkOrOfZero c.args.x)
     (λ mode value status. (loses : Bool)
     × IsConversion (format_of g.S.Flagged) (format_of g.T.Flagged) mode c.args.x value status loses)
-    (conversion_agrees (format_of g.S.Flagged) (format_of g.T.Flagged) c.args.x) c.args.mode c.args.other _ _
-    (_, c.convert_r-one.ensures.converted) (_, c.convert_r.ensures.converted)
-
-pub returns-clause-bounds : goal.returns-clause-bounds
-returns-clause-bounds g c =
-    bounds_if_outward (IsOkOrOfZero c.args.x)
-    (λ mode value status. (loses : Bool)
-    × IsConversion (format_of g.S.Flagged) (format_of g.T.Flagged) mode c.args.x value status loses)
+    (conversion_agrees (format_of g.S.Flagged) (format_of g.T.Flagged) c.args.x)
     (conversion_encloses (format_of g.S.Flagged) (format_of g.T.Flagged) c.args.x) c.args.mode c.args.other _ _
     (_, c.convert_r-one.ensures.converted) (_, c.convert_r.ensures.converted)
