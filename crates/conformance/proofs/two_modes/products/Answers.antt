@@ -9,5 +9,6 @@ use Rattle.conformance.proofs.two_modes.products.Goals as goal
 pub returns : goal.returns
 returns g c =
     in_modes IsOk (λ mode. IsProduct (format_of g.S.Flagged) mode c.args.x c.args.y)
-    (product_agrees (format_of g.S.Flagged) c.args.x c.args.y) (product_encloses (format_of g.S.Flagged) c.args.x c.args.y)
+    (product_agrees (format_of g.S.Flagged) c.args.x c.args.y)
+    (product_encloses (format_of g.S.Flagged) c.args.x c.args.y)
     c.args.mode c.args.other _ _ c.mul_r.ensures.product c.mul_r-2.ensures.product
