@@ -1,6 +1,5 @@
 -- Counts that saturate where larger ones make no difference, and the faults of the texts that they count.
-use Rattle.std.specs.Prelude.{◌≡◌, ◌⊎◌, ℕ, ◌+◌, ◌*◌, ◌^◌, ◌<◌, ◌≤◌, ℤ, pos, neg_ℤ, ◌≤ℤ◌, Bool, not, ◌&&◌}
-use Rattle.std.specs.Prelude.{if◌then◌else◌, List, fold, drop, Option, Some, None}
+use Rattle.std.specs.Prelude.{◌≡◌, ◌⊎◌, ℕ, ◌+◌, ◌*◌, ◌^◌, ◌<◌, ◌≤◌, ℤ, pos, neg_ℤ, ◌≤ℤ◌, Bool, not, ◌&&◌, if◌then◌else◌, List, fold, drop, Option, Some, None}
 use Rattle.std.specs.Prelude.{Result, MatchResult}
 use Rattle.apfloat_model.specs.declared.parse_error.Fault.{Fault}
 use Rattle.apfloat_model.specs.declared.parse_error.Fault.TheVariants.{WrongInSignificand, NoDigits}
