@@ -6,13 +6,14 @@ use Rattle.std.proofs.Math.Nat.{mul-le-mul_right, mul-le-mul_left, mul-lt-mul_of
 use Rattle.apfloat_model.specs.declared.kinds.Round.{Round}
 use Rattle.apfloat_model.specs.declared.loss.Loss.TheVariants.{ExactlyZero}
 use Rattle.apfloat_model.specs.formats.Format.{Format, largest, greatest_significand}
-use Rattle.apfloat_model.specs.formats.Datum.{Datum, finite, infinite, nan}
+use Rattle.apfloat_model.specs.formats.Datum.{Datum, finite}
 use Rattle.apfloat_model.specs.rounding.Bounds.{scaling_bound, span_bound}
 use Rattle.apfloat_model.specs.rounding.Rounding.{ok_bits, IsDelivered, zero_sign}
 use Rattle.apfloat_model.specs.arithmetic.Scaling.{IsScaling}
 use Rattle.apfloat_model.specs.rounding.Standing.{StandsFor, up, down}
 use Rattle.apfloat_model.proofs.general.Powers.{two_pos}
 use Rattle.apfloat_model.proofs.formats.Greatest.{greatest_full}
+use Rattle.apfloat_model.proofs.arithmetic.Tables.{scaling_zero}
 use Rattle.apfloat_model.proofs.texts.ZeroTexts.{zero_text}
 use Rattle.apfloat_model.proofs.arithmetic.SingleScalings.{IsClamped, up_le, quanta_below, scaled_is, scaled_stands, clamp_kept}
 use Rattle.apfloat_rounding.specs.declared.shape.Shape.{Shape}
@@ -118,22 +119,30 @@ scale_in_span shape =
     let b = span_is shape in
     omega (arith, ints, a, b, shape.parameters)
 
+-- a significand of a shape is below 2 ^ 125
+pub significand_small : (shape : Shape) (m : ℕ) → m < 2 ^ shape.precision → m < 2 ^ 125
+significand_small shape m f =
+    let l = shape.parameters.precision_high in
+    let a : 2 ^ shape.precision ≤ 2 ^ 125 = pow-le-pow_right two_pos l in
+    omega (arith, a, f)
+
 -- a stored number represents its quanta
 pub number_of : (shape : Shape) (m : ℕ) (e : ℤ) (n : ℕ) → IsOperandAt shape.precision shape.min_exp shape.max_exp m e
     → IsQuantaAt shape.min_exp m e n → n ≤ largest (format_at shape) → IsNormalAt shape m e
 number_of shape m e n o q l =
     record { operand = o; whole = whole_is shape.min_exp m e n q; within = rw (quanta_is shape.min_exp m e n q) l }
 
--- ---- data times a power of two
-
--- a datum that was scaled with its status was scaled
-pub scaling_is : (format : Format) (mode : Round) (x : Datum) (j : ℤ) (value : Datum) (status : ℕ)
-    → IsScaled format mode x j value status → IsScaling format mode x j value
-scaling_is format mode (nan b s) j value status h = h.value_is
-scaling_is format mode (infinite b) j value status h = h.value_is
-scaling_is format mode (finite b n) j value status h = (status, h)
+-- ---- a zero times a power of two
 
 -- a zero times a power of two is that zero
+pub zero_scaled : (format : Format) (mode : Round) (negative : Bool) (j : ℤ)
+    → negative ≡ zero_sign format.nonfinite negative
+    → IsScaling format mode (finite negative 0) j (finite negative 0)
+zero_scaled format mode negative j z =
+    subst (λ (b : Bool). IsScaling format mode (finite negative 0) j (finite b 0)) (sym z)
+    (scaling_zero format mode negative j)
+
+-- the same with its status
 pub zero_scaled_ok : (format : Format) (mode : Round) (negative : Bool) (j : ℤ)
     → negative ≡ zero_sign format.nonfinite negative
     → IsScaled format mode (finite negative 0) j (finite negative 0) ok_bits

@@ -127,6 +127,8 @@ fn convert_apart(from: Shape, into: Shape, x: Unpacked, round: Round) -> Convert
     ensures stored { IsStored into result.answer.value }
     ensures converted { ConvertsAt into
         (IsConversion (format_at from) (format_at into) round (datum_at from x)) result }
+    ensures exact { ConvertsAt into
+        (IsExactlyConverted (format_at from) (format_at into) (datum_at from x)) result }
 {
     match x.category {
         Category::Normal => converted_number(from, into, x, round),
@@ -144,6 +146,8 @@ fn convert_other(from: Shape, into: Shape, x: Unpacked, round: Round) -> Convert
     ensures stored { IsStored into result.answer.value }
     ensures converted { ConvertsAt into
         (IsConversion (format_at from) (format_at into) round (datum_at from x)) result }
+    ensures exact { ConvertsAt into
+        (IsExactlyConverted (format_at from) (format_at into) (datum_at from x)) result }
 {
     let converted = convert_apart(from.remade(), into.remade(), x.remade(), round);
     Converted {

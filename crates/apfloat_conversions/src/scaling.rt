@@ -76,7 +76,12 @@ pub fn scaled(shape: Shape, x: Unpacked, places: ExpInt, round: Round) -> Unpack
     ensures scaled { IsScaling (format_at shape) round (datum_at shape x) places
         (datum_at shape result) }
 {
-    scaled_with_status(shape, x, places, round).value
+    match x.category {
+        Category::Normal => scale_number(shape, x, places, round).value,
+        Category::NaN => propagated(shape, x).value,
+        Category::Zero => x,
+        _ => x,
+    }
 }
 
 /// A value times 2 to the power of `places`, rounded once, with its status (IEEE 754-2019 5.3.3, scaleB).

@@ -1,12 +1,9 @@
 -- Counts that saturate where larger ones make no difference, and the faults of the texts that they count.
-use Rattle.std.specs.Prelude.{◌≡◌, ◌⊎◌, ℕ, ◌+◌, ◌*◌, ◌^◌, ◌<◌, ◌≤◌, ℤ, pos, neg_ℤ, ◌≤ℤ◌, Bool, not, ◌&&◌, if◌then◌else◌, List, fold, drop, Option, Some, None}
-use Rattle.std.specs.Prelude.{Result, MatchResult}
+use Rattle.std.specs.Prelude.{◌≡◌, ◌⊎◌, ℕ, ◌+◌, ◌*◌, ◌^◌, ◌<◌, ◌≤◌, ℤ, pos, neg_ℤ, ◌≤ℤ◌, Bool, not, ◌&&◌, if◌then◌else◌, List, fold, Option, Some}
 use Rattle.apfloat_model.specs.declared.parse_error.Fault.{Fault}
 use Rattle.apfloat_model.specs.declared.parse_error.Fault.TheVariants.{WrongInSignificand, NoDigits}
 use Rattle.apfloat_model.specs.texts.Digits.{every, begins, is_empty, is_decimal, digit_value, number}
 use Rattle.apfloat_model.specs.texts.Faults.{is_p, tail_fault}
-use Rattle.apfloat_model.specs.texts.Literals.{exponent_number}
-use Rattle.apfloat_model.specs.rounding.Bounds.{IsWithin}
 
 -- from this bound on, counts are not increased any further
 abbrev pub far_bound : ℕ
@@ -25,13 +22,6 @@ abbrev pub IsNear : ℕ → ℤ → ℤ → Type 0
 IsNear bound exact near =
     (near ≡ exact) ⊎ (((pos bound ≤ℤ near) × (pos bound ≤ℤ exact))
     ⊎ ((near ≤ℤ neg_ℤ (pos bound)) × (exact ≤ℤ neg_ℤ (pos bound))))
-
--- the exponent written after the first character of a text, as far as it matters; or that fault
-abbrev pub IsExponentUnless : Option Fault → List ℕ → Result ℤ Fault → Type 0
-IsExponentUnless fault tail result =
-    MatchResult result
-    (λ e. IsNear far_bound (exponent_number (drop 1 tail)) e × IsWithin count_bound e × (fault ≡ None))
-    (λ found. fault ≡ Some found)
 
 -- the integer whose first decimal digits have the value n and are followed by these digits
 abbrev pub decimal_from : ℕ → List ℕ → ℕ

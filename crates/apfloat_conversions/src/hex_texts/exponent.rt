@@ -1,13 +1,12 @@
 //! The exponent of a hexadecimal text: the written one counts from the dot, the returned one from the last digit.
 
-ghost use Rattle.std.specs.Prelude.{◌≡◌, ℕ, ◌+◌, ◌*◌, ◌<◌, ℤ, pos, ◌+ℤ◌, ◌-ℤ◌, Some, None, MatchResult};
+ghost use Rattle.std.specs.Prelude.{◌≡◌, ℕ, ◌+◌, ◌*◌, ◌<◌, ℤ, pos, ◌+ℤ◌, ◌-ℤ◌, ◌≤ℤ◌, drop, Some, None, MatchResult};
 ghost use Rattle.apfloat_model.specs.rounding.Bounds.{IsWithin, text_bound};
 ghost use Rattle.apfloat_model.specs.texts.Digits.{number};
 ghost use Rattle.apfloat_model.specs.texts.Specials.{after_mark};
 ghost use Rattle.apfloat_model.specs.texts.Faults.{exponent_fault};
 ghost use Rattle.apfloat_model.specs.texts.Literals.{exponent_number};
-ghost use Rattle.apfloat_conversions.specs.hex_texts.Saturation.{IsExponentUnless, IsNear, IsSaturated, fault_after};
-ghost use Rattle.apfloat_conversions.specs.hex_texts.Saturation.{count_bound, far_bound};
+ghost use Rattle.apfloat_conversions.specs.hex_texts.Saturation.{IsSaturated, IsNear, count_bound, far_bound, fault_after};
 
 use crate::hex_texts::characters::{digit_value, is_decimal};
 use crate::hex_texts::mark::split_mark;
@@ -81,7 +80,10 @@ pub fn signed_number(text: &[u8]) -> Result<i128, Fault>
 /// has a digit.
 #[inline(always)]
 pub fn exponent_in(tail: &[u8], some: bool) -> Result<i128, Fault>
-    ensures { IsExponentUnless (fault_after some tail.now) tail.now result }
+    ensures { MatchResult result (λ e. IsNear far_bound (exponent_number (drop 1 tail.now)) e
+        × IsWithin count_bound e
+        × (fault_after some tail.now ≡ None))
+        (λ fault. fault_after some tail.now ≡ Some fault) }
 {
     match tail {
         [b'p' | b'P', exponent @ ..] if some => signed_number(exponent),

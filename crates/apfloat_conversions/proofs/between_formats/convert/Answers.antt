@@ -15,8 +15,3 @@ returns-in-Normal-clause-exact c =
     c.requires c.converted_number.ensures.converted in
     exactly_converted (format_at c.args.from) (format_at c.args.into) c.args.round (datum_at c.args.from c.args.x) _
     _ _ h
-
-pub returns-in_default-clause-exact : goal.returns-in_default-clause-exact
-returns-in_default-clause-exact c =
-    exactly_converted (format_at c.args.from) (format_at c.args.into) c.args.round (datum_at c.args.from c.args.x) _
-    _ _ c.convert_other.ensures.converted
