@@ -41,10 +41,7 @@ quotient_of-answer-requires-clause-finite g c =
     (values_at k c.args.width c.args.values.now c.args.first (length c.args.codes.now) index c.loop-index-test.true)
 
 pub with-counts-requires : goal.with-counts-requires
-with-counts-requires g c =
-    let so_far = c.loop-index.invariant in
-    let size = so_far.flags_size in
-    room_for so_far.flags c.loop-index.counts so_far.counted (omega (arith, size, c.loop-index-test.true))
+with-counts-requires g c = room_for c.loop-index.invariant (omega (arith, c.loop-index-test.true))
 
 pub loop-index-preserved : goal.loop-index-preserved
 loop-index-preserved g c =
@@ -61,12 +58,11 @@ loop-index-preserved g c =
     (λ (n : ℕ). AreWritten Holds (index + 1) (values_in k c.args.width c.args.values.now c.args.first n)
     (slice_set codes index y) c.with-counts.result)
     (sym (length_set codes index y))
-    (one_written Holds index (values_in k c.args.width c.args.values.now c.args.first (length codes)) codes
-    c.loop-index.counts c.with-counts.result (value_in k c.args.width c.args.values.now (c.args.first + index)) y
-    status before (values_at k c.args.width c.args.values.now c.args.first (length codes) index before)
+    (one_written c.loop-index.invariant (value_in k c.args.width c.args.values.now (c.args.first + index)) y status
+    before (values_at k c.args.width c.args.values.now c.args.first (length codes) index before)
     (subst (λ (n : ℕ). Holds (value_of k n) y status) c.bits_at-bits.ensures
     (c.quotient_of-answer.ensures c.args.scale c.power_of-power.ensures.value))
-    c.with-counts.ensures c.loop-index.invariant)
+    c.with-counts.ensures)
 
 pub returns : goal.returns
 returns g c =
@@ -77,12 +73,9 @@ returns g c =
     let size : length codes ≡ length c.args.codes.now = c.loop-index.auto.codes in
     let last : c.loop-index.index ≡ length codes =
     omega (arith, size, c.loop-index-test.false, c.loop-index.auto.index-end) in
-    let xs : List Datum = values_in k c.args.width c.args.values.now c.args.first (length codes) in
-    let many : length xs ≡ length codes =
-    values_length k c.args.width c.args.values.now c.args.first (length codes) in
+    let many = sym (values_length k c.args.width c.args.values.now c.args.first (length codes)) in
     subst
     (λ (n : ℕ). AreCounted Holds (values_in k c.args.width c.args.values.now c.args.first n) codes
     c.loop-index.counts)
     size
-    (all_written Holds xs codes c.loop-index.counts (sym many)
-    (subst (λ (n : ℕ). AreWritten Holds n xs codes c.loop-index.counts) (last ∙ sym many) c.loop-index.invariant))
+    (all_written c.loop-index.invariant (last ∙ many) many)
