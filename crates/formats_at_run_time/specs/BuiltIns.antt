@@ -1,11 +1,11 @@
 -- The built-in kinds of values, with their words and codes.
-use Rattle.std.specs.Prelude.{◌≡◌, ℕ, ◌==◌, nat_lt, Bool, true, if◌then◌else◌, List, [], ◌∷◌, codes, Option, Some, None}
+use Rattle.std.specs.Prelude.{◌≡◌, ℕ, nat_lt, true, List, [], ◌∷◌, codes, Option, Some, None}
 use Rattle.std.proofs.Common.{refl}
-use Rattle.rustc_apfloat.specs.Digits.{same}
 use Rattle.rustc_apfloat.specs.Lawful.{Constants, IsLawful}
 use Rattle.rustc_apfloat.proofs.LawTest.{lawful_from_test}
 use Rattle.rustc_apfloat.specs.Formats.{half_constants, single_constants, double_constants, quad_constants, bfloat_constants, e5m2_constants, e4m3fn_constants, e4m3fnuz_constants, x87_constants}
 use Rattle.rustc_apfloat.specs.Formats.{e4m3_constants, e5m2fnuz_constants, e4m3b11fnuz_constants, tf32_constants}
+use Rattle.formats_at_run_time.specs.Rows.{Row, row, named, coded}
 use Rattle.formats_at_run_time.specs.ValueKinds.{Kind, of_format, of_pairs}
 use Rattle.formats_at_run_time.specs.declared.built_in.BuiltInFormat.{BuiltInFormat}
 use Rattle.formats_at_run_time.specs.declared.built_in.BuiltInFormat.TheVariants.{Half, Single, Double, Quad, BFloat, E5M2, E4M3FN, E4M3FNUZ, X87, E4M3, E5M2FNUZ, E4M3B11FNUZ, TF32}
@@ -43,16 +43,7 @@ abbrev pub kind_of : BuiltInKind → Kind
 kind_of (OfFormat format) = of_format (constants_in format)
 kind_of Pairs = of_pairs
 
--- a kind of values, its word and its code
-pub record KindRow : Type 0 where
-  pub kind : BuiltInKind
-  pub word : List ℕ
-  pub code : ℕ
-
-abbrev row : BuiltInKind → List ℕ → ℕ → KindRow
-row kind word code = record { kind = kind; word = word; code = code }
-
-abbrev pub kinds : List KindRow
+abbrev pub kinds : List (Row BuiltInKind)
 kinds =
     row (OfFormat Half) (codes "half") 1
     ∷ row (OfFormat Single) (codes "single") 2
@@ -70,16 +61,11 @@ kinds =
     ∷ row (OfFormat TF32) (codes "tf32") 19
     ∷ []
 
--- the kind of the first row that passes the test
-abbrev pub first_kind : (KindRow → Bool) → List KindRow → Option BuiltInKind
-first_kind test [] = None
-first_kind test (row ∷ rows) = if test row then Some row.kind else first_kind test rows
-
 abbrev pub kind_named : List ℕ → Option BuiltInKind
-kind_named word = first_kind (λ (row : KindRow). same word row.word) kinds
+kind_named word = named kinds word
 
 abbrev pub kind_coded : ℕ → Option BuiltInKind
-kind_coded code = first_kind (λ (row : KindRow). code == row.code) kinds
+kind_coded code = coded kinds code
 
 -- the format of a kind, if it is one
 abbrev pub format_in : BuiltInKind → Option BuiltInFormat

@@ -1,6 +1,7 @@
 pub mod ValueKinds
 pub mod FormatKinds
 pub mod Limits
+pub mod Rows
 pub mod BuiltIns
 pub mod CommandKinds
 pub mod FlaggedKinds

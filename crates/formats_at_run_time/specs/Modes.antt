@@ -1,18 +1,10 @@
 -- The words and the codes of the rounding modes.
-use Rattle.std.specs.Prelude.{ℕ, ◌==◌, Bool, if◌then◌else◌, List, [], ◌∷◌, codes, Option, Some, None}
-use Rattle.rustc_apfloat.specs.Digits.{same}
+use Rattle.std.specs.Prelude.{ℕ, List, [], ◌∷◌, codes, Option}
 use Rattle.rustc_apfloat.specs.declared.Round.{Round}
 use Rattle.rustc_apfloat.specs.declared.Round.TheVariants.{NearestTiesToEven, TowardPositive, TowardNegative, TowardZero, NearestTiesToAway}
+use Rattle.formats_at_run_time.specs.Rows.{Row, row, named, coded}
 
-pub record ModeRow : Type 0 where
-  pub mode : Round
-  pub word : List ℕ
-  pub code : ℕ
-
-abbrev row : Round → List ℕ → ℕ → ModeRow
-row mode word code = record { mode = mode; word = word; code = code }
-
-abbrev pub modes : List ModeRow
+abbrev pub modes : List (Row Round)
 modes =
     row NearestTiesToEven (codes "even") 0
     ∷ row TowardPositive (codes "up") 1
@@ -21,13 +13,8 @@ modes =
     ∷ row NearestTiesToAway (codes "away") 4
     ∷ []
 
--- the mode of the first row that passes a test
-abbrev pub first_mode : (ModeRow → Bool) → List ModeRow → Option Round
-first_mode test [] = None
-first_mode test (row ∷ rows) = if test row then Some row.mode else first_mode test rows
-
 abbrev pub mode_named : List ℕ → Option Round
-mode_named word = first_mode (λ (row : ModeRow). same word row.word) modes
+mode_named word = named modes word
 
 abbrev pub mode_coded : ℕ → Option Round
-mode_coded code = first_mode (λ (row : ModeRow). code == row.code) modes
+mode_coded code = coded modes code
