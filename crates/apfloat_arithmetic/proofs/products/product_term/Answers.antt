@@ -14,7 +14,7 @@ returns c =
     let factors = c.factors_of-factors.ensures in
     let product = c.raised_product-product in
     is_product_term c.args.shape _ _ _ _ c.factors_of-factors.result.exponent c.far_lowered.result _ _
-    product.result.significand product.result.moved c.requires.normal.left c.requires.normal.right factors.negative factors.exponent
-    (omega (arith, ints, factors.within, c.far_lowered.ensures.value))
+    product.result.significand product.result.moved c.requires.normal.left c.requires.normal.right factors.negative
+    factors.exponent (omega (arith, ints, factors.within, c.far_lowered.ensures.value))
     (rw (factors.left, factors.right) at product.ensures.value) c.far_lowered.ensures.within product.ensures.fits
     product.ensures.full

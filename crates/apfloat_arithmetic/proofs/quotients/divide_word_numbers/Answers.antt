@@ -32,15 +32,18 @@ close : (c : After-word_quotient_of)
     → IsClose c.args.x.significand c.args.y.significand c.args.shape.precision c.places_up-up.result
 close c =
     close_at c.args.shape c.args.x.significand c.args.y.significand c.places_up-up.result c.args.x.exponent
-    c.args.y.exponent c.requires.normal.left c.requires.normal.right c.places_up-up.ensures.less c.places_up-up.ensures.close
+    c.args.y.exponent c.requires.normal.left c.requires.normal.right
+    c.places_up-up.ensures.less c.places_up-up.ensures.close
 
 pub overflow_cast-dividend : goal.overflow_cast-dividend
 overflow_cast-dividend c =
-    record { fits = in_word c.args.x.significand c.args.shape.precision c.requires.short c.requires.normal.left.operand.fits }
+    let s = c.args.shape in
+    record { fits = in_word c.args.x.significand s.precision c.requires.short c.requires.normal.left.operand.fits }
 
 pub overflow_cast-divisor : goal.overflow_cast-divisor
 overflow_cast-divisor c =
-    record { fits = in_word c.args.y.significand c.args.shape.precision c.requires.short c.requires.normal.right.operand.fits }
+    let s = c.args.shape in
+    record { fits = in_word c.args.y.significand s.precision c.requires.short c.requires.normal.right.operand.fits }
 
 pub word_quotient_of-requires-clause-some : goal.word_quotient_of-requires-clause-some
 word_quotient_of-requires-clause-some c = omega (arith, c.args.shape.parameters.precision_low)
@@ -104,8 +107,8 @@ deliver_counted_word-requires-clause-fits c =
     let s = c.args.shape in
     let b = moved_close c.args.x.significand c.args.y.significand s.precision c.places_up-up.result (close state) in
     let f = odd_quotient_fits c.word_quotient_of.result (c.args.x.significand * 2 ^ c.places_up-up.result)
-    c.args.y.significand (s.precision + 1) (normal_some s c.args.y.significand c.args.y.exponent c.requires.normal.right) b.1
-    (quotient state) in
+    c.args.y.significand (s.precision + 1)
+    (normal_some s c.args.y.significand c.args.y.exponent c.requires.normal.right) b.1 (quotient state) in
     let e : c.args.shape.precision + 1 + 1 ≡ c.args.shape.precision + 2 = omega arith in
     rw e at f
 
@@ -115,8 +118,8 @@ deliver_counted_word-requires-clause-full c =
     let s = c.args.shape in
     let b = moved_close c.args.x.significand c.args.y.significand s.precision c.places_up-up.result (close state) in
     odd_quotient_long c.word_quotient_of.result (c.args.x.significand * 2 ^ c.places_up-up.result)
-    c.args.y.significand (s.precision + 1) (normal_some s c.args.y.significand c.args.y.exponent c.requires.normal.right) b.0
-    (quotient state)
+    c.args.y.significand (s.precision + 1)
+    (normal_some s c.args.y.significand c.args.y.exponent c.requires.normal.right) b.0 (quotient state)
 
 pub returns-clause-delivered : goal.returns-clause-delivered
 returns-clause-delivered c =

@@ -23,4 +23,5 @@ returns-in-Zero-clause-delivered c =
     (finite z.negative 0) v i i (datum_is Zero s z c.in-Zero.is) refl refl
     (product_rounded (format_at s) c.args.round x.negative y.negative z.negative l m v i
     (quanta_some s x.significand x.exponent c.requires.normal.left)
-    (quanta_some s y.significand y.exponent c.requires.normal.right) c.multiply_numbers_at_every_precision.ensures.delivered)
+    (quanta_some s y.significand y.exponent c.requires.normal.right)
+    c.multiply_numbers_at_every_precision.ensures.delivered)

@@ -43,4 +43,5 @@ returns-clause-delivered c =
     ) at c.add_u128_terms-total.ensures.rounded in
     total_delivered _ _ _ _ _ _ _ _ _ _ _ (omega arith)
     (sum_total c.args.shape 125 127 _ _ _ _ _ _ _ _ _ _ _ (omega (arith, c.requires.short)) c.requires.normal.left
-    c.requires.normal.right c.full_term.ensures.exponent c.full_term-2.ensures.exponent g) c.deliver_total.ensures.delivered
+    c.requires.normal.right c.full_term.ensures.exponent c.full_term-2.ensures.exponent g)
+    c.deliver_total.ensures.delivered

@@ -61,5 +61,5 @@ returns-clause-delivered c =
     ) at c.add_wide_terms-total.ensures.rounded in
     total_delivered _ _ _ _ _ _ _ _ _ _ _ (omega arith)
     (sum_total c.args.shape 127 253 _ _ _ _ _ _ _ _ _ _ _ (omega (arith, c.args.shape.parameters.precision_high))
-    c.requires.normal.left
-    c.requires.normal.right c.full_term.ensures.exponent c.full_term-2.ensures.exponent g) c.deliver_total.ensures.delivered
+    c.requires.normal.left c.requires.normal.right c.full_term.ensures.exponent c.full_term-2.ensures.exponent g)
+    c.deliver_total.ensures.delivered
