@@ -22,7 +22,7 @@ use apfloat_base::{Round, StatusAnd};
 
 /// A value, as an operation that delivers in the format `T` sees it.
 #[inline]
-fn operand_of<T: Flagged, S: Flagged>(x: IeeeFloat<S>) -> Operand
+fn seen<T: Flagged, S: Flagged>(x: IeeeFloat<S>) -> Operand
     ensures operand { IsOperand (shape_of T.Flagged) result }
     ensures is { StandsFor (shape_of T.Flagged)
         (seen (format_of S.Flagged) (format_of T.Flagged) x) result }
@@ -39,12 +39,7 @@ pub fn add<T: Flagged, S: Flagged, R: Flagged>(
     ensures { Gives (IsSumTo (format_of S.Flagged) (format_of R.Flagged) (format_of T.Flagged)
         round x y) result }
 {
-    IeeeFloat::answered(sums::add(
-        shape_of::<T>(),
-        operand_of::<T, S>(x),
-        operand_of::<T, R>(y),
-        round,
-    ))
+    IeeeFloat::answered(sums::add(shape_of::<T>(), seen::<T, S>(x), seen::<T, R>(y), round))
 }
 
 /// `x - y` in the format `T`, rounded once.
@@ -56,12 +51,7 @@ pub fn subtract<T: Flagged, S: Flagged, R: Flagged>(
     ensures { Gives (IsDifferenceTo (format_of S.Flagged) (format_of R.Flagged)
         (format_of T.Flagged) round x y) result }
 {
-    IeeeFloat::answered(sums::subtract(
-        shape_of::<T>(),
-        operand_of::<T, S>(x),
-        operand_of::<T, R>(y),
-        round,
-    ))
+    IeeeFloat::answered(sums::subtract(shape_of::<T>(), seen::<T, S>(x), seen::<T, R>(y), round))
 }
 
 /// `x * y` in the format `T`, rounded once.
@@ -75,8 +65,8 @@ pub fn multiply<T: Flagged, S: Flagged, R: Flagged>(
 {
     IeeeFloat::answered(products::multiply(
         shape_of::<T>(),
-        operand_of::<T, S>(x),
-        operand_of::<T, R>(y),
+        seen::<T, S>(x),
+        seen::<T, R>(y),
         round,
     ))
 }
@@ -90,19 +80,14 @@ pub fn divide<T: Flagged, S: Flagged, R: Flagged>(
     ensures { Gives (IsQuotientTo (format_of S.Flagged) (format_of R.Flagged) (format_of T.Flagged)
         round x y) result }
 {
-    IeeeFloat::answered(quotients::divide(
-        shape_of::<T>(),
-        operand_of::<T, S>(x),
-        operand_of::<T, R>(y),
-        round,
-    ))
+    IeeeFloat::answered(quotients::divide(shape_of::<T>(), seen::<T, S>(x), seen::<T, R>(y), round))
 }
 
 /// The square root of `x` in the format `T`, rounded once.
 pub fn square_root<T: Flagged, S: Flagged>(x: IeeeFloat<S>, round: Round) -> StatusAnd<IeeeFloat<T>>
     ensures { Gives (IsRootTo (format_of S.Flagged) (format_of T.Flagged) round x) result }
 {
-    IeeeFloat::answered(roots::square_root(shape_of::<T>(), operand_of::<T, S>(x), round))
+    IeeeFloat::answered(roots::square_root(shape_of::<T>(), seen::<T, S>(x), round))
 }
 
 /// `x * y + z` in the format `T`, rounded once.
@@ -117,9 +102,9 @@ pub fn multiply_add<T: Flagged, S: Flagged, R: Flagged, Q: Flagged>(
 {
     IeeeFloat::answered(fused::multiply_add(
         shape_of::<T>(),
-        operand_of::<T, S>(x),
-        operand_of::<T, R>(y),
-        operand_of::<T, Q>(z),
+        seen::<T, S>(x),
+        seen::<T, R>(y),
+        seen::<T, Q>(z),
         round,
     ))
 }
