@@ -1,5 +1,4 @@
-//! The formats of the most digits that have products (`mul_r`) and fused sums (`mul_add_r`): with one digit more, these
-//! calls are refused.
+//! The format of the most digits that has products (`mul_r`): with one digit more, the call is refused.
 
 ghost use Rattle.std.specs.Prelude.{pos, negsuc, false, refl};
 ghost use Rattle.apfloat_model.specs.declared.kinds.NonfiniteBehavior.TheVariants.{NanNegativeZero};
@@ -68,78 +67,10 @@ impl Semantics for WidestProductsS {
     ghost lawful = { lawful_from_test _ refl };
 }
 
-/// 63 digits, the most for which there are fused sums.
-#[derive(Clone, Copy)]
-pub struct WidestFusedSumsS;
-
-impl Semantics for WidestFusedSumsS {
-    const BITS: usize = 0;
-
-    const EXP_BITS: usize = 0;
-
-    const PRECISION: usize = 63;
-
-    const NONFINITE_BEHAVIOR: NonfiniteBehavior = NonfiniteBehavior::NanNegativeZero;
-
-    const MAX_EXP: ExpInt = 100;
-
-    const IEEE_MAX_EXP: ExpInt = 0;
-
-    const MIN_EXP: ExpInt = -99;
-
-    const IEEE_MIN_EXP: ExpInt = 0;
-
-    const NAN_SIGNIFICAND_BASE: u128 = 0;
-
-    const NAN_PAYLOAD_MASK: u128 = 0;
-
-    const QNAN_SIGNIFICAND: u128 = 0;
-
-    const EXPLICIT_INTEGER_BIT: bool = false;
-
-    const TINY_BEFORE_ROUNDING: bool = false;
-
-    ghost BITS = { 0 };
-
-    ghost EXP_BITS = { 0 };
-
-    ghost PRECISION = { 63 };
-
-    ghost NONFINITE_BEHAVIOR = { NanNegativeZero };
-
-    ghost MAX_EXP = { pos 100 };
-
-    ghost IEEE_MAX_EXP = { pos 0 };
-
-    ghost MIN_EXP = { negsuc 98 };
-
-    ghost IEEE_MIN_EXP = { pos 0 };
-
-    ghost NAN_SIGNIFICAND_BASE = { 0 };
-
-    ghost NAN_PAYLOAD_MASK = { 0 };
-
-    ghost QNAN_SIGNIFICAND = { 0 };
-
-    ghost EXPLICIT_INTEGER_BIT = { false };
-
-    ghost TINY_BEFORE_ROUNDING = { false };
-
-    ghost lawful = { lawful_from_test _ refl };
-}
-
 /// The square of a value, in the format of the most digits that has products.
 pub fn square(
     x: IeeeFloat<WidestProductsS>,
     round: Round,
 ) -> StatusAnd<IeeeFloat<WidestProductsS>> {
     x.mul_r(x, round)
-}
-
-/// The square of a value plus the value itself, in the format of the most digits that has fused sums.
-pub fn square_and_itself(
-    x: IeeeFloat<WidestFusedSumsS>,
-    round: Round,
-) -> StatusAnd<IeeeFloat<WidestFusedSumsS>> {
-    x.mul_add_r(x, x, round)
 }

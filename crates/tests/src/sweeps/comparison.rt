@@ -1,13 +1,13 @@
 //! The library's roundings compared with the plain program's.
 
-ghost use Rattle.std.specs.Prelude.{◌*◌, ◌^◌, ◌<◌, ◌≤◌, pos, negsuc, ◌≤ℤ◌};
+ghost use Rattle.std.specs.Prelude.{◌≡◌, ◌*◌, ◌^◌, ◌<◌, ◌≤◌, true};
 ghost use Rattle.rustc_apfloat.specs.FlaggedTypes.{format_of};
-ghost use Rattle.conformance.specs.Plain.{HasBounds};
+ghost use Rattle.tests.specs.Subjects.{IsSubject};
 
 use crate::asserts::same;
 use crate::sweeps::small::magnitude_bits;
 use crate::sweeps::tables::MODES;
-use commands::custom_formats::{HalfTinyBeforeS, SevenS};
+use commands::custom_formats::SevenS;
 use conformance::plain::{Bounds, RoundedValue, deliver};
 use rustc_apfloat::ieee::{Flagged, Half, HalfS, IeeeFlags, Loss, NonfiniteBehavior, TinyBefore};
 use rustc_apfloat::{ExpInt, Float, Round, ieee};
@@ -38,40 +38,12 @@ const HALF: Subject = Subject {
     infinity: 0x7c00,
 };
 
-const HALF_TINY_BEFORE: Subject = Subject {
-    bounds: Bounds {
-        precision: 11,
-        largest: 65504 << 24,
-        smallest_normalized: 1 << 10,
-        tiny_before_rounding: true,
-        ieee_flags: false,
-        nonfinite: NonfiniteBehavior::IEEE754,
-    },
-    exponent: -27,
-    minus: 0x8000,
-    infinity: 0x7c00,
-};
-
 const HALF_IEEE: Subject = Subject {
     bounds: Bounds {
         precision: 11,
         largest: 65504 << 24,
         smallest_normalized: 1 << 10,
         tiny_before_rounding: false,
-        ieee_flags: true,
-        nonfinite: NonfiniteBehavior::IEEE754,
-    },
-    exponent: -27,
-    minus: 0x8000,
-    infinity: 0x7c00,
-};
-
-const HALF_IEEE_TINY_BEFORE: Subject = Subject {
-    bounds: Bounds {
-        precision: 11,
-        largest: 65504 << 24,
-        smallest_normalized: 1 << 10,
-        tiny_before_rounding: true,
         ieee_flags: true,
         nonfinite: NonfiniteBehavior::IEEE754,
     },
@@ -115,13 +87,7 @@ fn sign_bit(subject: Subject, negative: bool) -> u128 {
 /// sign.
 fn compare<S: Flagged>(rt: &impl Abort, subject: Subject, eighths: u128)
     requires written { S.PRECISION < S.BITS }
-    requires bounds { HasBounds (format_of S.Flagged) subject.bounds }
-    requires some_digits { 3 ≤ subject.bounds.precision }
-    requires few_digits { subject.bounds.precision ≤ 60 }
-    requires some_normalized { 0 < subject.bounds.smallest_normalized }
-    requires few_normalized { subject.bounds.smallest_normalized < 2 ^ 60 }
-    requires far { negsuc 99 ≤ℤ subject.exponent }
-    requires near { subject.exponent ≤ℤ pos 0 }
+    requires subject { IsSubject (format_of S.Flagged) subject.bounds subject.exponent }
     requires eighths { eighths < 2 ^ 60 }
 {
     compare_parts::<S>(rt, subject, eighths, 8);
@@ -130,13 +96,7 @@ fn compare<S: Flagged>(rt: &impl Abort, subject: Subject, eighths: u128)
 /// The same for `amount / parts` quanta; the exponent of the subject is that of one part.
 fn compare_parts<S: Flagged>(rt: &impl Abort, subject: Subject, amount: u128, parts: u128)
     requires written { S.PRECISION < S.BITS }
-    requires bounds { HasBounds (format_of S.Flagged) subject.bounds }
-    requires some_digits { 3 ≤ subject.bounds.precision }
-    requires few_digits { subject.bounds.precision ≤ 60 }
-    requires some_normalized { 0 < subject.bounds.smallest_normalized }
-    requires few_normalized { subject.bounds.smallest_normalized < 2 ^ 60 }
-    requires far { negsuc 99 ≤ℤ subject.exponent }
-    requires near { subject.exponent ≤ℤ pos 0 }
+    requires subject { IsSubject (format_of S.Flagged) subject.bounds subject.exponent }
     requires amount { amount < 2 ^ 60 }
     requires some_parts { 0 < parts }
     requires few_parts { parts ≤ 16 }
@@ -206,24 +166,32 @@ fn threshold_of_overflow(rt: HostRuntime) {
 /// Compares denormal results and the first normal ones.
 fn compare_denormals<S: Flagged>(rt: &impl Abort, subject: Subject)
     requires written { S.PRECISION < S.BITS }
-    requires bounds { HasBounds (format_of S.Flagged) subject.bounds }
-    requires some_digits { 3 ≤ subject.bounds.precision }
-    requires few_digits { subject.bounds.precision ≤ 60 }
-    requires some_normalized { 0 < subject.bounds.smallest_normalized }
-    requires few_normalized { subject.bounds.smallest_normalized < 2 ^ 60 }
-    requires far { negsuc 99 ≤ℤ subject.exponent }
-    requires near { subject.exponent ≤ℤ pos 0 }
+    requires subject { IsSubject (format_of S.Flagged) subject.bounds subject.exponent }
 {
     for eighths in 0..0x2800u64 {
         compare::<S>(rt, subject, u128::from(eighths));
     }
 }
 
+/// The format with tininess detected before rounding.
+fn tiny_before(subject: Subject) -> Subject
+    ensures { result
+        ≡ record subject { bounds = record subject.bounds { tiny_before_rounding = true } } }
+{
+    Subject {
+        bounds: Bounds {
+            tiny_before_rounding: true,
+            ..subject.bounds
+        },
+        ..subject
+    }
+}
+
 #[test]
 fn denormals_by_other_rules_of_flags(rt: HostRuntime) {
-    compare_denormals::<HalfTinyBeforeS>(&rt, HALF_TINY_BEFORE);
+    compare_denormals::<TinyBefore<HalfS>>(&rt, tiny_before(HALF));
     compare_denormals::<IeeeFlags<HalfS>>(&rt, HALF_IEEE);
-    compare_denormals::<IeeeFlags<TinyBefore<HalfS>>>(&rt, HALF_IEEE_TINY_BEFORE);
+    compare_denormals::<IeeeFlags<TinyBefore<HalfS>>>(&rt, tiny_before(HALF_IEEE));
 }
 
 /// Sixteenths of a quantum around the smallest normalized value, and the largest value in each mode.

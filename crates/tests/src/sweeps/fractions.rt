@@ -8,9 +8,7 @@ use crate::sweeps::small::{
     Class, Small, decoded, layout_of, magnitude_bits, patterns_of, quieted, sign_bit,
 };
 use crate::sweeps::tables::MODES;
-use rustc_apfloat::ieee::{
-    Float8E4M3FNS, Float8E4M3FNUZS, Float8E5M2S, HalfS, IeeeFloat, Semantics,
-};
+use rustc_apfloat::ieee::{IeeeFloat, Semantics};
 use rustc_apfloat::{ExpInt, Float, IEK_INF, IEK_NAN, IEK_ZERO, Round};
 use std::process::Abort;
 
@@ -82,7 +80,7 @@ fn check<S: Semantics>(rt: &impl Abort, format: Small, mode: Round, bits: u128)
 }
 
 /// Every bit pattern of a format, in each mode.
-fn check_all<S: Semantics>(rt: &impl Abort, format: Small)
+pub fn check_all<S: Semantics>(rt: &impl Abort, format: Small)
     requires { S.PRECISION < S.BITS }
 {
     for pattern in 0..patterns_of(format) {
@@ -90,16 +88,4 @@ fn check_all<S: Semantics>(rt: &impl Abort, format: Small)
             check::<S>(rt, format, mode, u128::from(pattern));
         }
     }
-}
-
-#[test]
-fn half(rt: HostRuntime) {
-    check_all::<HalfS>(&rt, Small::Half);
-}
-
-#[test]
-fn eight_bits(rt: HostRuntime) {
-    check_all::<Float8E5M2S>(&rt, Small::Float8E5M2);
-    check_all::<Float8E4M3FNS>(&rt, Small::Float8E4M3FN);
-    check_all::<Float8E4M3FNUZS>(&rt, Small::Float8E4M3FNUZ);
 }

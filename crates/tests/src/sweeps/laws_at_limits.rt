@@ -7,15 +7,14 @@ ghost use Rattle.rustc_apfloat.specs.Products.{product_limit};
 use crate::asserts::same;
 use crate::sweeps::tables::MODES;
 use commands::custom_formats::{
-    BroadS, DeepS, HalfTinyBeforeS, LeastFiniteS, LeastS, PreciseS, SevenS, TenS, VastS,
-    WrittenBitS,
+    BroadS, DeepS, FusedLimitS, LeastFiniteS, LeastS, PreciseS, SevenS, TenS, VastS, WrittenBitS,
 };
 use conformance::laws::{
     near_difference, opposite_products, sums_in_order, there_and_back, through_bits, through_value,
     up_and_down,
 };
-use conformance::widest::{WidestFusedSumsS, WidestProductsS};
-use rustc_apfloat::ieee::{IeeeFloat, NonfiniteBehavior, Semantics};
+use conformance::widest::WidestProductsS;
+use rustc_apfloat::ieee::{HalfS, IeeeFloat, NonfiniteBehavior, Semantics, TinyBefore};
 use rustc_apfloat::{Float, Status};
 use std::process::Abort;
 
@@ -223,45 +222,40 @@ fn check_values_and_bits<S: Semantics>(rt: &impl Abort)
     }
 }
 
+/// All laws, for a format of at most 64 digits without bits.
+fn check_without_bits<S: Semantics>(rt: &impl Abort)
+    requires { S.PRECISION ≤ product_limit }
+{
+    check_laws::<S>(rt);
+    check_products::<S>(rt);
+}
+
+/// All laws, for a format of at most 64 digits with bits.
+fn check_with_bits<S: Semantics>(rt: &impl Abort)
+    requires written { S.PRECISION < S.BITS }
+    requires products { S.PRECISION ≤ product_limit }
+{
+    check_without_bits::<S>(rt);
+    check_values_and_bits::<S>(rt);
+}
+
 #[test]
 fn formats_without_bits(rt: HostRuntime) {
-    check_laws::<LeastS>(&rt);
-    check_laws::<LeastFiniteS>(&rt);
-    check_laws::<DeepS>(&rt);
+    check_without_bits::<LeastS>(&rt);
+    check_without_bits::<LeastFiniteS>(&rt);
+    check_without_bits::<DeepS>(&rt);
+    check_without_bits::<WidestProductsS>(&rt);
     check_laws::<PreciseS>(&rt);
     check_laws::<VastS>(&rt);
-    check_laws::<WidestProductsS>(&rt);
-    check_laws::<WidestFusedSumsS>(&rt);
 }
 
 #[test]
 fn formats_with_bits(rt: HostRuntime) {
-    check_laws::<SevenS>(&rt);
-    check_laws::<HalfTinyBeforeS>(&rt);
-    check_laws::<TenS>(&rt);
-    check_laws::<WrittenBitS>(&rt);
+    check_with_bits::<SevenS>(&rt);
+    check_with_bits::<TinyBefore<HalfS>>(&rt);
+    check_with_bits::<TenS>(&rt);
+    check_with_bits::<WrittenBitS>(&rt);
+    check_with_bits::<FusedLimitS>(&rt);
     check_laws::<BroadS>(&rt);
-}
-
-/// Formats of at most 64 digits.
-#[test]
-fn products(rt: HostRuntime) {
-    check_products::<LeastS>(&rt);
-    check_products::<LeastFiniteS>(&rt);
-    check_products::<DeepS>(&rt);
-    check_products::<WidestProductsS>(&rt);
-    check_products::<WidestFusedSumsS>(&rt);
-    check_products::<SevenS>(&rt);
-    check_products::<HalfTinyBeforeS>(&rt);
-    check_products::<TenS>(&rt);
-    check_products::<WrittenBitS>(&rt);
-}
-
-#[test]
-fn values_through_bits(rt: HostRuntime) {
-    check_values_and_bits::<SevenS>(&rt);
-    check_values_and_bits::<HalfTinyBeforeS>(&rt);
-    check_values_and_bits::<TenS>(&rt);
-    check_values_and_bits::<WrittenBitS>(&rt);
     check_values_and_bits::<BroadS>(&rt);
 }

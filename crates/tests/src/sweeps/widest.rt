@@ -1,7 +1,9 @@
 //! Products and fused sums in the formats of the most digits that have them.
 
 use crate::asserts::same;
-use conformance::widest::{square, square_and_itself};
+use commands::custom_formats::FusedLimit;
+use conformance::wide::fused_sums;
+use conformance::widest::square;
 use rustc_apfloat::ieee::IeeeFloat;
 use rustc_apfloat::{Float, Round, Status};
 
@@ -19,8 +21,8 @@ fn products_of_64_digits(rt: HostRuntime) {
 
 #[test]
 fn fused_sums_of_63_digits(rt: HostRuntime) {
-    let x = IeeeFloat::from_u128((1 << 40) + 1).value;
-    let nearest = square_and_itself(x, Round::NearestTiesToEven);
+    let x = FusedLimit::from_u128((1 << 40) + 1).value;
+    let (nearest, _) = fused_sums(x, x, x, Round::NearestTiesToEven);
     same(
         &rt,
         (nearest.status, nearest.value.to_u128(128).value),
