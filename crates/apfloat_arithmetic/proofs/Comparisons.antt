@@ -151,7 +151,8 @@ beside_normal : (shape : Shape) (y : Unpacked) (negative : Bool) → IsStored sh
 beside_normal shape y b h e = number_beside y.category shape y b h e
 
 -- a stored number and a value on its side of 0 are two numbers of its sign
-pub beside_number : (negative : Bool) (shape : Shape) (x y : Unpacked) → x.category ≡ Normal → x.negative ≡ negative
+pub beside_number : (negative : Bool) (shape : Shape) (x y : Unpacked) → x.category ≡ Normal
+    → x.negative ≡ negative
     → IsStored shape x → IsStored shape y → side (datum_at shape x) ≡ side (datum_at shape y)
     → (IsNormal shape x) × (IsNormal shape y)
     × (int_cmp (signed negative (quanta_of shape x)) (signed negative (quanta_of shape y))

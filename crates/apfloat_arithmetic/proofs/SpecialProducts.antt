@@ -28,7 +28,8 @@ not_finite shape x (inl e) = subst (λ (k : Category). is_finite (datum_by k sha
 not_finite shape x (inr e) = subst (λ (k : Category). is_finite (datum_by k shape x) ≡ false) (sym e) refl
 
 -- an infinity or a NaN is no nonzero number, so not both values are
-pub not_both : (x y : Category) → ((x ≡ Infinity) ⊎ (x ≡ NaN)) ⊎ ((y ≡ Infinity) ⊎ (y ≡ NaN)) → x ≡ Normal
+pub not_both : (x y : Category) → ((x ≡ Infinity) ⊎ (x ≡ NaN)) ⊎ ((y ≡ Infinity) ⊎ (y ≡ NaN))
+    → x ≡ Normal
     → y ≡ Normal → ⊥
 not_both x y (inl (inl e)) f g = cc
 not_both x y (inl (inr e)) f g = cc

@@ -37,7 +37,8 @@ zero_product format mode b c sign m n value status e z h =
 
 -- a nonzero number times an infinity is an infinity, with no flag
 pub number_by_infinity : (s : Shape) (mode : Round) (x y : Unpacked) (sign : Bool) (value : Datum) (status : ℕ)
-    → x.category ≡ Normal → y.category ≡ Infinity → IsStored s x → sign ≡ product_sign x.negative y.negative
+    → x.category ≡ Normal → y.category ≡ Infinity → IsStored s x
+    → sign ≡ product_sign x.negative y.negative
     → IsAnswer (infinite sign) ok_bits value status
     → IsProduct (format_at s) mode (datum_at s x) (datum_at s y) value status
 number_by_infinity s mode x y sign value status d e stored g h =
@@ -46,7 +47,8 @@ number_by_infinity s mode x y sign value status d e stored g h =
 
 -- an infinity times a nonzero number is an infinity, with no flag
 pub infinity_by_number : (s : Shape) (mode : Round) (x y : Unpacked) (sign : Bool) (value : Datum) (status : ℕ)
-    → x.category ≡ Infinity → y.category ≡ Normal → IsStored s y → sign ≡ product_sign x.negative y.negative
+    → x.category ≡ Infinity → y.category ≡ Normal → IsStored s y
+    → sign ≡ product_sign x.negative y.negative
     → IsAnswer (infinite sign) ok_bits value status
     → IsProduct (format_at s) mode (datum_at s x) (datum_at s y) value status
 infinity_by_number s mode x y sign value status d e stored g h =

@@ -56,8 +56,8 @@ CountsSquares scale amount exponent significand =
     → significand * 2 ^ up (exponent -ℤ base) ≡ amount * 2 ^ k
 
 -- a term with that sign, of so many squares of the quantum, with twice the digits of the format
-pub record IsFusedTerm (s : Shape) (sign : Bool) (amount : ℕ) (is_negative : Bool) (exponent : ℤ) (significand : ℕ)
-    : Type 0 where
+pub record IsFusedTerm (s : Shape) (sign : Bool) (amount : ℕ) (is_negative : Bool)
+    (exponent : ℤ) (significand : ℕ) : Type 0 where
   pub negative : is_negative ≡ sign
   pub within : IsWithin integer_bit_bound exponent
   pub fits : significand < 2 ^ (2 * s.precision)

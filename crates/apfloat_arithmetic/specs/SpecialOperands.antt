@@ -35,7 +35,8 @@ pub record HasSpecialFactor (s : Shape) (x y z : Unpacked) : Type 0 where
   pub left : IsStored s x
   pub right : IsStored s y
   pub addend : IsStored s z
-  pub special : ((x.category ≡ Infinity) ⊎ (x.category ≡ NaN)) ⊎ ((y.category ≡ Infinity) ⊎ (y.category ≡ NaN))
+  pub special : ((x.category ≡ Infinity) ⊎ (x.category ≡ NaN))
+      ⊎ ((y.category ≡ Infinity) ⊎ (y.category ≡ NaN))
 
 -- a stored value that is not a positive number
 pub record IsSpecialRadicand (s : Shape) (x : Unpacked) : Type 0 where

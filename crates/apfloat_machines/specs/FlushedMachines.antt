@@ -70,8 +70,8 @@ IsFlushedAndSettledFused f machine x y z answer result =
     → Gives (IsFlushedMachineFusedSum f machine flush mode x y z) result
 
 -- what holds of each
-pub record OfEachFlushed (Holds : (Datum → ℕ → Type 0) → Type 0) (f : Format) (machine : Machine) (flush : Flush)
-    : Type 0 where
+pub record OfEachFlushed (Holds : (Datum → ℕ → Type 0) → Type 0) (f : Format)
+    (machine : Machine) (flush : Flush) : Type 0 where
   pub sum : (mode : Round) (x y : Datum) → Holds (IsFlushedMachineSum f machine flush mode x y)
   pub difference : (mode : Round) (x y : Datum) → Holds (IsFlushedMachineDifference f machine flush mode x y)
   pub product : (mode : Round) (x y : Datum) → Holds (IsFlushedMachineProduct f machine flush mode x y)

@@ -20,7 +20,8 @@ abbrev pub IsOnce : (Datum → ℕ → Type 0) → Type 0
 IsOnce Says = Determines (λ (answer : StatusAnd Datum). Gives Says answer)
 
 -- what holds of each operation that rounds a result to the format of its operands, but for fused sums
-pub record OfEachOperation (Holds : (Datum → ℕ → Type 0) → Type 0) (f : Format) (machine : Machine) : Type 0 where
+pub record OfEachOperation (Holds : (Datum → ℕ → Type 0) → Type 0) (f : Format) (machine : Machine)
+    : Type 0 where
   pub sum : (mode : Round) (x y : Datum) → Holds (IsMachineSum f machine mode x y)
   pub difference : (mode : Round) (x y : Datum) → Holds (IsMachineDifference f machine mode x y)
   pub product : (mode : Round) (x y : Datum) → Holds (IsMachineProduct f machine mode x y)

@@ -59,7 +59,8 @@ pub record IsMovedUp (digits n : ℕ) : Type 0 where
   pub fits : n < 2 ^ digits
   pub free : n % 2 ≡ 0
 
-pub is_moved_up : (m precision digits : ℕ) → 0 < precision → precision + 1 ≤ digits → 2 ^ (precision - 1) ≤ m
+pub is_moved_up : (m precision digits : ℕ) → 0 < precision → precision + 1 ≤ digits
+    → 2 ^ (precision - 1) ≤ m
     → m < 2 ^ precision → IsMovedUp digits (m * 2 ^ (digits - precision))
 is_moved_up m precision digits some room full fits = record {
   full = moved_full m precision digits some room full;

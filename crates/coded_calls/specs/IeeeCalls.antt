@@ -66,7 +66,8 @@ extremum_call (Some which) prefers_number x y = Some (ExtremumOf which prefers_n
 
 abbrev pub operation_coded : ℕ → ℕ → ℕ → ℕ → Option InAnotherCall
 operation_coded code x y z =
-    counted 0 (SumTo x y ∷ DifferenceTo x y ∷ ProductTo x y ∷ QuotientTo x y ∷ FusedSumTo x y z ∷ RootTo x ∷ []) code
+    counted 0 (SumTo x y ∷ DifferenceTo x y ∷ ProductTo x y ∷ QuotientTo x y
+    ∷ FusedSumTo x y z ∷ RootTo x ∷ []) code
 
 -- ---- results in a format
 

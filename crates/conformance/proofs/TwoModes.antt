@@ -30,7 +30,8 @@ bounds_if_outward IsExact R encloses mode other one two x y o =
     encloses one.value two.value (bits_of one.status) (bits_of two.status)
     (subst (λ (m : Round). Gives (R m) one) o.downward x) (subst (λ (m : Round). Gives (R m) two) o.upward y)
 
-pub in_modes : (IsExact : ℕ → Type 0) (R : Round → Datum → ℕ → Type 0) → AgreesWhereOk R → Encloses IsExact R
+pub in_modes : (IsExact : ℕ → Type 0) (R : Round → Datum → ℕ → Type 0) → AgreesWhereOk R
+    → Encloses IsExact R
     → (mode other : Round) (one two : StatusAnd Datum) → Gives (R mode) one → Gives (R other) two
     → AreInModes R AreSameIfOk IsExact mode other one two
 in_modes IsExact R agrees encloses mode other one two x y = record {
@@ -41,7 +42,8 @@ in_modes IsExact R agrees encloses mode other one two x y = record {
 }
 
 -- the same of what may be an exact zero of either sign
-pub but_for_zeros : (R : Round → Datum → ℕ → Type 0) → AgreesButForZeros R → Encloses IsOk R → (mode other : Round)
+pub but_for_zeros : (R : Round → Datum → ℕ → Type 0) → AgreesButForZeros R → Encloses IsOk R
+    → (mode other : Round)
     (one two : StatusAnd Datum) → Gives (R mode) one → Gives (R other) two
     → AreInModes R AreSameIfOkButForZeros IsOk mode other one two
 but_for_zeros R agrees encloses mode other one two x y = record {

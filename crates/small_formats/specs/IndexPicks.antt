@@ -9,7 +9,8 @@ index_between takes points amount parts low =
     else (if takes (amount - points low * parts) (points (low + 1) * parts - amount) (eqb (low % 2) 1) then low + 1
     else low)
 
-pub record IsIndexPick (takes : ℕ → ℕ → Bool → Bool) (points : ℕ → ℕ) (amount parts index : ℕ) : Type 0 where
+pub record IsIndexPick (takes : ℕ → ℕ → Bool → Bool) (points : ℕ → ℕ) (amount parts index : ℕ)
+    : Type 0 where
   pub low : ℕ
   pub from : points low * parts ≤ amount
   pub to : amount < points (low + 1) * parts

@@ -149,7 +149,8 @@ scientific_length n e few fits =
     omega (arith, pointed_is, exponent, tail, both)
 
 -- where all of such a text has room, its parts have
-pub scientific_room : (at n count : ℕ) (e : ℤ) → count ≡ length (decimal n) → at + length (scientific_text n e) ≤ 64
+pub scientific_room : (at n count : ℕ) (e : ℤ) → count ≡ length (decimal n)
+    → at + length (scientific_text n e) ≤ 64
     → at + (length (some_pointed n (count - 1)) + (1 + length (signed_decimal (e +ℤ pos (count - 1))))) ≤ 64
 scientific_room at n count e is room =
     let front : List ℕ = some_pointed n (length (decimal n) - 1) in

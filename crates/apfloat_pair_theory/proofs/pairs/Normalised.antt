@@ -106,7 +106,8 @@ pub record IsHighOf (format : Format) (high low : Datum) : Type 0 where
   pub same_number : is_equal high nearest ≡ true
 
 -- a pair of finite parts whose high part is that of both is normalized
-pub normalised_high : (x : Pair) → is_finite x.high ≡ true → is_finite x.low ≡ true → IsHighOf double x.high x.low
+pub normalised_high : (x : Pair) → is_finite x.high ≡ true → is_finite x.low ≡ true
+    → IsHighOf double x.high x.low
     → IsNormalised x
 normalised_high x h l n = record {
   finite_high = h;

@@ -91,14 +91,16 @@ pub record IsTiny (f : Format) (x y near short : Datum) : Type 0 where
   pub picks : ArePicks f (sign_of_product x y) (magnitude (exact_of x y)) (2 ^ f.scale) near short
 
 -- What the rounding of an integral number of quanta leaves is exact.
-exact_whole : (f : Format) → 3 ≤ f.precision → (x y near : Datum) → IsNearProduct f x y near → IsAugmentedNumber f near
+exact_whole : (f : Format) → 3 ≤ f.precision → (x y near : Datum) → IsNearProduct f x y near
+    → IsAugmentedNumber f near
     → LeavesDigits f x y near → (whole : ℤ) → (whole *ℤ pos (2 ^ f.scale)) ≡ exact_of x y → ⊥
 exact_whole f h x y near a nn lost whole w =
     lost.not_ok (whole_is_exact f h x y near lost.rest a.status lost.status whole a.left.is_in a.right.is_in nn
     (product_some f x y a.left a.right) a.is lost.is w)
 
 -- so the product is none
-no_whole : (f : Format) → 3 ≤ f.precision → (x y near : Datum) → IsNearProduct f x y near → IsAugmentedNumber f near
+no_whole : (f : Format) → 3 ≤ f.precision → (x y near : Datum) → IsNearProduct f x y near
+    → IsAugmentedNumber f near
     → LeavesDigits f x y near → IsFractionPick (magnitude (exact_of x y)) (2 ^ f.scale)
 no_whole f h x y near a nn lost = record {
   not_whole = λ whole e.
@@ -231,7 +233,8 @@ module _ (f : Format) (x y near short left : Datum) (k : ℕ) (t : IsTiny f x y 
   lower_parts = ap (λ (i : ℕ). i * 2 ^ f.scale) lower_below
 
   short_number : number short ≡ signed (sign_of_product x y) t.picks.lower
-  short_number = ap number t.picks.short_is ∙ (signed_number f.nonfinite (sign_of_product x y) t.picks.lower).number_is
+  short_number =
+      ap number t.picks.short_is ∙ (signed_number f.nonfinite (sign_of_product x y) t.picks.lower).number_is
 
   short_in : IsAugmentedNumber f short
   short_in =
@@ -501,7 +504,8 @@ module _ (f : Format) (x y near short left : Datum) (k : ℕ) (t : IsTiny f x y 
   near_side =
       pick_cases f.precision (sign_of_product x y) (magnitude (exact_of x y)) (2 ^ f.scale) t.picks.even t.picks.is_even
 
-  pub head_is_near_tie : k ≡ ok_bits → (magnitude (number left) ≡ 1 → ⊥) → (head tail : Datum) (status : ℕ)
+  pub head_is_near_tie : k ≡ ok_bits → (magnitude (number left) ≡ 1 → ⊥)
+      → (head tail : Datum) (status : ℕ)
       → HasRoundedTail f TowardZero x y near head tail status → IsAugmentedProduct f x y head tail status
   head_is_near_tie ok other =
       tail_is near t.picks.even TowardZero t.near_in t.picks.near_is t.picks.even_within near_side

@@ -75,7 +75,8 @@ pub record AreWritten {A B : Type 0} (Holds : A → B → ℕ → Type 0) (count
 
 -- counts of fewer elements than a machine word can count
 pub room_for : {A B : Type 0} {Holds : A → B → ℕ → Type 0} {count : ℕ} {read : List A} {written : List B}
-    {counts : Counts} → AreWritten Holds count read written counts → count < 2 ^ 64 - 1 → BlockCountsHaveRoom counts
+    {counts : Counts} → AreWritten Holds count read written counts → count < 2 ^ 64 - 1
+    → BlockCountsHaveRoom counts
 room_for {counts = counts} so_far l =
     let flags = so_far.flags in
     let size = so_far.flags_size in
@@ -105,7 +106,8 @@ none_written Holds read written = record {
 
 pub one_written : {A B : Type 0} {Holds : A → B → ℕ → Type 0} {count : ℕ} {read : List A} {written : List B}
     {counts more : Counts} → AreWritten Holds count read written counts → (x : A) (y : B) (status : ℕ)
-    → count < length written → slice_get read count ≡ Some x → Holds x y status → more ≡ with_status counts status
+    → count < length written → slice_get read count ≡ Some x → Holds x y status
+    → more ≡ with_status counts status
     → AreWritten Holds (count + 1) read (slice_set written count y) more
 one_written {A} {B} {Holds} {count} {read} {written} so_far x y status l at here counted = record {
   flags = so_far.flags ++ status ∷ [];

@@ -55,7 +55,8 @@ number_class : (none : Bool) → Number ≡ class_in (cond none Zero Normal)
 number_class true = refl
 number_class false = refl
 
-pub class_of_category : (x : Datum) (category : Category) → category_of x ≡ category → class_of x ≡ class_in category
+pub class_of_category : (x : Datum) (category : Category) → category_of x ≡ category
+    → class_of x ≡ class_in category
 class_of_category (nan b s) category e = ap class_in e
 class_of_category (infinite b) category e = ap class_in e
 class_of_category (finite b n) category e = number_class (eqb n 0) ∙ ap class_in e

@@ -14,7 +14,8 @@ sum_of-total-requires-clause-above c = c.in_order_of_exponents.ensures.order
 
 pub sum_of-total-requires-clause-high : goal.sum_of-total-requires-clause-high
 sum_of-total-requires-clause-high c =
-    of_high (λ (t : Term). IsWithin exponent_bound t.exponent) _ _ _ _ c.in_order_of_exponents.ensures.same c.requires.x
+    of_high (λ (t : Term). IsWithin exponent_bound t.exponent) _ _ _ _
+    c.in_order_of_exponents.ensures.same c.requires.x
     c.requires.y
 
 pub sum_of-total-requires-clause-low : goal.sum_of-total-requires-clause-low
