@@ -157,20 +157,18 @@ pub enum FlagsCall {
     Restore,
 }
 
-// The operations by their names, but for comparison predicates, and minima and maxima on machines.
+// The operations whose names end in `_to` and `_odd`.
+static ARITHMETIC: &[(&str, FormatOfCall)] = &[
+    ("add", FormatOfCall::Add),
+    ("sub", FormatOfCall::Sub),
+    ("mul", FormatOfCall::Mul),
+    ("div", FormatOfCall::Div),
+    ("sqrt", FormatOfCall::Sqrt),
+    ("mul_add", FormatOfCall::MulAdd),
+];
+
+// The operations by their names, but for those, comparison predicates, and minima and maxima on machines.
 static OPERATIONS: &[(&str, OperationCall)] = &[
-    ("add_to", OperationCall::InAnother(FormatOfCall::Add)),
-    ("sub_to", OperationCall::InAnother(FormatOfCall::Sub)),
-    ("mul_to", OperationCall::InAnother(FormatOfCall::Mul)),
-    ("div_to", OperationCall::InAnother(FormatOfCall::Div)),
-    ("sqrt_to", OperationCall::InAnother(FormatOfCall::Sqrt)),
-    ("mul_add_to", OperationCall::InAnother(FormatOfCall::MulAdd)),
-    ("add_odd", OperationCall::Odd(OddCall::Arithmetic(FormatOfCall::Add))),
-    ("sub_odd", OperationCall::Odd(OddCall::Arithmetic(FormatOfCall::Sub))),
-    ("mul_odd", OperationCall::Odd(OddCall::Arithmetic(FormatOfCall::Mul))),
-    ("div_odd", OperationCall::Odd(OddCall::Arithmetic(FormatOfCall::Div))),
-    ("sqrt_odd", OperationCall::Odd(OddCall::Arithmetic(FormatOfCall::Sqrt))),
-    ("mul_add_odd", OperationCall::Odd(OddCall::Arithmetic(FormatOfCall::MulAdd))),
     ("convert_odd", OperationCall::Odd(OddCall::Convert)),
     ("round_to_odd_integral", OperationCall::Odd(OddCall::RoundToIntegral)),
     ("from_u128_odd", OperationCall::Odd(OddCall::FromU128)),
@@ -255,6 +253,16 @@ static RULES: &[(&str, MinimumRule)] = &[
     ("propagated", MinimumRule::Propagated),
 ];
 
+/// The arithmetic of this name, such as `add_to`.
+fn arithmetic_named(name: &str) -> Option<OperationCall> {
+    let (name, end) = name.rsplit_once('_')?;
+    match (found(ARITHMETIC, name)?, end) {
+        (call, "to") => Some(OperationCall::InAnother(call)),
+        (call, "odd") => Some(OperationCall::Odd(OddCall::Arithmetic(call))),
+        _ => None,
+    }
+}
+
 /// The comparison predicate of this name, such as `compare_quiet_less`.
 fn comparison_named(name: &str) -> Option<OperationCall> {
     let (on_nan, predicate) = name.strip_prefix("compare_")?.split_once('_')?;
@@ -279,7 +287,10 @@ fn extremum_on_machine_named(name: &str) -> Option<OperationCall> {
 impl OperationCall {
     /// The operation of this name.
     pub fn named(name: &str) -> Option<OperationCall> {
-        found(OPERATIONS, name).or_else(|| comparison_named(name)).or_else(|| extremum_on_machine_named(name))
+        found(OPERATIONS, name)
+            .or_else(|| arithmetic_named(name))
+            .or_else(|| comparison_named(name))
+            .or_else(|| extremum_on_machine_named(name))
     }
 
     /// The form of its operands.
