@@ -167,6 +167,16 @@ words! { EXTREMA: Extremum {
     "minimum" Minimum  "maximum" Maximum  "minimum_magnitude" MinimumMagnitude  "maximum_magnitude" MaximumMagnitude
 } }
 
+words! { ODD_CALLS: OddCall {
+    "convert_odd" Convert  "round_to_odd_integral" RoundToIntegral  "from_u128_odd" FromU128
+    "from_i128_odd" FromI128  "to_u128_odd" ToU128  "to_i128_odd" ToI128  "round_odd_to" Again
+} }
+
+words! { GENERAL_CALLS: GeneralCall {
+    "log_b" LogB  "integer_log_b" IntegerLogB  "round_to_integral_in" RoundToIntegralIn  "class_of" Class
+    "radix" Radix  "is_canonical" IsCanonical  "is_canonical_encoding" IsCanonicalEncoding
+} }
+
 words! { BLOCK_CALLS: BlockCall {
     "quantize_block" Quantize  "dequantize_block" Dequantize  "quantize_nvfp4_block" QuantizeNvfp4
     "dequantize_nvfp4_block" DequantizeNvfp4  "tensor_scale" TensorScale
@@ -179,22 +189,9 @@ words! { FLAGS_CALLS: FlagsCall {
 
 // All other operations by their names, but for comparison predicates, and minima and maxima on machines.
 static OPERATIONS: &[(&str, OperationCall)] = &[
-    ("convert_odd", OperationCall::Odd(OddCall::Convert)),
-    ("round_to_odd_integral", OperationCall::Odd(OddCall::RoundToIntegral)),
-    ("from_u128_odd", OperationCall::Odd(OddCall::FromU128)),
-    ("from_i128_odd", OperationCall::Odd(OddCall::FromI128)),
-    ("to_u128_odd", OperationCall::Odd(OddCall::ToU128)),
-    ("to_i128_odd", OperationCall::Odd(OddCall::ToI128)),
     ("total_order", OperationCall::Order(OrderCall::TotalOrder)),
     ("total_order_mag", OperationCall::Order(OrderCall::TotalOrderMag)),
     ("total_cmp", OperationCall::Order(OrderCall::TotalCmp)),
-    ("log_b", OperationCall::OfOne(GeneralCall::LogB)),
-    ("integer_log_b", OperationCall::OfOne(GeneralCall::IntegerLogB)),
-    ("round_to_integral_in", OperationCall::OfOne(GeneralCall::RoundToIntegralIn)),
-    ("class_of", OperationCall::OfOne(GeneralCall::Class)),
-    ("radix", OperationCall::OfOne(GeneralCall::Radix)),
-    ("is_canonical", OperationCall::OfOne(GeneralCall::IsCanonical)),
-    ("is_canonical_encoding", OperationCall::OfOne(GeneralCall::IsCanonicalEncoding)),
     ("scale_b", OperationCall::ScaleB),
     ("convert_to_signed", OperationCall::ToInteger(ToIntegerCall::Signed)),
     ("convert_to_signed_exact", OperationCall::ToInteger(ToIntegerCall::SignedExact)),
@@ -215,7 +212,6 @@ static OPERATIONS: &[(&str, OperationCall)] = &[
     ("convert_saturate_all", OperationCall::Saturate(SaturateCall::All)),
     ("convert_stochastic", OperationCall::ConvertStochastic),
     ("convert_stochastic_all", OperationCall::ConvertStochasticAll),
-    ("round_odd_to", OperationCall::Odd(OddCall::Again)),
 ];
 
 // The predicates by the ends of their names.
@@ -275,6 +271,8 @@ impl OperationCall {
     /// The operation of this name.
     pub fn named(name: &str) -> Option<OperationCall> {
         found(OPERATIONS, name)
+            .or_else(|| found(ODD_CALLS, name).map(OperationCall::Odd))
+            .or_else(|| found(GENERAL_CALLS, name).map(OperationCall::OfOne))
             .or_else(|| found(BLOCK_CALLS, name).map(OperationCall::OfBlock))
             .or_else(|| found(FLAGS_CALLS, name).map(OperationCall::OfFlags))
             .or_else(|| arithmetic_named(name))
