@@ -114,18 +114,28 @@ def counts(flags):
 # ---- microscaling formats
 
 
-def mx_scale(element, greatest):
+RULES = ("floor", "ceil", "even")
+
+
+def mx_scale(element, greatest, rule="floor"):
     """The code of the scale of a block."""
     if greatest == 0:
         return 0
-    return min(max(floor_log2(greatest) - element.max_exp + 127, 0), 254)
+    if rule == "even":
+        last = Fraction(2) ** (floor_log2(greatest) - element.precision + 1)
+        greatest = round(greatest / last) * last
+    exponent = floor_log2(greatest) - element.max_exp
+    if rule == "ceil":
+        largest = Fraction(element.largest, 1 << element.scale)
+        exponent = next(e for e in range(exponent, exponent + 2) if greatest <= largest * Fraction(2) ** e)
+    return min(max(exponent + 127, 0), 254)
 
 
-def mx_quantize(element, source, mode, values):
+def mx_quantize(element, source, mode, values, rule="floor"):
     """The codes, the code of the scale, and the flags."""
     if any(is_nan(x) or isinstance(x, Infinite) for x in values):
         return [0] * len(values), 255, [OK] * len(values)
-    scale = mx_scale(element, max(magnitude(source, x) for x in values))
+    scale = mx_scale(element, max(magnitude(source, x) for x in values), rule)
     divisor = Fraction(2) ** (scale - 127)
     found = [element.quantize(mode, x.negative, magnitude(source, x) / divisor) for x in values]
     return [code for code, _ in found], scale, [status for _, status in found]

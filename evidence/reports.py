@@ -16,7 +16,7 @@ from fractions import Fraction
 from random import Random
 
 import e3m4
-from blocks import ELEMENTS, floor_log2, mx_quantize
+from blocks import ELEMENTS, RULES, floor_log2, mx_quantize
 from exact.bits import decoded
 from exact.conversions import convert, convert_finite, convert_saturating
 from exact.data import Finite, Infinite, is_nan
@@ -30,7 +30,7 @@ SOURCES = (
 )
 BUILT_IN = (*SOURCES, "quad", "x87")
 BLOCKS = dict(zip(("mxfp8e5m2", "mxfp8e4m3", "mxfp6e3m2", "mxfp6e2m3", "mxfp4"), ELEMENTS))
-TARGETS = (*BUILT_IN, *FORMS, *BLOCKS)
+TARGETS = (*BUILT_IN, *FORMS, *BLOCKS, *(f"{word}+{rule}" for word in BLOCKS for rule in RULES))
 # The saturating options, and what the model calls them.
 SATURATING = {
     "--saturate": ("+saturate", convert_saturating),
@@ -55,10 +55,11 @@ def meant(format, x):
 
 def converted(source, word, option, mode, length, values):
     """What each value becomes, its flags, the precision of the target, and the least exponent that it has there."""
-    if word in BLOCKS:
-        element = BLOCKS[word]
+    form, _, rule = word.partition("+")
+    if form in BLOCKS:
+        element = BLOCKS[form]
         for first in range(0, len(values), length):
-            codes, scale, flags = mx_quantize(element, source, mode, values[first:first + length])
+            codes, scale, flags = mx_quantize(element, source, mode, values[first:first + length], rule or "floor")
             by = Fraction(2) ** (scale - 127)
             for code, status in zip(codes, flags):
                 result = None if scale == 255 else element.number(code) * by

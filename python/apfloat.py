@@ -2849,7 +2849,8 @@ class mx:
     """
 
     @staticmethod
-    def quantize(of: Any, element: Any = 'e4m3', block: int = 32, axis: int = -1, pad: bool = False) -> Blocks:
+    def quantize(of: Any, element: Any = 'e4m3', block: int = 32, axis: int = -1, pad: bool = False,
+                 scale: str = 'floor') -> Blocks:
         """An array in blocks of so many values of an axis, the last one if no other is named, rounded in the mode of
         the context.
 
@@ -2858,32 +2859,40 @@ class mx:
         `Array`, a numpy array, or nested lists of numbers, which are rounded to `double`. Flags are added to those of
         the context. A length that the blocks do not divide is refused; with `pad`, zeros fill the last block.
 
+        `scale` is the rule by which the exponent of a scale follows from the greatest magnitude in the block: 'floor',
+        its exponent less that of the largest element, as the OCP has it; 'ceil', the least with which no element is
+        past the largest; or 'even', as 'floor' once the magnitude has only as many digits as elements. The values have
+        to be doubles for the last two.
+
         >>> mx.quantize([0.5] * 64, 'e4m3').scales
         float8_e8m0fnu.array([0.001953125, 0.001953125])
         >>> made = mx.quantize([[1.0, 8], [2, -16], [3, 32]], float4_e2m1fn, block=2, axis=0, pad=True)
         >>> made.scales, made.dequantize()[2]
         (float8_e8m0fnu.array([[0.5, 4.0], [0.5, 8.0]]), single.array(['3.0', '32.0']))
+        >>> [mx.quantize([6.9, 7.0], 'e2m1', 1, scale=rule).dequantize().tolist() for rule in ('floor', 'ceil', 'even')]
+        [[single('6.0'), single('6.0')], [single('6.0'), single('8.0')], [single('6.0'), single('8.0')]]
         """
+        if scale not in _SCALE_RULES:
+            raise ValueError(f'scale is {scale!r}, and none of {", ".join(map(repr, _SCALE_RULES))}')
         values, elements = _values_of(of), _element_of(element)
         place = _axis(axis, values.ndim)
         given, moved = values.shape, values._moved(place, values.ndim - 1)
         lacking = -moved.shape[-1] % block if pad and block > 0 else 0
         if lacking:
             moved = _with_zeros(moved, lacking)
-        data, shape = bytes(moved), moved.shape
+        shape = moved.shape
         blocks = _blocked(shape, block)
-        count, size = math.prod(blocks), math.prod(shape)
-        scales, codes = ctypes.create_string_buffer(max(count, 1)), ctypes.create_string_buffer(max(size, 1))
-        counts = _block_call('quantize_blocks', values.format.code, context().mode, elements.code, block, data,
-                             len(data), scales, count, codes, size)
-        made = scales.raw[:count]
+        if scale == 'floor':
+            made, codes, counts = _quantized(moved, elements, block, math.prod(blocks))
+        else:
+            made, codes, counts = _quantized_by(scale, moved, elements, block)
         if lacking:
             # What fills the blocks is not counted: zeros, of which those with a NaN beside them count as NaNs.
             counts['values'] -= lacking * math.prod(shape[:-1])
             counts['nans'] -= lacking * made[blocks[-1] - 1::blocks[-1]].count(255)
         last = values.ndim - 1
         return Blocks(StoredArray(float8_e8m0fnu, made, shape=blocks)._moved(last, place),
-                      elements._made(codes.raw[:size], counts, shape)._moved(last, place), block, counts, place, given)
+                      elements._made(codes, counts, shape)._moved(last, place), block, counts, place, given)
 
     @staticmethod
     def dequantize(scales: Any, codes: Any, block: int = 32, format: Format | None = None, axis: int = -1) -> Array:
@@ -2937,6 +2946,9 @@ class mx:
         return made
 
 
+_SCALE_RULES = 'floor', 'ceil', 'even'
+
+
 def _element_of(of: Any) -> Any:
     """The element format that is given, or that has this name."""
     # The format of the OCP is meant by e4m3, as by its name.
@@ -2975,6 +2987,37 @@ def _blocked(shape: tuple[int, ...], block: int) -> tuple[int, ...]:
     if not shape or block < 1 or shape[-1] % block:
         raise ValueError(f'shape {shape} is not in blocks of {block}: pad=True fills the last block of an axis')
     return (*shape[:-1], shape[-1] // block)
+
+
+def _quantized(values: Array, elements: Any, block: int, count: int) -> tuple[bytes, bytes, dict[str, int]]:
+    """The scales and the codes of so many blocks, by the rule of the library, with the counts."""
+    data, size = bytes(values), values.size
+    scales, codes = ctypes.create_string_buffer(max(count, 1)), ctypes.create_string_buffer(max(size, 1))
+    counts = _block_call('quantize_blocks', values.format.code, context().mode, elements.code, block, data, len(data),
+                         scales, count, codes, size)
+    return scales.raw[:count], codes.raw[:size], counts
+
+
+def _quantized_by(rule: str, values: Array, elements: Any, block: int) -> tuple[bytes, bytes, dict[str, int]]:
+    """The same by another rule. Quotients by scales are exact in `quad`, and rounded once."""
+    numbers = _unpacked('d', values._exactly(double)._data)
+    largest, most = math.frexp(float(finfo(elements).max))
+    scales = bytearray()
+    for first in range(0, len(numbers), block):
+        part = numbers[first:first + block]
+        if not all(map(math.isfinite, part)):
+            numbers[first:first + block] = array.array('d', bytes(8 * block))
+            scales.append(255)
+            continue
+        significand, exponent = math.frexp(max(map(abs, part)))
+        one_more = significand > largest if rule == 'ceil' else significand >= 1 - 0.5 ** (elements._precision + 1)
+        scales.append(min(max(exponent - most + one_more + 127, 0), 254) if significand else 0)
+    with Context():
+        exact = Array(double, _packed('d', numbers), shape=(len(scales), block)).to(quad)
+        quotients = exact * quad.array([2.0 ** (127 - scale) for scale in scales]).reshape(len(scales), 1)
+    made = quotients.to(elements, saturate=True)
+    counts = {**made.counts, 'nans': made.counts['nans'] + block * scales.count(255)}
+    return bytes(scales), bytes(made), counts
 
 
 def _block_call(name: str, *arguments: Any) -> dict[str, int]:
@@ -3099,7 +3142,8 @@ def _units(x: float) -> int:
 
 def report(of: Any, to: Any, round: int | None = None, saturate: bool | str = False, block: int = 32) -> Report:
     """What a conversion of an array or of numbers does, to a format, a storage format or blocks of 'mxfp4',
-    'mxfp6e2m3', 'mxfp6e3m2', 'mxfp8e4m3' or 'mxfp8e5m2', in a mode, or that of the context.
+    'mxfp6e2m3', 'mxfp6e3m2', 'mxfp8e4m3' or 'mxfp8e5m2', in a mode, or that of the context. A rule of scales may stand
+    after a `+`, as in 'mxfp4+ceil'; `mx.quantize` says what each means.
 
     All values have to be doubles; those of lists are rounded to `double`. What is measured is exact.
 
@@ -3113,9 +3157,10 @@ def report(of: Any, to: Any, round: int | None = None, saturate: bool | str = Fa
     given = values.numbers()
     with Context(context().mode if round is None else round):
         if isinstance(to, str):
-            if to not in _FORMS:
+            form, plus, rule = to.partition('+')
+            if form not in _FORMS:
                 raise ValueError(f'{to!r} is none of {", ".join(_FORMS)}')
-            blocks = mx.quantize(values, _FORMS[to], block)
+            blocks = mx.quantize(values, _FORMS[form], block, scale=rule if plus else 'floor')
             format: Any = blocks.codes.format
             counts, scales = blocks.counts, [code - 127 for code in blocks.scales.bits for _ in range(block)]
         else:

@@ -1443,13 +1443,17 @@ class BlockTests(unittest.TestCase):
         return [(code % lead + (lead if code >= lead else 0)) * Fraction(2) ** (quantum + max(code // lead - 1, 0))
                 for code in range(greatest + 1)]
 
-    def quantized(self, element, values):
+    def quantized(self, element, values, rule):
         """The scale of a block of fractions and its codes, to nearest with ties to even."""
         numbers, digits = self.numbers(element), self.ELEMENTS[element]
         greatest = max(map(abs, values))
         exponents = [e for e in range(digits[1] - 127, 200) if Fraction(2) ** e <= greatest]
         exponent = max(exponents, default=digits[1] - 127)
-        scale = min(exponent - digits[1], 127)
+        if rule == 'even' and exponents:
+            last = Fraction(2) ** (exponent - digits[0] + 1)
+            exponent += round(greatest / last) * last >= Fraction(2) ** (exponent + 1)
+        scale = exponent - digits[1]
+        scale = min(scale + (rule == 'ceil' and greatest > numbers[-1] * Fraction(2) ** scale), 127)
         codes = []
         for value in values:
             exact = abs(value) / Fraction(2) ** scale
@@ -1459,11 +1463,12 @@ class BlockTests(unittest.TestCase):
 
     def test_numbers(self):
         drawn = random.Random(7)
-        for element in self.ELEMENTS:
+        for element, rule in itertools.product(self.ELEMENTS, ('floor', 'ceil', 'even')):
             values = [drawn.uniform(-2, 2) * 2.0 ** drawn.randrange(-12, 12) for _ in range(192)]
             values[32:64] = [0.0] * 32
-            made = apfloat.mx.quantize(apfloat.double.array(values).reshape(2, 96), element)
-            wanted = [self.quantized(element, [Fraction(x) for x in values[at:at + 32]]) for at in range(0, 192, 32)]
+            made = apfloat.mx.quantize(apfloat.double.array(values).reshape(2, 96), element, scale=rule)
+            exact = [Fraction(x) for x in values]
+            wanted = [self.quantized(element, exact[at:at + 32], rule) for at in range(0, 192, 32)]
             self.assertEqual((made.scales.shape, made.codes.shape, made.block), ((2, 3), (2, 96), 32))
             self.assertEqual(list(bytes(made.scales)), [scale for scale, _ in wanted])
             self.assertEqual(list(bytes(made.codes)), [code for _, codes in wanted for code in codes])
@@ -1477,6 +1482,30 @@ class BlockTests(unittest.TestCase):
             packed = made.packed()
             self.assertEqual(len(packed), 192 * made.codes.format.width // 8)
             self.assertEqual(bytes(apfloat.mx.unpack(packed, element)), bytes(made.codes))
+
+    def test_rules_of_scales(self):
+        # The greatest significands after which scales differ, and the last one of `floor`, in units of 2^-6.
+        for element, after, rounded in ('e5m2', 112, 120), ('e4m3', 112, 124), ('e3m2', 112, 120), ('e2m3', 120, 124), \
+                ('e2m1', 96, 112):
+            for significand in range(64, 128):
+                found = [bytes(apfloat.mx.quantize([significand * 2.0 ** 20, 1.0], element, 2, scale=rule).scales)[0]
+                         for rule in ('floor', 'ceil', 'even')]
+                more = [0, significand > after, significand >= rounded]
+                self.assertEqual([scale - found[0] for scale in found], more)
+        for value, scales in (2.0 ** -140, [0] * 3), (1.99 * 2.0 ** 500, [254] * 3), (-1.99 * 2.0 ** -125, [0, 1, 1]):
+            self.assertEqual([bytes(apfloat.mx.quantize([value], 'e2m1', 1, scale=rule).scales)[0]
+                              for rule in ('floor', 'ceil', 'even')], scales)
+        # Where the scales are the same, so are codes, counts and flags.
+        drawn = random.Random(28)
+        for element, mode in itertools.product(self.ELEMENTS, apfloat.Rounding):
+            values = [[drawn.choice([drawn.uniform(-5, 5), 0.0, -0.0, 1e-9, 2.0 ** -1074]) for _ in range(15)] + [5.0]
+                      for _ in range(8)] + [[1.0] * 15 + [math.nan], [0.0] * 16]
+            results = []
+            for rule in 'floor', 'ceil', 'even':
+                with Context(mode) as context:
+                    made = apfloat.mx.quantize(values, element, 16, scale=rule)
+                results.append((bytes(made.scales), bytes(made.codes), made.counts, context.flags))
+            self.assertEqual(results, results[:1] * 3)
 
     def test_names(self):
         for names in ('e5m2', 'float8_e5m2', apfloat.e5m2), ('e4m3', 'e4m3fn', 'float8_e4m3fn', apfloat.e4m3fn), \
@@ -1611,10 +1640,11 @@ class ReportTests(unittest.TestCase):
     def test_blocks(self):
         draw = random.Random(22)
         values = apfloat.single.array([draw.gauss(0, 1) * 2.0 ** draw.randint(-4, 4) for _ in range(320)])
-        for form, element, precision, last in ('mxfp4', 'e2m1', 2, -1), ('mxfp8e4m3', 'e4m3', 4, -9):
-            made = apfloat.mx.quantize(values, element, block=16)
+        for (form, element, precision, last), rule in itertools.product(
+                [('mxfp4', 'e2m1', 2, -1), ('mxfp8e4m3', 'e4m3', 4, -9)], ['', 'floor', 'ceil', 'even']):
+            made = apfloat.mx.quantize(values, element, block=16, scale=rule or 'floor')
             digits = [(precision, last + scale - 127) for scale in made.scales.bits for _ in range(16)]
-            found = apfloat.report(values.reshape(2, -1), form, block=16)
+            found = apfloat.report(values.reshape(2, -1), f'{form}+{rule}' if rule else form, block=16)
             self.assertEqual(found.counts, made.counts)
             self.compare(found, list(values.numbers()), list(made.dequantize(apfloat.double).numbers()), digits)
 
@@ -1637,6 +1667,9 @@ class ReportTests(unittest.TestCase):
     def test_refusals(self):
         with self.assertRaisesRegex(ValueError, "'mxfp5' is none of"):
             apfloat.report([1.0], 'mxfp5')
+        for word, rule in ('mxfp4+', ''), ('mxfp4+up', 'up'):
+            with self.assertRaisesRegex(ValueError, f"scale is '{rule}', and none of 'floor', 'ceil', 'even'"):
+                apfloat.report([1.0], word)
         with self.assertRaises(ValueError):
             apfloat.report(apfloat.quad.array(['0.1']), apfloat.half)
         with self.assertRaises(ValueError):

@@ -51,36 +51,25 @@ fn codes() -> Vec<u8> {
 
 type Compare = fn(Small, Small) -> StatusAnd<bool>;
 
-/// The predicates, and which relations satisfy them: less, equal, greater, unordered (IEEE 754-2019, tables 5.1 to
-/// 5.3).
-const QUIET: [(Predicate, Compare, [bool; 4]); 12] = [
-    (Predicate::Equal, comparisons::compare_quiet_equal, [false, true, false, false]),
-    (Predicate::NotEqual, comparisons::compare_quiet_not_equal, [true, false, true, true]),
-    (Predicate::Greater, comparisons::compare_quiet_greater, [false, false, true, false]),
-    (Predicate::GreaterEqual, comparisons::compare_quiet_greater_equal, [false, true, true, false]),
-    (Predicate::Less, comparisons::compare_quiet_less, [true, false, false, false]),
-    (Predicate::LessEqual, comparisons::compare_quiet_less_equal, [true, true, false, false]),
-    (Predicate::Unordered, comparisons::compare_quiet_unordered, [false, false, false, true]),
-    (Predicate::Ordered, comparisons::compare_quiet_ordered, [true, true, true, false]),
-    (Predicate::NotGreater, comparisons::compare_quiet_not_greater, [true, true, false, true]),
-    (Predicate::LessUnordered, comparisons::compare_quiet_less_unordered, [true, false, false, true]),
-    (Predicate::NotLess, comparisons::compare_quiet_not_less, [false, true, true, true]),
-    (Predicate::GreaterUnordered, comparisons::compare_quiet_greater_unordered, [false, false, true, true]),
-];
-
-/// Those with a call that signals.
-const SIGNALING: [(Predicate, Compare); 10] = [
-    (Predicate::Equal, comparisons::compare_signaling_equal),
-    (Predicate::NotEqual, comparisons::compare_signaling_not_equal),
-    (Predicate::Greater, comparisons::compare_signaling_greater),
-    (Predicate::GreaterEqual, comparisons::compare_signaling_greater_equal),
-    (Predicate::Less, comparisons::compare_signaling_less),
-    (Predicate::LessEqual, comparisons::compare_signaling_less_equal),
-    (Predicate::NotGreater, comparisons::compare_signaling_not_greater),
-    (Predicate::LessUnordered, comparisons::compare_signaling_less_unordered),
-    (Predicate::NotLess, comparisons::compare_signaling_not_less),
-    (Predicate::GreaterUnordered, comparisons::compare_signaling_greater_unordered),
-];
+/// The predicates, their quiet and signaling calls, and which relations satisfy them: less, equal, greater and unordered
+/// (IEEE 754-2019, tables 5.1 to 5.3).
+const PREDICATES: [(Predicate, Compare, Option<Compare>, &str); 12] = {
+    use comparisons::*;
+    [
+        (Predicate::Equal, compare_quiet_equal, Some(compare_signaling_equal), "="),
+        (Predicate::NotEqual, compare_quiet_not_equal, Some(compare_signaling_not_equal), "<>?"),
+        (Predicate::Greater, compare_quiet_greater, Some(compare_signaling_greater), ">"),
+        (Predicate::GreaterEqual, compare_quiet_greater_equal, Some(compare_signaling_greater_equal), "=>"),
+        (Predicate::Less, compare_quiet_less, Some(compare_signaling_less), "<"),
+        (Predicate::LessEqual, compare_quiet_less_equal, Some(compare_signaling_less_equal), "<="),
+        (Predicate::NotGreater, compare_quiet_not_greater, Some(compare_signaling_not_greater), "<=?"),
+        (Predicate::LessUnordered, compare_quiet_less_unordered, Some(compare_signaling_less_unordered), "<?"),
+        (Predicate::NotLess, compare_quiet_not_less, Some(compare_signaling_not_less), "=>?"),
+        (Predicate::GreaterUnordered, compare_quiet_greater_unordered, Some(compare_signaling_greater_unordered), ">?"),
+        (Predicate::Unordered, compare_quiet_unordered, None, "?"),
+        (Predicate::Ordered, compare_quiet_ordered, None, "<=>"),
+    ]
+};
 
 fn invalid_if(invalid: bool) -> Status {
     if invalid { Status::INVALID_OP } else { Status::OK }
@@ -92,22 +81,23 @@ fn predicates() {
         for y in codes() {
             let order = decoded(x).partial_cmp(&decoded(y));
             let relation = match order {
-                Some(Ordering::Less) => 0,
-                Some(Ordering::Equal) => 1,
-                Some(Ordering::Greater) => 2,
-                None => 3,
+                Some(Ordering::Less) => '<',
+                Some(Ordering::Equal) => '=',
+                Some(Ordering::Greater) => '>',
+                None => '?',
             };
             let quiet = invalid_if(is_signaling(x) || is_signaling(y));
-            let signaling = invalid_if(relation == 3);
+            let signaling = invalid_if(order.is_none());
             let (x, y) = (small(x), small(y));
             let wide: Double = x.add_to(Small::ZERO, Round::TowardZero).value;
-            for (predicate, call, holds) in QUIET {
-                assert_eq!(call(x, y), quiet.and(holds[relation]), "{x} {y} {predicate:?}");
-                if let Some((_, call)) = SIGNALING.iter().find(|(signaling, _)| *signaling == predicate) {
-                    assert_eq!(call(x, y), signaling.and(holds[relation]), "{x} {y} {predicate:?}");
+            for (predicate, quiet_call, signaling_call, relations) in PREDICATES {
+                let holds = relations.contains(relation);
+                assert_eq!(quiet_call(x, y), quiet.and(holds), "{x} {y} {predicate:?}");
+                if let Some(call) = signaling_call {
+                    assert_eq!(call(x, y), signaling.and(holds), "{x} {y} {predicate:?}");
                 }
                 for (on_nan, status) in [(OnNan::Quiet, quiet), (OnNan::Signaling, signaling)] {
-                    let expected = status.and(holds[relation]);
+                    let expected = status.and(holds);
                     assert_eq!(comparisons::compare(predicate, on_nan, x, y), expected);
                     if !x.is_signaling() {
                         assert_eq!(comparisons::compare_between(predicate, on_nan, wide, y), expected);

@@ -532,36 +532,31 @@ TO_SHORT(f32, float32_t, i16, int_fast16_t, i32, int32_t, INT16)
     bool F##M_##NAME(const T *a, const T *b) { \
         return F##_##NAME(*a, *b); \
     }
-#define TO_INTEGER_BY_POINTER(F, T, I, RETURNED) \
+#define TO_POINTER(F, T, G, U) \
+    void F##_to_##G##M(T a, U *z) { \
+        *z = F##_to_##G(a); \
+    }
+#define INTEGER_BY_POINTERS(F, T, I, GIVEN, RETURNED) \
+    TO_POINTER(I, GIVEN, F, T) \
     RETURNED F##M_to_##I(const T *a, uint_fast8_t mode, bool exact) { \
         return F##_to_##I(*a, mode, exact); \
     } \
     RETURNED F##M_to_##I##_r_minMag(const T *a, bool exact) { \
         return F##_to_##I##_r_minMag(*a, exact); \
     }
-#define TO_POINTER(F, T, G, U) \
-    void F##_to_##G##M(T a, U *z) { \
-        *z = F##_to_##G(a); \
-    }
-#define OF_POINTER(F, T, G, U) \
+#define FORMAT_BY_POINTERS(F, T, G, U) \
+    TO_POINTER(G, U, F, T) \
     U F##M_to_##G(const T *a) { \
         return F##_to_##G(*a); \
     }
 #define BY_POINTERS(F, T) \
-    TO_POINTER(ui32, uint32_t, F, T) \
-    TO_POINTER(ui64, uint64_t, F, T) \
-    TO_POINTER(i32, int32_t, F, T) \
-    TO_POINTER(i64, int64_t, F, T) \
-    TO_POINTER(f16, float16_t, F, T) \
-    TO_POINTER(f32, float32_t, F, T) \
-    TO_POINTER(f64, float64_t, F, T) \
-    OF_POINTER(F, T, f16, float16_t) \
-    OF_POINTER(F, T, f32, float32_t) \
-    OF_POINTER(F, T, f64, float64_t) \
-    TO_INTEGER_BY_POINTER(F, T, ui32, uint_fast32_t) \
-    TO_INTEGER_BY_POINTER(F, T, ui64, uint_fast64_t) \
-    TO_INTEGER_BY_POINTER(F, T, i32, int_fast32_t) \
-    TO_INTEGER_BY_POINTER(F, T, i64, int_fast64_t) \
+    INTEGER_BY_POINTERS(F, T, ui32, uint32_t, uint_fast32_t) \
+    INTEGER_BY_POINTERS(F, T, ui64, uint64_t, uint_fast64_t) \
+    INTEGER_BY_POINTERS(F, T, i32, int32_t, int_fast32_t) \
+    INTEGER_BY_POINTERS(F, T, i64, int64_t, int_fast64_t) \
+    FORMAT_BY_POINTERS(F, T, f16, float16_t) \
+    FORMAT_BY_POINTERS(F, T, f32, float32_t) \
+    FORMAT_BY_POINTERS(F, T, f64, float64_t) \
     void F##M_roundToInt(const T *a, uint_fast8_t mode, bool exact, T *z) { \
         *z = F##_roundToInt(*a, mode, exact); \
     } \

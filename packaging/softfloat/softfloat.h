@@ -56,246 +56,111 @@ enum {
 extern THREAD_LOCAL uint_fast8_t softfloat_exceptionFlags;
 void softfloat_raiseFlags(uint_fast8_t flags);
 
-/* A function whose name has an M after that of a format takes values of it, and leaves its result, by pointers. */
+/* ---- functions of the format F, whose values have the type T
+ *
+ * A value becomes an integer in a mode, with the flag of inexact results if `exact` is true, or truncated (minMag). */
 
-/* ---- integers as values */
+#define softfloat_functions(F, T) \
+    T ui32_to_##F(uint32_t n); \
+    T ui64_to_##F(uint64_t n); \
+    T i32_to_##F(int32_t n); \
+    T i64_to_##F(int64_t n); \
+    uint_fast32_t F##_to_ui32(T a, uint_fast8_t mode, bool exact); \
+    uint_fast64_t F##_to_ui64(T a, uint_fast8_t mode, bool exact); \
+    int_fast32_t F##_to_i32(T a, uint_fast8_t mode, bool exact); \
+    int_fast64_t F##_to_i64(T a, uint_fast8_t mode, bool exact); \
+    uint_fast32_t F##_to_ui32_r_minMag(T a, bool exact); \
+    uint_fast64_t F##_to_ui64_r_minMag(T a, bool exact); \
+    int_fast32_t F##_to_i32_r_minMag(T a, bool exact); \
+    int_fast64_t F##_to_i64_r_minMag(T a, bool exact); \
+    T F##_roundToInt(T a, uint_fast8_t mode, bool exact); \
+    T F##_add(T a, T b); \
+    T F##_sub(T a, T b); \
+    T F##_mul(T a, T b); \
+    T F##_div(T a, T b); \
+    T F##_rem(T a, T b); \
+    T F##_sqrt(T a); \
+    bool F##_eq(T a, T b); \
+    bool F##_le(T a, T b); \
+    bool F##_lt(T a, T b); \
+    bool F##_eq_signaling(T a, T b); \
+    bool F##_le_quiet(T a, T b); \
+    bool F##_lt_quiet(T a, T b); \
+    bool F##_isSignalingNaN(T a);
+softfloat_functions(f16, float16_t)
+softfloat_functions(f32, float32_t)
+softfloat_functions(f64, float64_t)
+softfloat_functions(extF80, extFloat80_t)
+softfloat_functions(f128, float128_t)
+#undef softfloat_functions
 
-float16_t ui32_to_f16(uint32_t n);
-float32_t ui32_to_f32(uint32_t n);
-float64_t ui32_to_f64(uint32_t n);
-extFloat80_t ui32_to_extF80(uint32_t n);
-float128_t ui32_to_f128(uint32_t n);
-void ui32_to_extF80M(uint32_t n, extFloat80_t *z);
-void ui32_to_f128M(uint32_t n, float128_t *z);
-float16_t ui64_to_f16(uint64_t n);
-float32_t ui64_to_f32(uint64_t n);
-float64_t ui64_to_f64(uint64_t n);
-extFloat80_t ui64_to_extF80(uint64_t n);
-float128_t ui64_to_f128(uint64_t n);
-void ui64_to_extF80M(uint64_t n, extFloat80_t *z);
-void ui64_to_f128M(uint64_t n, float128_t *z);
-float16_t i32_to_f16(int32_t n);
-float32_t i32_to_f32(int32_t n);
-float64_t i32_to_f64(int32_t n);
-extFloat80_t i32_to_extF80(int32_t n);
-float128_t i32_to_f128(int32_t n);
-void i32_to_extF80M(int32_t n, extFloat80_t *z);
-void i32_to_f128M(int32_t n, float128_t *z);
-float16_t i64_to_f16(int64_t n);
-float32_t i64_to_f32(int64_t n);
-float64_t i64_to_f64(int64_t n);
-extFloat80_t i64_to_extF80(int64_t n);
-float128_t i64_to_f128(int64_t n);
-void i64_to_extF80M(int64_t n, extFloat80_t *z);
-void i64_to_f128M(int64_t n, float128_t *z);
-
-/* ---- values as integers: in a mode, with the flag of inexact results if `exact` is true; or truncated */
-
-uint_fast32_t f16_to_ui32(float16_t a, uint_fast8_t mode, bool exact);
-uint_fast64_t f16_to_ui64(float16_t a, uint_fast8_t mode, bool exact);
-int_fast32_t f16_to_i32(float16_t a, uint_fast8_t mode, bool exact);
-int_fast64_t f16_to_i64(float16_t a, uint_fast8_t mode, bool exact);
-uint_fast32_t f16_to_ui32_r_minMag(float16_t a, bool exact);
-uint_fast64_t f16_to_ui64_r_minMag(float16_t a, bool exact);
-int_fast32_t f16_to_i32_r_minMag(float16_t a, bool exact);
-int_fast64_t f16_to_i64_r_minMag(float16_t a, bool exact);
-uint_fast32_t f32_to_ui32(float32_t a, uint_fast8_t mode, bool exact);
-uint_fast64_t f32_to_ui64(float32_t a, uint_fast8_t mode, bool exact);
-int_fast32_t f32_to_i32(float32_t a, uint_fast8_t mode, bool exact);
-int_fast64_t f32_to_i64(float32_t a, uint_fast8_t mode, bool exact);
-uint_fast32_t f32_to_ui32_r_minMag(float32_t a, bool exact);
-uint_fast64_t f32_to_ui64_r_minMag(float32_t a, bool exact);
-int_fast32_t f32_to_i32_r_minMag(float32_t a, bool exact);
-int_fast64_t f32_to_i64_r_minMag(float32_t a, bool exact);
-uint_fast32_t f64_to_ui32(float64_t a, uint_fast8_t mode, bool exact);
-uint_fast64_t f64_to_ui64(float64_t a, uint_fast8_t mode, bool exact);
-int_fast32_t f64_to_i32(float64_t a, uint_fast8_t mode, bool exact);
-int_fast64_t f64_to_i64(float64_t a, uint_fast8_t mode, bool exact);
-uint_fast32_t f64_to_ui32_r_minMag(float64_t a, bool exact);
-uint_fast64_t f64_to_ui64_r_minMag(float64_t a, bool exact);
-int_fast32_t f64_to_i32_r_minMag(float64_t a, bool exact);
-int_fast64_t f64_to_i64_r_minMag(float64_t a, bool exact);
-uint_fast32_t extF80_to_ui32(extFloat80_t a, uint_fast8_t mode, bool exact);
-uint_fast64_t extF80_to_ui64(extFloat80_t a, uint_fast8_t mode, bool exact);
-int_fast32_t extF80_to_i32(extFloat80_t a, uint_fast8_t mode, bool exact);
-int_fast64_t extF80_to_i64(extFloat80_t a, uint_fast8_t mode, bool exact);
-uint_fast32_t extF80_to_ui32_r_minMag(extFloat80_t a, bool exact);
-uint_fast64_t extF80_to_ui64_r_minMag(extFloat80_t a, bool exact);
-int_fast32_t extF80_to_i32_r_minMag(extFloat80_t a, bool exact);
-int_fast64_t extF80_to_i64_r_minMag(extFloat80_t a, bool exact);
-uint_fast32_t extF80M_to_ui32(const extFloat80_t *a, uint_fast8_t mode, bool exact);
-uint_fast64_t extF80M_to_ui64(const extFloat80_t *a, uint_fast8_t mode, bool exact);
-int_fast32_t extF80M_to_i32(const extFloat80_t *a, uint_fast8_t mode, bool exact);
-int_fast64_t extF80M_to_i64(const extFloat80_t *a, uint_fast8_t mode, bool exact);
-uint_fast32_t extF80M_to_ui32_r_minMag(const extFloat80_t *a, bool exact);
-uint_fast64_t extF80M_to_ui64_r_minMag(const extFloat80_t *a, bool exact);
-int_fast32_t extF80M_to_i32_r_minMag(const extFloat80_t *a, bool exact);
-int_fast64_t extF80M_to_i64_r_minMag(const extFloat80_t *a, bool exact);
-uint_fast32_t f128_to_ui32(float128_t a, uint_fast8_t mode, bool exact);
-uint_fast64_t f128_to_ui64(float128_t a, uint_fast8_t mode, bool exact);
-int_fast32_t f128_to_i32(float128_t a, uint_fast8_t mode, bool exact);
-int_fast64_t f128_to_i64(float128_t a, uint_fast8_t mode, bool exact);
-uint_fast32_t f128_to_ui32_r_minMag(float128_t a, bool exact);
-uint_fast64_t f128_to_ui64_r_minMag(float128_t a, bool exact);
-int_fast32_t f128_to_i32_r_minMag(float128_t a, bool exact);
-int_fast64_t f128_to_i64_r_minMag(float128_t a, bool exact);
-uint_fast32_t f128M_to_ui32(const float128_t *a, uint_fast8_t mode, bool exact);
-uint_fast64_t f128M_to_ui64(const float128_t *a, uint_fast8_t mode, bool exact);
-int_fast32_t f128M_to_i32(const float128_t *a, uint_fast8_t mode, bool exact);
-int_fast64_t f128M_to_i64(const float128_t *a, uint_fast8_t mode, bool exact);
-uint_fast32_t f128M_to_ui32_r_minMag(const float128_t *a, bool exact);
-uint_fast64_t f128M_to_ui64_r_minMag(const float128_t *a, bool exact);
-int_fast32_t f128M_to_i32_r_minMag(const float128_t *a, bool exact);
-int_fast64_t f128M_to_i64_r_minMag(const float128_t *a, bool exact);
-
-/* ---- values of one format in another */
-
-float32_t f16_to_f32(float16_t a);
-float64_t f16_to_f64(float16_t a);
-extFloat80_t f16_to_extF80(float16_t a);
-float128_t f16_to_f128(float16_t a);
-float16_t f32_to_f16(float32_t a);
-float64_t f32_to_f64(float32_t a);
-extFloat80_t f32_to_extF80(float32_t a);
-float128_t f32_to_f128(float32_t a);
-float16_t f64_to_f16(float64_t a);
-float32_t f64_to_f32(float64_t a);
-extFloat80_t f64_to_extF80(float64_t a);
-float128_t f64_to_f128(float64_t a);
-float16_t extF80_to_f16(extFloat80_t a);
-float32_t extF80_to_f32(extFloat80_t a);
-float64_t extF80_to_f64(extFloat80_t a);
-float128_t extF80_to_f128(extFloat80_t a);
-float16_t f128_to_f16(float128_t a);
-float32_t f128_to_f32(float128_t a);
-float64_t f128_to_f64(float128_t a);
-extFloat80_t f128_to_extF80(float128_t a);
-void f16_to_extF80M(float16_t a, extFloat80_t *z);
-void f16_to_f128M(float16_t a, float128_t *z);
-void f32_to_extF80M(float32_t a, extFloat80_t *z);
-void f32_to_f128M(float32_t a, float128_t *z);
-void f64_to_extF80M(float64_t a, extFloat80_t *z);
-void f64_to_f128M(float64_t a, float128_t *z);
-float16_t extF80M_to_f16(const extFloat80_t *a);
-float32_t extF80M_to_f32(const extFloat80_t *a);
-float64_t extF80M_to_f64(const extFloat80_t *a);
-void extF80M_to_f128M(const extFloat80_t *a, float128_t *z);
-float16_t f128M_to_f16(const float128_t *a);
-float32_t f128M_to_f32(const float128_t *a);
-float64_t f128M_to_f64(const float128_t *a);
-void f128M_to_extF80M(const float128_t *a, extFloat80_t *z);
-
-/* ---- operations and comparisons */
-
-float16_t f16_roundToInt(float16_t a, uint_fast8_t mode, bool exact);
-float16_t f16_add(float16_t a, float16_t b);
-float16_t f16_sub(float16_t a, float16_t b);
-float16_t f16_mul(float16_t a, float16_t b);
+/* a * b + c; extF80 has none. */
 float16_t f16_mulAdd(float16_t a, float16_t b, float16_t c);
-float16_t f16_div(float16_t a, float16_t b);
-float16_t f16_rem(float16_t a, float16_t b);
-float16_t f16_sqrt(float16_t a);
-bool f16_eq(float16_t a, float16_t b);
-bool f16_le(float16_t a, float16_t b);
-bool f16_lt(float16_t a, float16_t b);
-bool f16_eq_signaling(float16_t a, float16_t b);
-bool f16_le_quiet(float16_t a, float16_t b);
-bool f16_lt_quiet(float16_t a, float16_t b);
-bool f16_isSignalingNaN(float16_t a);
-
-float32_t f32_roundToInt(float32_t a, uint_fast8_t mode, bool exact);
-float32_t f32_add(float32_t a, float32_t b);
-float32_t f32_sub(float32_t a, float32_t b);
-float32_t f32_mul(float32_t a, float32_t b);
 float32_t f32_mulAdd(float32_t a, float32_t b, float32_t c);
-float32_t f32_div(float32_t a, float32_t b);
-float32_t f32_rem(float32_t a, float32_t b);
-float32_t f32_sqrt(float32_t a);
-bool f32_eq(float32_t a, float32_t b);
-bool f32_le(float32_t a, float32_t b);
-bool f32_lt(float32_t a, float32_t b);
-bool f32_eq_signaling(float32_t a, float32_t b);
-bool f32_le_quiet(float32_t a, float32_t b);
-bool f32_lt_quiet(float32_t a, float32_t b);
-bool f32_isSignalingNaN(float32_t a);
-
-float64_t f64_roundToInt(float64_t a, uint_fast8_t mode, bool exact);
-float64_t f64_add(float64_t a, float64_t b);
-float64_t f64_sub(float64_t a, float64_t b);
-float64_t f64_mul(float64_t a, float64_t b);
 float64_t f64_mulAdd(float64_t a, float64_t b, float64_t c);
-float64_t f64_div(float64_t a, float64_t b);
-float64_t f64_rem(float64_t a, float64_t b);
-float64_t f64_sqrt(float64_t a);
-bool f64_eq(float64_t a, float64_t b);
-bool f64_le(float64_t a, float64_t b);
-bool f64_lt(float64_t a, float64_t b);
-bool f64_eq_signaling(float64_t a, float64_t b);
-bool f64_le_quiet(float64_t a, float64_t b);
-bool f64_lt_quiet(float64_t a, float64_t b);
-bool f64_isSignalingNaN(float64_t a);
-
-extFloat80_t extF80_roundToInt(extFloat80_t a, uint_fast8_t mode, bool exact);
-extFloat80_t extF80_add(extFloat80_t a, extFloat80_t b);
-extFloat80_t extF80_sub(extFloat80_t a, extFloat80_t b);
-extFloat80_t extF80_mul(extFloat80_t a, extFloat80_t b);
-extFloat80_t extF80_div(extFloat80_t a, extFloat80_t b);
-extFloat80_t extF80_rem(extFloat80_t a, extFloat80_t b);
-extFloat80_t extF80_sqrt(extFloat80_t a);
-bool extF80_eq(extFloat80_t a, extFloat80_t b);
-bool extF80_le(extFloat80_t a, extFloat80_t b);
-bool extF80_lt(extFloat80_t a, extFloat80_t b);
-bool extF80_eq_signaling(extFloat80_t a, extFloat80_t b);
-bool extF80_le_quiet(extFloat80_t a, extFloat80_t b);
-bool extF80_lt_quiet(extFloat80_t a, extFloat80_t b);
-bool extF80_isSignalingNaN(extFloat80_t a);
-
-float128_t f128_roundToInt(float128_t a, uint_fast8_t mode, bool exact);
-float128_t f128_add(float128_t a, float128_t b);
-float128_t f128_sub(float128_t a, float128_t b);
-float128_t f128_mul(float128_t a, float128_t b);
 float128_t f128_mulAdd(float128_t a, float128_t b, float128_t c);
-float128_t f128_div(float128_t a, float128_t b);
-float128_t f128_rem(float128_t a, float128_t b);
-float128_t f128_sqrt(float128_t a);
-bool f128_eq(float128_t a, float128_t b);
-bool f128_le(float128_t a, float128_t b);
-bool f128_lt(float128_t a, float128_t b);
-bool f128_eq_signaling(float128_t a, float128_t b);
-bool f128_le_quiet(float128_t a, float128_t b);
-bool f128_lt_quiet(float128_t a, float128_t b);
-bool f128_isSignalingNaN(float128_t a);
 
-void extF80M_roundToInt(const extFloat80_t *a, uint_fast8_t mode, bool exact, extFloat80_t *z);
-void extF80M_add(const extFloat80_t *a, const extFloat80_t *b, extFloat80_t *z);
-void extF80M_sub(const extFloat80_t *a, const extFloat80_t *b, extFloat80_t *z);
-void extF80M_mul(const extFloat80_t *a, const extFloat80_t *b, extFloat80_t *z);
-void extF80M_div(const extFloat80_t *a, const extFloat80_t *b, extFloat80_t *z);
-void extF80M_rem(const extFloat80_t *a, const extFloat80_t *b, extFloat80_t *z);
-void extF80M_sqrt(const extFloat80_t *a, extFloat80_t *z);
-bool extF80M_eq(const extFloat80_t *a, const extFloat80_t *b);
-bool extF80M_le(const extFloat80_t *a, const extFloat80_t *b);
-bool extF80M_lt(const extFloat80_t *a, const extFloat80_t *b);
-bool extF80M_eq_signaling(const extFloat80_t *a, const extFloat80_t *b);
-bool extF80M_le_quiet(const extFloat80_t *a, const extFloat80_t *b);
-bool extF80M_lt_quiet(const extFloat80_t *a, const extFloat80_t *b);
-bool extF80M_isSignalingNaN(const extFloat80_t *a);
+/* Values of one format in another. */
+#define softfloat_conversions(F, T, G, U) \
+    U F##_to_##G(T a); \
+    T G##_to_##F(U a);
+softfloat_conversions(f16, float16_t, f32, float32_t)
+softfloat_conversions(f16, float16_t, f64, float64_t)
+softfloat_conversions(f16, float16_t, extF80, extFloat80_t)
+softfloat_conversions(f16, float16_t, f128, float128_t)
+softfloat_conversions(f32, float32_t, f64, float64_t)
+softfloat_conversions(f32, float32_t, extF80, extFloat80_t)
+softfloat_conversions(f32, float32_t, f128, float128_t)
+softfloat_conversions(f64, float64_t, extF80, extFloat80_t)
+softfloat_conversions(f64, float64_t, f128, float128_t)
+softfloat_conversions(extF80, extFloat80_t, f128, float128_t)
+softfloat_conversions(f32, float32_t, bf16, bfloat16_t)
+#undef softfloat_conversions
 
-void f128M_roundToInt(const float128_t *a, uint_fast8_t mode, bool exact, float128_t *z);
-void f128M_add(const float128_t *a, const float128_t *b, float128_t *z);
-void f128M_sub(const float128_t *a, const float128_t *b, float128_t *z);
-void f128M_mul(const float128_t *a, const float128_t *b, float128_t *z);
+/* ---- the same by pointers: a function whose name has an M after that of a format takes its values, and leaves its
+ * result, by them */
+
+#define softfloat_conversions_by_pointers(F, T, G, U) \
+    void G##_to_##F##M(U a, T *z); \
+    U F##M_to_##G(const T *a);
+#define softfloat_functions_by_pointers(F, T) \
+    void ui32_to_##F##M(uint32_t n, T *z); \
+    void ui64_to_##F##M(uint64_t n, T *z); \
+    void i32_to_##F##M(int32_t n, T *z); \
+    void i64_to_##F##M(int64_t n, T *z); \
+    uint_fast32_t F##M_to_ui32(const T *a, uint_fast8_t mode, bool exact); \
+    uint_fast64_t F##M_to_ui64(const T *a, uint_fast8_t mode, bool exact); \
+    int_fast32_t F##M_to_i32(const T *a, uint_fast8_t mode, bool exact); \
+    int_fast64_t F##M_to_i64(const T *a, uint_fast8_t mode, bool exact); \
+    uint_fast32_t F##M_to_ui32_r_minMag(const T *a, bool exact); \
+    uint_fast64_t F##M_to_ui64_r_minMag(const T *a, bool exact); \
+    int_fast32_t F##M_to_i32_r_minMag(const T *a, bool exact); \
+    int_fast64_t F##M_to_i64_r_minMag(const T *a, bool exact); \
+    softfloat_conversions_by_pointers(F, T, f16, float16_t) \
+    softfloat_conversions_by_pointers(F, T, f32, float32_t) \
+    softfloat_conversions_by_pointers(F, T, f64, float64_t) \
+    void F##M_roundToInt(const T *a, uint_fast8_t mode, bool exact, T *z); \
+    void F##M_add(const T *a, const T *b, T *z); \
+    void F##M_sub(const T *a, const T *b, T *z); \
+    void F##M_mul(const T *a, const T *b, T *z); \
+    void F##M_div(const T *a, const T *b, T *z); \
+    void F##M_rem(const T *a, const T *b, T *z); \
+    void F##M_sqrt(const T *a, T *z); \
+    bool F##M_eq(const T *a, const T *b); \
+    bool F##M_le(const T *a, const T *b); \
+    bool F##M_lt(const T *a, const T *b); \
+    bool F##M_eq_signaling(const T *a, const T *b); \
+    bool F##M_le_quiet(const T *a, const T *b); \
+    bool F##M_lt_quiet(const T *a, const T *b); \
+    bool F##M_isSignalingNaN(const T *a);
+softfloat_functions_by_pointers(extF80, extFloat80_t)
+softfloat_functions_by_pointers(f128, float128_t)
+#undef softfloat_functions_by_pointers
+#undef softfloat_conversions_by_pointers
+
+void extF80M_to_f128M(const extFloat80_t *a, float128_t *z);
+void f128M_to_extF80M(const float128_t *a, extFloat80_t *z);
 void f128M_mulAdd(const float128_t *a, const float128_t *b, const float128_t *c, float128_t *z);
-void f128M_div(const float128_t *a, const float128_t *b, float128_t *z);
-void f128M_rem(const float128_t *a, const float128_t *b, float128_t *z);
-void f128M_sqrt(const float128_t *a, float128_t *z);
-bool f128M_eq(const float128_t *a, const float128_t *b);
-bool f128M_le(const float128_t *a, const float128_t *b);
-bool f128M_lt(const float128_t *a, const float128_t *b);
-bool f128M_eq_signaling(const float128_t *a, const float128_t *b);
-bool f128M_le_quiet(const float128_t *a, const float128_t *b);
-bool f128M_lt_quiet(const float128_t *a, const float128_t *b);
-bool f128M_isSignalingNaN(const float128_t *a);
 
 /* ---- functions that simulators add to SoftFloat, and later ones of its own
  *
@@ -319,8 +184,6 @@ int_fast8_t f16_to_i8(float16_t a, uint_fast8_t mode, bool exact);
 int_fast16_t f16_to_i16(float16_t a, uint_fast8_t mode, bool exact);
 uint_fast16_t f32_to_ui16(float32_t a, uint_fast8_t mode, bool exact);
 int_fast16_t f32_to_i16(float32_t a, uint_fast8_t mode, bool exact);
-float32_t bf16_to_f32(bfloat16_t a);
-bfloat16_t f32_to_bf16(float32_t a);
 bool bf16_isSignalingNaN(bfloat16_t a);
 
 #ifdef __cplusplus

@@ -174,11 +174,11 @@ static void values(void) {
     case 17: ONE(apfloat_next_up, f, x); break;
     case 18: ONE(apfloat_next_down, f, x); break;
     case 19: ONE(apfloat_compare, f, x, y); break;
-    case 20: ONE(apfloat_classify, f, x); break;
-    case 21: ONE(apfloat_is_negative, f, x); break;
-    case 22: ONE(apfloat_neg, f, x); break;
-    case 23: ONE(apfloat_abs, f, x); break;
-    case 24: ONE(apfloat_copy_sign, f, x, y); break;
+    case 20: ONE(apfloat_copy_sign, f, x, y); break;
+    case 21: ONE(apfloat_classify, f, x); break;
+    case 22: ONE(apfloat_is_negative, f, x); break;
+    case 23: ONE(apfloat_neg, f, x); break;
+    case 24: ONE(apfloat_abs, f, x); break;
     case 25: ONE(apfloat_min, f, x, y); break;
     case 26: ONE(apfloat_max, f, x, y); break;
     case 27: ONE(apfloat_minimum, f, x, y); break;

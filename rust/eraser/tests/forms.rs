@@ -23,10 +23,10 @@ fn stays(text: &str) {
 #[track_caller]
 fn is_refused(text: &str, line: usize, why: &str) {
     match erase_text(text, "apfloat_base") {
-        Ok(erased) => panic!("not refused: {erased}"),
+        Ok(erased) => panic!("not refused: {text} becomes {erased}"),
         Err(refusal) => {
-            assert!(refusal.why.contains(why), "refused for another reason: {refusal}");
-            assert_eq!(refusal.line, line, "{refusal}");
+            assert!(refusal.why.contains(why), "{text} is refused for another reason: {refusal}");
+            assert_eq!(refusal.line, line, "{text}: {refusal}");
         }
     }
 }
@@ -94,6 +94,8 @@ fn clauses_are_left_out() {
         "fn f(x: u8) -> u8\n{\n    x + 1\n}\n",
     );
     becomes("fn f()\n    ensures* { (n : ℕ) → λ x. { [\"}\"] } }\n{}\n", "fn f()\n{}\n");
+    becomes("fn f() ensures { \"a\\n\" } {}\n", "fn f() {}\n");
+    becomes("fn f() ensures { a ⟦<P as Q>⟧ } {}\n", "fn f() {}\n");
     becomes(
         "trait T {\n    fn f(self) -> bool\n        ensures { result ≡ (a\n            × b) };\n}\n",
         "trait T {\n    fn f(self) -> bool\n        ;\n}\n",
@@ -235,25 +237,6 @@ fn f() {}
 }
 
 #[test]
-fn functions_for_c_of_unknown_forms_are_refused() {
-    is_refused("#[unsafe(no_mangle)]\npub fn f() -> u32 { 1 }\n", 1, "before anything but `pub extern");
-    is_refused("#[unsafe(no_mangle)]\nextern \"C\" fn f() -> u32 { 1 }\n", 1, "before anything but `pub extern");
-    is_refused("#[unsafe(no_mangle)]\npub extern \"system\" fn f() -> u32 { 1 }\n", 1, "before anything but");
-    is_refused("#[unsafe(no_mangle)]\npub extern \"C\" fn f<T>(x: T) -> u32 { 1 }\n", 1, "before anything but");
-    is_refused("#[unsafe(no_mangle)]\npub extern \"C\" fn f(x: &u32) -> u32 { 1 }\n", 2, "no C program can pass");
-    is_refused("#[unsafe(no_mangle)]\npub extern \"C\" fn f(x: &mut [P]) -> u32 { 1 }\n", 2, "no C program can pass");
-    is_refused("#[unsafe(no_mangle)]\npub extern \"C\" fn f(x: [u8; 2]) -> u32 { 1 }\n", 2, "no C program can pass");
-    is_refused("#[unsafe(no_mangle)]\npub extern \"C\" fn f(\n    (x, y): P\n) -> u32 { 1 }\n", 3, "can pass");
-    is_refused("#[unsafe(no_mangle)]\npub extern \"C\" fn f() {}\n", 2, "returns no number");
-    is_refused("#[unsafe(no_mangle)]\npub extern \"C\" fn f(x: bool) -> u32 { 1 }\n", 2, "no C program can pass");
-    is_refused("#[unsafe(no_mangle)]\npub extern \"C\" fn f(x: u128) -> u32 { 1 }\n", 2, "no C program can pass");
-    is_refused("#[repr(C)]\n#[derive(Clone)]\npub enum E { A }\n", 1, "before anything but a struct");
-    is_refused("#[unsafe(no_mangle)]\npub extern \"C\" fn f() -> &[u8] { g() }\n", 2, "returns no number");
-    is_refused("#[unsafe(no_mangle)]\npub extern \"C\" fn f() -> u32 where T: U { 1 }\n", 2, "of an unknown form");
-    is_refused("pub extern \"C\" fn f() -> u32 { 1 }\n", 1, "`extern`");
-}
-
-#[test]
 fn modules_of_streams_are_left_out() {
     let text = "mod array;\nmod conversion;\n\npub use array::A;\npub use conversion::{B, C};\nuse array::D;\n";
     let erased = erase_text(text, "apfloat_arrays").unwrap();
@@ -331,118 +314,17 @@ fn f(x: u8) -> u8 { each!(first(x)) }
     stays("bitflag_items! {\n    impl S: u8 {\n        /// None.\n        const OK = 0x00;\n    }\n}\n");
 }
 
+/// The texts in `refused`, which says what its columns are.
 #[test]
-fn clauses_of_unknown_forms_are_refused() {
-    is_refused("fn f()\n    ensures;\n", 2, "without its braces");
-    is_refused("fn f()\n    ensures x\n{}\n", 3, "nothing in its braces");
-    is_refused("fn f()\n    ensures x\n{\n    g()\n}\nfn g() {}\n", 3, "neither a clause, nor a body");
-    is_refused("fn f() ensures { a ∀ b } {}\n", 1, "'∀'");
-    is_refused("fn f() ensures {\n a' } {}\n", 2, "'\\''");
-    is_refused("fn f() ensures { a // b\n } {}\n", 1, "a comment in a clause");
-    is_refused("fn f() ensures { a -- b\n } {}\n", 1, "a comment in a clause");
-    is_refused("fn f() ensures { (a ] } {}\n", 1, "closes no bracket");
-    becomes("fn f() ensures { \"a\\n\" } {}\n", "fn f() {}\n");
-    becomes("fn f() ensures { a ⟦<P as Q>⟧ } {}\n", "fn f() {}\n");
-    is_refused("fn f() ensures { \"a\\t\" } {}\n", 1, "a string of an unknown form");
-    is_refused("fn f() ensures { a\n", 1, "without its end");
-    is_refused("fn f() {\n    let g = |x: u8| requires { x < 2 } { x };\n}\n", 2, "outside the head of a function");
-    is_refused("struct P { requires: u8 }\n", 1, "without its braces");
-}
-
-#[test]
-fn ghost_of_unknown_forms_is_refused() {
-    is_refused("ghost let x = 1;\n", 1, "`ghost` of an unknown form");
-    is_refused("ghost { x }\n", 1, "`ghost` without a name");
-    is_refused("fn f() {\n    ghost use A.{b};\n}\n", 2, "`ghost` of an unknown form");
-    is_refused("fn f() {\n    ghost x = { 1 };\n}\n", 2, "`ghost` of an unknown form");
-    is_refused("fn f(ghost x: { 1 }) {}\n", 1, "`ghost` in an unknown place");
-    is_refused("#[inline]\nghost x = { 1 };\n", 2, "`ghost` in an unknown place");
-    is_refused("struct P {\n    ghost a: { ∥ b ∥ },\n}\n", 2, "'∥'");
-    is_refused("impl Model for P {\n    ghost Value = { ℕ };\n    fn f() {}\n}\n", 3, "no ghost member");
-    is_refused("fn f<M: Model>() {}\n", 1, "`Model`");
-}
-
-#[test]
-fn attributes_that_are_unknown_are_refused() {
-    is_refused("#[repr(packed)]\nstruct P;\n", 1, "the attribute `#[repr(packed)]`");
-    is_refused("#![no_std]\n", 1, "the attribute");
-    is_refused("#![inline]\n", 1, "the attribute `#![inline]`");
-    is_refused("#[derive(Hash)]\nstruct P;\n", 1, "`derive(Hash)`");
-    is_refused("#[cfg(test)]\nfn f() {}\n", 1, "`#[cfg(test)]` before anything but");
-    is_refused("#[derive_where(Clone, Copy)]\nstruct P;\n", 1, "`derive_where` before an unknown form");
-    is_refused("#[derive_where(Clone, Copy)]\nstruct P<'a, 'b: 'a, S: B> { s: &'a S }\n", 2, "a type parameter");
-    is_refused("#[derive_where(Clone, Copy)]\nstruct P<S> { s: S }\n", 2, "a type parameter");
-}
-
-#[test]
-fn items_that_are_unknown_are_refused() {
-    is_refused("mod inner {\n}\n", 1, "an item that begins with `mod`");
-    is_refused("union U { a: u8 }\n", 1, "an item that begins with `union`");
-    is_refused("unsafe fn f() {}\n", 1, "`unsafe`");
-    is_refused("extern \"C\" fn f() {}\n", 1, "`extern`");
-    is_refused("static S: u8 = 1;\n", 1, "`static`");
-    is_refused("impl Drop for P {}\n", 1, "`Drop`");
-    is_refused("fn f(x: Vec<u8>) {}\n", 1, "`Vec`");
-    is_refused("fn f(x: P) -> P { x.clone() }\n", 1, "`clone`");
-    is_refused("fn f(rt: &HostRuntime) {}\n", 1, "`HostRuntime`");
-    is_refused("final struct P;\n", 1, "`final`");
-    is_refused("trait T {\n    final const N: u8;\n}\n", 2, "`final`");
-    is_refused("pub(in crate::a) fn f() {}\n", 1, "a visibility");
-    is_refused("fn f<W: fmt::Write>(w: &mut W) {}\n", 1, "generic in what it writes to");
-}
-
-#[test]
-fn paths_that_are_unknown_are_refused() {
-    is_refused("use std::alloc::Global;\n", 1, "`std::alloc::Global`");
-    is_refused("use std::ops::{Add, Index};\n", 1, "`std::ops::Index`");
-    is_refused("fn f() { std::process::exit(1) }\n", 1, "`std::process");
-    is_refused("use anyhow::Error;\n", 1, "no crate and no module");
-    is_refused("use super::*;\n", 1, "`use` of an unknown form");
-    is_refused("fn f(apfloat_model: u8) {}\n", 1, "the name of a crate, in an unknown place");
-    is_refused("fn f() { ::std::process::exit(1) }\n", 1, "`std` in an unknown place");
-    is_refused("fn f() { core::mem::swap(a, b) }\n", 1, "`core` in an unknown place");
-    is_refused("use std::marker::Model", 1, "without its semicolon");
-}
-
-#[test]
-fn macros_that_are_unknown_are_refused() {
-    is_refused("fn f() { println!(\"\") }\n", 1, "the macro `println!`");
-    is_refused("fn f() { assert!(true) }\n", 1, "the macro `assert!`");
-    is_refused("macro_rules! prove { () => {} }\nfn f() { prove!() }\n", 1, "another macro `prove!`");
-    is_refused("macro_rules! matches { () => {} }\n", 1, "another macro `matches!`");
-    is_refused("macro_rules! writeln { () => {} }\n", 1, "another macro `writeln!`");
-    is_refused("fn f() { matches!) }\n", 1, "no bracket where one has to open");
-    is_refused("macro_rules! m { () => { for i in 0.. {} } }\n", 1, "a range without an end");
-    is_refused("macro_rules! m ( () => {} );\n", 1, "`macro_rules!` of an unknown form");
-    is_refused("macro_rules! m { () => { x.clone() } }\n", 1, "`clone`");
-    is_refused("macro_rules! m { () => { println!() } }\n", 1, "the macro `println!`");
-    is_refused("macro_rules! m { ($x:ident $t:ident) => { $t! {} } }\n", 1, "the macro `$t!`, which the only");
-    is_refused("macro_rules! m { ($t:ident()) => { $t! {} }; () => { 1 } }\n", 1, "the macro `$t!`, which the only");
-    is_refused("macro_rules! m { ($t:ident, $u:ident) => { $t! {} $u! {} } }\n", 1, "the macro `$u!`, which the only");
-    is_refused(
-        "macro_rules! m { ($t:ident()) => { $t!() } }\nmacro_rules! n { ($t:ident) => { m!($t()) } }\n",
-        2,
-        "the macro `$!`",
-    );
-    is_refused("macro_rules! m { ($t:ident()) => { $t!() } }\nfn f() { m!(println()) }\n", 2, "the macro `println!`");
-    is_refused("macro_rules! m { () => { fn f() ensures { a } {} } }\n", 1, "a clause in a macro");
-}
-
-#[test]
-fn texts_that_are_no_tokens_are_refused() {
-    is_refused("fn f() {\n    let λ = 1;\n}\n", 2, "'λ'");
-    is_refused("fn f() { let s = \"a }\n", 1, "a string without its end");
-    is_refused("/* a\n", 1, "a comment without its end");
-    is_refused("fn f() { '' }\n", 1, "a quote");
-    is_refused("fn r#fn() {}\n", 1, "a raw name");
-    is_refused("fn f() {\n", 1, "a bracket without its end");
-    is_refused("fn f() {}\n}\n", 2, "a bracket that closes none");
+fn unknown_forms_are_refused() {
+    for row in include_str!("refused").lines().filter(|row| !row.is_empty() && !row.starts_with('#')) {
+        let [line, why, text] = row.split('\t').collect::<Vec<_>>()[..] else { panic!("not three columns: {row}") };
+        is_refused(&text.replace(r"\n", "\n"), line.parse().unwrap(), why);
+    }
 }
 
 #[test]
 fn ranges_without_an_end_are_refused() {
-    is_refused("fn f() {\n    for i in 0.. {\n    }\n}\n", 2, "a range without an end");
-    is_refused("fn f() { g((250..)) }\n", 1, "a range without an end");
     for text in [
         "for i in a[0].. {}",
         "for c in 'a'.. {}",

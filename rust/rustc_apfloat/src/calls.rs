@@ -106,6 +106,16 @@ macro_rules! same_types {
 
 same_types! { bool, i32, u32, i128, u128, usize, crate::Round, core::cmp::Ordering }
 
+/// Formats of the module `library`, the one of that name in the scope, whose trait has the same constants.
+macro_rules! library_formats {
+    ($Format:ident $constants:tt: $($name:ident)*) => {$(library_formats! { @ $Format $constants $name })*};
+    (@ $Format:ident { $($constant:ident: $of:ty),* } $name:ident) => {
+        impl $Format for $name {
+            $(const $constant: $of = <$name as library::$Format>::$constant;)*
+        }
+    };
+}
+
 /// Functions of the module `library`, the one of that name in the scope: each with its formats, the target first if
 /// there is one, and after `where` what is asserted of the arguments.
 macro_rules! library_calls {

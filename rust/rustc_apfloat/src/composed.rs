@@ -47,6 +47,13 @@ impl<F: Float> Composed<F> {
         status.and(Composed(high, low))
     }
 
+    /// The sum of some parts, one after another, with the flags of each step.
+    fn sum_of_parts<const N: usize>(parts: [F; N], round: Round) -> StatusAnd<F> {
+        let mut status = Status::OK;
+        let sum = parts.into_iter().reduce(|sum, part| unpack!(status |=, sum.add_r(part, round)));
+        status.and(sum.unwrap_or(F::ZERO))
+    }
+
     /// What the sum `z` of the high parts lost of the pairs' sum.
     fn lost_of_sum(self, rhs: Self, z: F, round: Round) -> StatusAnd<F> {
         let (Composed(a, aa), Composed(c, cc)) = (self, rhs);
@@ -55,9 +62,7 @@ impl<F: Float> Composed<F> {
         let lost_of_c = unpack!(status |=, q.add_r(c, round));
         let z_again = unpack!(status |=, q.add_r(z, round));
         let gained = unpack!(status |=, z_again.sub_r(a, round));
-        let lost = unpack!(status |=, lost_of_c.add_r(-gained, round));
-        let with_aa = unpack!(status |=, lost.add_r(aa, round));
-        let zz = unpack!(status |=, with_aa.add_r(cc, round));
+        let zz = unpack!(status |=, Self::sum_of_parts([lost_of_c, -gained, aa, cc], round));
         status.and(zz)
     }
 
@@ -68,16 +73,13 @@ impl<F: Float> Composed<F> {
             Ordering::Less | Ordering::Equal => (rhs.0, self.0),
         };
         let mut status;
-        let lows = unpack!(status =, rhs.1.add_r(self.1, round));
-        let with_lesser = unpack!(status |=, lows.add_r(lesser, round));
-        let z = unpack!(status |=, with_lesser.add_r(greater, round));
+        let z = unpack!(status =, Self::sum_of_parts([rhs.1, self.1, lesser, greater], round));
         if !z.is_finite() {
             return status.and(Self::alone(z));
         }
         let zz = unpack!(status |=, self.1.add_r(rhs.1, round));
         let left = unpack!(status |=, greater.sub_r(z, round));
-        let with_lesser = unpack!(status |=, left.add_r(lesser, round));
-        let low = unpack!(status |=, with_lesser.add_r(zz, round));
+        let low = unpack!(status |=, Self::sum_of_parts([left, lesser, zz], round));
         status.and(Composed(z, low))
     }
 

@@ -56,18 +56,10 @@ pub trait Projection: Sized {
     const EXTENDED: bool;
 }
 
-macro_rules! named_formats {
-    ($($name:ident)*) => {$(
-        impl Projection for $name {
-            const BITS: usize = <$name as library::Projection>::BITS;
-            const PRECISION: usize = <$name as library::Projection>::PRECISION;
-            const SIGNED: bool = <$name as library::Projection>::SIGNED;
-            const EXTENDED: bool = <$name as library::Projection>::EXTENDED;
-        }
-    )*};
+library_formats! {
+    Projection { BITS: usize, PRECISION: usize, SIGNED: bool, EXTENDED: bool }:
+    Binary8P3 Binary8P4 Binary8P5 Binary8P1UF
 }
-
-named_formats! { Binary8P3 Binary8P4 Binary8P5 Binary8P1UF }
 
 /// The format `F` as the library knows these formats.
 struct LawfulP<F>(PhantomData<F>);

@@ -78,17 +78,7 @@ pub trait StorageFormat: Sized {
     const MIN_EXP: ExpInt;
 }
 
-macro_rules! named_formats {
-    ($($name:ident)*) => {$(
-        impl StorageFormat for $name {
-            const BITS: usize = <$name as library::StorageFormat>::BITS;
-            const PRECISION: usize = <$name as library::StorageFormat>::PRECISION;
-            const MIN_EXP: ExpInt = <$name as library::StorageFormat>::MIN_EXP;
-        }
-    )*};
-}
-
-named_formats! { E2M1FN E2M3FN E3M2FN }
+library_formats! { StorageFormat { BITS: usize, PRECISION: usize, MIN_EXP: ExpInt }: E2M1FN E2M3FN E3M2FN }
 
 /// The law of storage formats: the first clause that the constants break.
 const fn fault(bits: usize, precision: usize, min_exp: ExpInt) -> Option<&'static str> {

@@ -31,13 +31,10 @@ type Extended = IeeeFloat<IeeeFlags<X87DoubleExtendedS>>;
 /// In the order of the rounding control of MXCSR and of the control word of x87.
 const MODES: [Round; 4] = [Round::NearestTiesToEven, Round::TowardNegative, Round::TowardPositive, Round::TowardZero];
 
-// Flags of MXCSR and of the status word of x87.
+// Flags of MXCSR and of the status word of x87; `flags_of` has the others.
 const INVALID: u32 = 1;
 const DENORMAL: u32 = 2;
 const DIV_BY_ZERO: u32 = 4;
-const OVERFLOW: u32 = 8;
-const UNDERFLOW: u32 = 16;
-const INEXACT: u32 = 32;
 
 // Controls of MXCSR: all flags masked; results flushed to zero; denormal operands taken as zeros.
 const MASKED: u32 = 0x1f80;
@@ -56,9 +53,9 @@ fn flags_of(status: Status) -> u32 {
     [
         (Status::INVALID_OP, INVALID),
         (Status::DIV_BY_ZERO, DIV_BY_ZERO),
-        (Status::OVERFLOW, OVERFLOW),
-        (Status::UNDERFLOW, UNDERFLOW),
-        (Status::INEXACT, INEXACT),
+        (Status::OVERFLOW, 8),
+        (Status::UNDERFLOW, 16),
+        (Status::INEXACT, 32),
     ]
     .iter()
     .map(|&(flag, bit)| if status.intersects(flag) { bit } else { 0 })
@@ -466,28 +463,24 @@ macro_rules! sse_operations {
 
 /// Conversions between the formats of SSE.
 fn conversions(tally: &mut Tally, draw: &mut Draw, count: u64) {
-    tally.rows("double to single", count, || {
-        let control = Control::drawn(draw);
-        let a = draw.converted_double(|draw| (draw.value(8, 52, None) & !(1 << 60)) | 7 << 59);
-        let given = f64::from_bits(a as u64);
-        let mut narrow = 0f32;
-        let flags = sse!(control.word, "cvtsd2ss {narrow}, {given}",
-            narrow = inout(xmm_reg) narrow, given = in(xmm_reg) given,);
-        let here = Outcome { value: narrow.to_bits().into(), flags };
-        let ours = control.converted(Double::from_bits(a), |answer: StatusAnd<Single>| control.result(answer));
-        (here, ours, format!("{:x} {a:x}", control.word))
-    });
-    tally.rows("single to double", count, || {
-        let control = Control::drawn(draw);
-        let a = draw.single(None);
-        let given = f32::from_bits(a as u32);
-        let mut wide = 0f64;
-        let flags = sse!(control.word, "cvtss2sd {wide}, {given}",
-            wide = inout(xmm_reg) wide, given = in(xmm_reg) given,);
-        let here = Outcome { value: wide.to_bits().into(), flags };
-        let ours = control.converted(Single::from_bits(a), |answer: StatusAnd<Double>| control.result(answer));
-        (here, ours, format!("{:x} {a:x}", control.word))
-    });
+    macro_rules! conversion {
+        ($name:literal, $instruction:literal, $operand:expr, $Given:ident $given:ty, $Made:ident $made:ty) => {
+            tally.rows($name, count, || {
+                let control = Control::drawn(draw);
+                let a = $operand;
+                let given = <$given>::from_bits(a as _);
+                let mut made: $made = 0.0;
+                let flags = sse!(control.word, concat!($instruction, " {made}, {given}"),
+                    made = inout(xmm_reg) made, given = in(xmm_reg) given,);
+                let here = Outcome { value: made.to_bits().into(), flags };
+                let ours = control.converted($Given::from_bits(a), |answer: StatusAnd<$Made>| control.result(answer));
+                (here, ours, format!("{:x} {a:x}", control.word))
+            });
+        };
+    }
+    let near_single = |draw: &mut Draw| (draw.value(8, 52, None) & !(1 << 60)) | 7 << 59;
+    conversion!("double to single", "cvtsd2ss", draw.converted_double(near_single), Double f64, Single f32);
+    conversion!("single to double", "cvtss2sd", draw.single(None), Single f32, Double f64);
     // Half precision is neither flushed nor are its denormal numbers taken as zeros; those of single are.
     tally.rows("single to half", count, || {
         let control = Control::drawn(draw);

@@ -26,61 +26,43 @@ fn wide_less(x_exponent: ExpInt, x: u128, y_exponent: ExpInt, y: u128) -> Parts 
 }
 
 #[test]
-fn like_exponents() {
-    let got = [less(119, 0x110, 119, 0x105), less(118, 0x120, 118, 0x120), less(117, 0x100, 117, 0x101)];
-    let expected = [(false, 1, 0xb << 118), (false, 0, 0), (true, -1, 1 << 118)];
-    same(got, expected, "totals");
+fn totals() {
+    for (x_exponent, x, y_exponent, y, total) in [
+        // like exponents
+        (119, 0x110, 119, 0x105, (false, 1, 0xb << 118)),
+        (118, 0x120, 118, 0x120, (false, 0, 0)),
+        (117, 0x100, 117, 0x101, (true, -1, 1 << 118)),
+        // less the one with the lower exponent
+        (7, 0x100, 3, 0x101, (false, -111, 0xeff << 114)),
+        (127, 0x100, 0, 0x100, (false, 9, (1 << 126) - 1)),
+        (244, 0x100, 117, 0x100, (false, 126, (1 << 126) - 1)),
+        (300, 0x100, 0, 0x100, (false, 182, (1 << 126) - 1)),
+        // less the one with the higher exponent
+        (3, 0x101, 7, 0x100, (true, -111, 0xeff << 114)),
+        (0, 0x100, 300, 0x100, (true, 182, (1 << 126) - 1)),
+    ] {
+        assert_eq!(less(x_exponent, x, y_exponent, y), total, "{x_exponent} {x:x} {y_exponent} {y:x}");
+    }
 }
 
 #[test]
-fn less_the_lower() {
-    let got = [
-        less(7, 0x100, 3, 0x101),
-        less(127, 0x100, 0, 0x100),
-        less(244, 0x100, 117, 0x100),
-        less(300, 0x100, 0, 0x100),
-    ];
-    let expected = [
-        (false, -111, 0xeff << 114),
-        (false, 9, (1 << 126) - 1),
-        (false, 126, (1 << 126) - 1),
-        (false, 182, (1 << 126) - 1),
-    ];
-    same(got, expected, "totals");
-}
-
-#[test]
-fn less_the_higher() {
-    let got = [less(3, 0x101, 7, 0x100), less(0, 0x100, 300, 0x100)];
-    let expected = [(true, -111, 0xeff << 114), (true, 182, (1 << 126) - 1)];
-    same(got, expected, "totals");
-}
-
-#[test]
-fn wide_like_exponents() {
-    let got = [wide_less(10, 0x110, 10, 0x105), wide_less(10, 0x120, 10, 0x120), wide_less(10, 0x100, 10, 0x101)];
-    let expected = [(false, 3, 0xb << 124), (false, -117, 0), (true, 0, 1 << 127)];
-    same(got, expected, "totals");
-}
-
-#[test]
-fn wide_less_the_lower() {
-    let got = [
-        wide_less(4, 0x100, 0, 0x101),
-        wide_less(127, 0x100, 0, 0x101),
-        wide_less(128, 0x100, 0, 0x101),
-        wide_less(372, 0x100, 0, 0x101),
-    ];
-    let expected =
-        [(false, 1, 0xeff << 116), (false, 124, u128::MAX - 2), (false, 125, u128::MAX), (false, 369, u128::MAX)];
-    same(got, expected, "totals");
-}
-
-#[test]
-fn wide_less_the_higher() {
-    let got = [wide_less(0, 0x101, 4, 0x100), wide_less(0, 0x101, 372, 0x100)];
-    let expected = [(true, 1, 0xeff << 116), (true, 369, u128::MAX)];
-    same(got, expected, "totals");
+fn wide_totals() {
+    for ([x_exponent, y_exponent], [x, y], total) in [
+        // like exponents
+        ([10, 10], [0x110, 0x105], (false, 3, 0xb << 124)),
+        ([10, 10], [0x120, 0x120], (false, -117, 0)),
+        ([10, 10], [0x100, 0x101], (true, 0, 1 << 127)),
+        // less the one with the lower exponent
+        ([4, 0], [0x100, 0x101], (false, 1, 0xeff << 116)),
+        ([127, 0], [0x100, 0x101], (false, 124, u128::MAX - 2)),
+        ([128, 0], [0x100, 0x101], (false, 125, u128::MAX)),
+        ([372, 0], [0x100, 0x101], (false, 369, u128::MAX)),
+        // less the one with the higher exponent
+        ([0, 4], [0x101, 0x100], (true, 1, 0xeff << 116)),
+        ([0, 372], [0x101, 0x100], (true, 369, u128::MAX)),
+    ] {
+        assert_eq!(wide_less(x_exponent, x, y_exponent, y), total, "{x_exponent} {x:x} {y_exponent} {y:x}");
+    }
 }
 
 // ---- that the plain form, with a loss, agrees with the others

@@ -60,6 +60,16 @@ pub static OPERATIONS: &[&str] =
 /// The options.
 pub static OPTIONS: &[&str] = &["--help", "-h", "--machine", "--svg", "--version"];
 
+/// The operations on two values by their words.
+const OF_TWO: [(&str, Arithmetic); 6] = [
+    ("add", Arithmetic::Sum),
+    ("sub", Arithmetic::Difference),
+    ("mul", Arithmetic::Product),
+    ("div", Arithmetic::Quotient),
+    ("rem", Arithmetic::NearestRemainder),
+    ("mod", Arithmetic::TruncatedRemainder),
+];
+
 /// The words of the machines.
 pub static MACHINES: &[&str] = &["x86", "x87", "arm", "arm_default_nan", "arm_alternate", "risc_v", "power", "s390x"];
 
@@ -86,13 +96,10 @@ pub enum Operation {
 impl Operation {
     /// The operation of this name.
     pub fn named(word: &str) -> Option<Operation> {
+        if let Some((_, arithmetic)) = OF_TWO.iter().find(|(known, _)| *known == word) {
+            return Some(Operation::OfTwo(*arithmetic));
+        }
         match word {
-            "add" => Some(Operation::OfTwo(Arithmetic::Sum)),
-            "sub" => Some(Operation::OfTwo(Arithmetic::Difference)),
-            "mul" => Some(Operation::OfTwo(Arithmetic::Product)),
-            "div" => Some(Operation::OfTwo(Arithmetic::Quotient)),
-            "rem" => Some(Operation::OfTwo(Arithmetic::NearestRemainder)),
-            "mod" => Some(Operation::OfTwo(Arithmetic::TruncatedRemainder)),
             "fma" => Some(Operation::FusedSum),
             "sqrt" => Some(Operation::SquareRoot),
             _ => Element::named(word).map(Operation::Into),

@@ -1,6 +1,7 @@
 //! Reports what a conversion does to values: `report_conversion FROM TO.. MODE` reads little-endian values of the
 //! format FROM from standard input, and writes how many of them each format TO has exactly, what becomes of the others,
-//! how far they are moved, and how they are distributed over binades. With `--svg FILE` it draws that instead.
+//! how far they are moved, and how they are distributed over binades. With `--svg FILE` it draws that instead. The
+//! conversions are those of `convert_values`, in any of three rules of scales.
 //!
 //! `HELP` explains the arguments.
 //!
@@ -8,6 +9,7 @@
 //! there is not enough memory for them, and 4 if a read or a write failed.
 #![forbid(unsafe_code)]
 
+mod blocks;
 mod decibels;
 #[path = "../../erased.rs"]
 mod erased;

@@ -1,6 +1,7 @@
 //! What the words of a command line ask for.
 
-use crate::erased::commands::{MODES, WrongWord};
+use crate::blocks::{RULES, ScaleRule};
+use crate::erased::commands::{FORMATS, MODES, WrongWord, suggested};
 use crate::erased::formats_at_run_time::mode_named;
 use crate::erased::small_formats::saturation::{FiniteNan, Overflow};
 use crate::target::{Target, Way, built_in_named, is_within_double};
@@ -35,6 +36,14 @@ MODE  even    to the nearest value, ties to even
       zero    toward zero
       away    to the nearest value, ties away from zero
 
+The exponent of a scale follows from the greatest magnitude in the block by a
+rule, which may stand after the blocks' word, as in mxfp4+ceil:
+
+RULE  floor   the exponent of the magnitude less that of the largest element;
+              the rule of convert_values, and the one without a word
+      ceil    the least exponent with which no element is past the largest
+      even    as floor, once the magnitude has only as many digits as elements
+
 --saturate          numbers past the largest value become that
 --saturate-finite   infinities too
 --saturate-all      NaNs too
@@ -48,7 +57,7 @@ The exit status is 0 for a report, 1 if the stream ended inside a value or a
 block, 2 for other arguments, 3 if there is not enough memory for them, and 4 if
 a read or a write failed.
 
-    report_conversion single e4m3fn mxfp4 even < weights
+    report_conversion single e4m3fn mxfp4 mxfp4+ceil even < weights
     report_conversion --svg report.svg bfloat e5m2 even < gradients
 ";
 
@@ -60,21 +69,8 @@ const OPTIONS: &[&str] =
 const SOURCES: &[&str] =
     &["half", "single", "double", "bfloat", "e5m2", "e4m3fn", "e4m3fnuz", "e4m3", "e5m2fnuz", "e4m3b11fnuz", "tf32"];
 
-/// What values may be converted to.
-const TARGETS: &[&str] = &[
-    "half",
-    "single",
-    "double",
-    "quad",
-    "bfloat",
-    "e5m2",
-    "e4m3fn",
-    "e4m3fnuz",
-    "x87",
-    "e4m3",
-    "e5m2fnuz",
-    "e4m3b11fnuz",
-    "tf32",
+/// What values may be converted to beside the built-in formats.
+const OTHER_TARGETS: &[&str] = &[
     "e2m1fn",
     "e2m3fn",
     "e3m2fn",
@@ -140,10 +136,7 @@ impl<'a> Request<'a> {
             many if many > MOST_TARGETS => return Err(Fault::Words("too many formats")),
             _ => {}
         }
-        let named = |word: &'a String| match Target::named(word, options.length) {
-            Some(target) => Ok((word.as_str(), target)),
-            None => Err(unknown("no such format", word, TARGETS)),
-        };
+        let named = |word: &'a String| options.target(word).map(|target| (word.as_str(), target));
         let targets = targets.iter().map(named).collect::<Result<_, _>>()?;
         let Some(round) = mode_named(mode) else {
             return Err(unknown("no such mode", mode, MODES));
@@ -159,6 +152,15 @@ impl<'a> Request<'a> {
 }
 
 impl<'a> Options<'a> {
+    /// The target of this word.
+    fn target(&self, word: &'a str) -> Result<Target, Fault<'a>> {
+        let (format, rule) = word.split_once('+').unwrap_or((word, "floor"));
+        let is_block = |target: &Target| matches!(target, Target::Blocks(_)) || format == word;
+        let rule = ScaleRule::named(rule).ok_or(unknown("no such rule of scales", rule, RULES))?;
+        let known = if suggested(format, FORMATS).is_some() { FORMATS } else { OTHER_TARGETS };
+        Target::named(format, self.length, rule).filter(is_block).ok_or(unknown("no such format", word, known))
+    }
+
     /// Takes an option, and returns the words after it and its value.
     fn take(&mut self, option: &'a str, others: &'a [String]) -> Result<&'a [String], Fault<'a>> {
         match option {

@@ -1,5 +1,6 @@
 //! What values are converted to, and which numbers that has.
 
+use crate::blocks::{Blocks, ScaleRule};
 use crate::erased::apfloat_arrays::scaled_blocks::{Dequantization, Quantization};
 use crate::erased::apfloat_arrays::stored::{Ends, StorageArray, StoredFormat};
 use crate::erased::apfloat_arrays::{ArrayConversion, Counts, Extended, width};
@@ -8,6 +9,7 @@ use crate::erased::rustc_apfloat::Round;
 use crate::erased::rustc_apfloat::ieee::Semantics;
 use crate::erased::small_formats::blocks::ElementFormat;
 use crate::erased::small_formats::saturation::Overflow;
+use crate::measures::doubles;
 
 /// The bytes of a double.
 const DOUBLE: usize = 8;
@@ -17,8 +19,8 @@ const DOUBLE: usize = 8;
 pub enum Target {
     BuiltIn(BuiltInFormat),
     Stored(StoredFormat),
-    /// Blocks with a common scale, of so many elements.
-    Blocks(ElementFormat, usize),
+    /// Blocks with a common scale.
+    Blocks(Blocks),
 }
 
 /// How values are converted.
@@ -56,10 +58,10 @@ pub fn is_within_double(format: BuiltInFormat) -> bool {
 }
 
 impl Target {
-    /// The format of this word, or the blocks of so many elements.
-    pub fn named(word: &str, length: usize) -> Option<Target> {
+    /// The format of this word, or the blocks of so many elements with a scale by that rule.
+    pub fn named(word: &str, length: usize, rule: ScaleRule) -> Option<Target> {
         if let Some(element) = element_named(word) {
-            return Some(Target::Blocks(element, length));
+            return Some(Target::Blocks(Blocks { element, length, rule }));
         }
         match StoredFormat::named(word) {
             Some(stored) => Some(Target::Stored(stored)),
@@ -70,7 +72,7 @@ impl Target {
     /// How many values are converted together.
     pub fn values_together(self) -> usize {
         match self {
-            Target::Blocks(_, length) => length,
+            Target::Blocks(blocks) => blocks.length,
             Target::BuiltIn(_) | Target::Stored(_) => 1,
         }
     }
@@ -80,7 +82,7 @@ impl Target {
         match self {
             Target::BuiltIn(format) => format.run(DigitsOf),
             Target::Stored(stored) => stored_digits(stored),
-            Target::Blocks(element, _) => element_digits(element),
+            Target::Blocks(blocks) => element_digits(blocks.element),
         }
     }
 
@@ -107,10 +109,17 @@ impl Target {
                 from.convert(count, &codes, &mut results);
                 Converted { results, scales: Vec::new(), counts }
             }
-            Target::Blocks(element, length) => {
+            Target::Blocks(blocks) => {
+                let Blocks { element, length, rule } = blocks;
                 let (mut scales, mut codes) = (vec![0; count / length], vec![0; count]);
-                let to = Quantization { source, element, length, round };
-                let counts = to.quantize(values, &mut scales, &mut codes).unwrap_or(Counts::NONE);
+                let counts = if rule == ScaleRule::Floor {
+                    let to = Quantization { source, element, length, round };
+                    to.quantize(values, &mut scales, &mut codes).unwrap_or(Counts::NONE)
+                } else {
+                    doubles_of(source, values, &mut results);
+                    let values: Vec<_> = doubles(&results).collect();
+                    blocks.quantize(element_digits(element).precision, round, &values, &mut scales, &mut codes)
+                };
                 let target = FlaggedFormat::BuiltIn(BuiltInFormat::Double);
                 let from = Dequantization { element, length, target, round: EXACT };
                 // The lengths fit together, and the codes are of the format.

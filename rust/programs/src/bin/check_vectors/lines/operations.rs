@@ -5,7 +5,7 @@
 use crate::erased::apfloat_machines::MinimumRule;
 use crate::erased::ieee_operations::{Extremum, OnNan, Predicate};
 use crate::lines::form::Form;
-use crate::lines::table::found;
+use crate::lines::table::{found, words};
 
 /// An operation of IEEE 754-2019.
 #[derive(Clone, Copy)]
@@ -157,44 +157,41 @@ pub enum FlagsCall {
     Restore,
 }
 
-// The operations by their names, but for comparison predicates, and minima and maxima on machines.
+// The operations whose names end in `_to` and `_odd`.
+words! { ARITHMETIC: FormatOfCall {
+    "add" Add  "sub" Sub  "mul" Mul  "div" Div  "sqrt" Sqrt  "mul_add" MulAdd
+} }
+
+// The minima and maxima, whose names end in `_of`, or `_number_of` if they prefer a number to a NaN.
+words! { EXTREMA: Extremum {
+    "minimum" Minimum  "maximum" Maximum  "minimum_magnitude" MinimumMagnitude  "maximum_magnitude" MaximumMagnitude
+} }
+
+words! { ODD_CALLS: OddCall {
+    "convert_odd" Convert  "round_to_odd_integral" RoundToIntegral  "from_u128_odd" FromU128
+    "from_i128_odd" FromI128  "to_u128_odd" ToU128  "to_i128_odd" ToI128  "round_odd_to" Again
+} }
+
+words! { GENERAL_CALLS: GeneralCall {
+    "log_b" LogB  "integer_log_b" IntegerLogB  "round_to_integral_in" RoundToIntegralIn  "class_of" Class
+    "radix" Radix  "is_canonical" IsCanonical  "is_canonical_encoding" IsCanonicalEncoding
+} }
+
+words! { BLOCK_CALLS: BlockCall {
+    "quantize_block" Quantize  "dequantize_block" Dequantize  "quantize_nvfp4_block" QuantizeNvfp4
+    "dequantize_nvfp4_block" DequantizeNvfp4  "tensor_scale" TensorScale
+} }
+
+words! { FLAGS_CALLS: FlagsCall {
+    "lower_flags" Lower  "raise_flags" Raise  "test_flags" Test  "save_all_flags" SaveAll
+    "test_saved_flags" TestSaved  "restore_flags" Restore
+} }
+
+// All other operations by their names, but for comparison predicates, and minima and maxima on machines.
 static OPERATIONS: &[(&str, OperationCall)] = &[
-    ("add_to", OperationCall::InAnother(FormatOfCall::Add)),
-    ("sub_to", OperationCall::InAnother(FormatOfCall::Sub)),
-    ("mul_to", OperationCall::InAnother(FormatOfCall::Mul)),
-    ("div_to", OperationCall::InAnother(FormatOfCall::Div)),
-    ("sqrt_to", OperationCall::InAnother(FormatOfCall::Sqrt)),
-    ("mul_add_to", OperationCall::InAnother(FormatOfCall::MulAdd)),
-    ("add_odd", OperationCall::Odd(OddCall::Arithmetic(FormatOfCall::Add))),
-    ("sub_odd", OperationCall::Odd(OddCall::Arithmetic(FormatOfCall::Sub))),
-    ("mul_odd", OperationCall::Odd(OddCall::Arithmetic(FormatOfCall::Mul))),
-    ("div_odd", OperationCall::Odd(OddCall::Arithmetic(FormatOfCall::Div))),
-    ("sqrt_odd", OperationCall::Odd(OddCall::Arithmetic(FormatOfCall::Sqrt))),
-    ("mul_add_odd", OperationCall::Odd(OddCall::Arithmetic(FormatOfCall::MulAdd))),
-    ("convert_odd", OperationCall::Odd(OddCall::Convert)),
-    ("round_to_odd_integral", OperationCall::Odd(OddCall::RoundToIntegral)),
-    ("from_u128_odd", OperationCall::Odd(OddCall::FromU128)),
-    ("from_i128_odd", OperationCall::Odd(OddCall::FromI128)),
-    ("to_u128_odd", OperationCall::Odd(OddCall::ToU128)),
-    ("to_i128_odd", OperationCall::Odd(OddCall::ToI128)),
     ("total_order", OperationCall::Order(OrderCall::TotalOrder)),
     ("total_order_mag", OperationCall::Order(OrderCall::TotalOrderMag)),
     ("total_cmp", OperationCall::Order(OrderCall::TotalCmp)),
-    ("minimum_of", OperationCall::Extremum(Extremum::Minimum, false)),
-    ("maximum_of", OperationCall::Extremum(Extremum::Maximum, false)),
-    ("minimum_magnitude_of", OperationCall::Extremum(Extremum::MinimumMagnitude, false)),
-    ("maximum_magnitude_of", OperationCall::Extremum(Extremum::MaximumMagnitude, false)),
-    ("minimum_number_of", OperationCall::Extremum(Extremum::Minimum, true)),
-    ("maximum_number_of", OperationCall::Extremum(Extremum::Maximum, true)),
-    ("minimum_magnitude_number_of", OperationCall::Extremum(Extremum::MinimumMagnitude, true)),
-    ("maximum_magnitude_number_of", OperationCall::Extremum(Extremum::MaximumMagnitude, true)),
-    ("log_b", OperationCall::OfOne(GeneralCall::LogB)),
-    ("integer_log_b", OperationCall::OfOne(GeneralCall::IntegerLogB)),
-    ("round_to_integral_in", OperationCall::OfOne(GeneralCall::RoundToIntegralIn)),
-    ("class_of", OperationCall::OfOne(GeneralCall::Class)),
-    ("radix", OperationCall::OfOne(GeneralCall::Radix)),
-    ("is_canonical", OperationCall::OfOne(GeneralCall::IsCanonical)),
-    ("is_canonical_encoding", OperationCall::OfOne(GeneralCall::IsCanonicalEncoding)),
     ("scale_b", OperationCall::ScaleB),
     ("convert_to_signed", OperationCall::ToInteger(ToIntegerCall::Signed)),
     ("convert_to_signed_exact", OperationCall::ToInteger(ToIntegerCall::SignedExact)),
@@ -215,45 +212,39 @@ static OPERATIONS: &[(&str, OperationCall)] = &[
     ("convert_saturate_all", OperationCall::Saturate(SaturateCall::All)),
     ("convert_stochastic", OperationCall::ConvertStochastic),
     ("convert_stochastic_all", OperationCall::ConvertStochasticAll),
-    ("round_odd_to", OperationCall::Odd(OddCall::Again)),
-    ("quantize_block", OperationCall::OfBlock(BlockCall::Quantize)),
-    ("dequantize_block", OperationCall::OfBlock(BlockCall::Dequantize)),
-    ("quantize_nvfp4_block", OperationCall::OfBlock(BlockCall::QuantizeNvfp4)),
-    ("dequantize_nvfp4_block", OperationCall::OfBlock(BlockCall::DequantizeNvfp4)),
-    ("tensor_scale", OperationCall::OfBlock(BlockCall::TensorScale)),
-    ("lower_flags", OperationCall::OfFlags(FlagsCall::Lower)),
-    ("raise_flags", OperationCall::OfFlags(FlagsCall::Raise)),
-    ("test_flags", OperationCall::OfFlags(FlagsCall::Test)),
-    ("save_all_flags", OperationCall::OfFlags(FlagsCall::SaveAll)),
-    ("test_saved_flags", OperationCall::OfFlags(FlagsCall::TestSaved)),
-    ("restore_flags", OperationCall::OfFlags(FlagsCall::Restore)),
 ];
 
 // The predicates by the ends of their names.
-static PREDICATES: &[(&str, Predicate)] = &[
-    ("equal", Predicate::Equal),
-    ("not_equal", Predicate::NotEqual),
-    ("greater", Predicate::Greater),
-    ("greater_equal", Predicate::GreaterEqual),
-    ("less", Predicate::Less),
-    ("less_equal", Predicate::LessEqual),
-    ("not_greater", Predicate::NotGreater),
-    ("less_unordered", Predicate::LessUnordered),
-    ("not_less", Predicate::NotLess),
-    ("greater_unordered", Predicate::GreaterUnordered),
-    ("unordered", Predicate::Unordered),
-    ("ordered", Predicate::Ordered),
-];
+words! { PREDICATES: Predicate {
+    "equal" Equal  "not_equal" NotEqual  "greater" Greater  "greater_equal" GreaterEqual  "less" Less
+    "less_equal" LessEqual  "not_greater" NotGreater  "less_unordered" LessUnordered  "not_less" NotLess
+    "greater_unordered" GreaterUnordered  "unordered" Unordered  "ordered" Ordered
+} }
 
 // The rules of machines by the ends of the names of their minima and maxima.
-static RULES: &[(&str, MinimumRule)] = &[
-    ("second", MinimumRule::Second),
-    ("second_quietly", MinimumRule::SecondQuietly),
-    ("first_nan", MinimumRule::FirstNan),
-    ("number_2008", MinimumRule::Number2008),
-    ("number_2019", MinimumRule::Number2019),
-    ("propagated", MinimumRule::Propagated),
-];
+words! { RULES: MinimumRule {
+    "second" Second  "second_quietly" SecondQuietly  "first_nan" FirstNan  "number_2008" Number2008
+    "number_2019" Number2019  "propagated" Propagated
+} }
+
+/// The arithmetic of this name, such as `add_to`.
+fn arithmetic_named(name: &str) -> Option<OperationCall> {
+    let (name, end) = name.rsplit_once('_')?;
+    match (found(ARITHMETIC, name)?, end) {
+        (call, "to") => Some(OperationCall::InAnother(call)),
+        (call, "odd") => Some(OperationCall::Odd(OddCall::Arithmetic(call))),
+        _ => None,
+    }
+}
+
+/// The minimum or the maximum of this name, such as `minimum_number_of`.
+fn extremum_named(name: &str) -> Option<OperationCall> {
+    let which = name.strip_suffix("_of")?;
+    match which.strip_suffix("_number") {
+        Some(which) => Some(OperationCall::Extremum(found(EXTREMA, which)?, true)),
+        None => Some(OperationCall::Extremum(found(EXTREMA, which)?, false)),
+    }
+}
 
 /// The comparison predicate of this name, such as `compare_quiet_less`.
 fn comparison_named(name: &str) -> Option<OperationCall> {
@@ -279,7 +270,15 @@ fn extremum_on_machine_named(name: &str) -> Option<OperationCall> {
 impl OperationCall {
     /// The operation of this name.
     pub fn named(name: &str) -> Option<OperationCall> {
-        found(OPERATIONS, name).or_else(|| comparison_named(name)).or_else(|| extremum_on_machine_named(name))
+        found(OPERATIONS, name)
+            .or_else(|| found(ODD_CALLS, name).map(OperationCall::Odd))
+            .or_else(|| found(GENERAL_CALLS, name).map(OperationCall::OfOne))
+            .or_else(|| found(BLOCK_CALLS, name).map(OperationCall::OfBlock))
+            .or_else(|| found(FLAGS_CALLS, name).map(OperationCall::OfFlags))
+            .or_else(|| arithmetic_named(name))
+            .or_else(|| extremum_named(name))
+            .or_else(|| comparison_named(name))
+            .or_else(|| extremum_on_machine_named(name))
     }
 
     /// The form of its operands.
