@@ -20,8 +20,7 @@ use Rattle.apfloat_arrays.specs.Outcomes.{raised}
 use Rattle.small_formats.specs.saturation.Saturation.{IsConversionBy}
 use Rattle.apfloat_arrays.specs.ShortSingles.{IsShortPlanFor}
 use Rattle.apfloat_arrays.specs.Singles.{IsPlanFor, outcome_of, saturates}
-use Rattle.apfloat_arrays.specs.Values.{IsAnswerFrom, IsConvertedBy}
-use Rattle.apfloat_arrays.proofs.ConversionsBy.{converted_from}
+use Rattle.apfloat_arrays.specs.Values.{IsAnswerAt, IsAnswerFrom, IsConvertedBy}
 
 -- a finite number's conversion, with any treatment of overflow
 finished_by : (overflow : Overflow) (f g : Format) (mode : Round) (negative : Bool) (quanta : ℕ) (rounded : Datum)
@@ -99,8 +98,8 @@ answers_by overflow c d mode target by round input output bits lane format layou
     bits lane) layout
     (subst (λ (f : Format). IsLane by (format_with c) (layout_with c) f (layout_at target) round bits lane)
     format it)))) in
-    converted_from overflow c d mode input output (record { bits = lane.bits; outcome = outcome_of lane })
-    (lane_answers overflow c d mode (number_of input) lane there) written
+    subst (λ (n : ℕ). IsAnswerAt overflow c d mode (number_of input) n (outcome_of lane)) (sym written)
+    (lane_answers overflow c d mode (number_of input) lane there)
 
 pub plan_answers : (overflow : Overflow) (c d : Constants) (mode : Round) (plan : Plan) (input output : List ℕ)
     (bits : ℕ) (lane : Lane) → IsPlanFor overflow d mode plan → bits ≡ number_of input

@@ -10,6 +10,7 @@ pub mod Words
 pub mod Tallies
 pub mod Entries
 pub mod Tables
+pub mod Tasks
 pub mod ShortSources
 pub mod Singles
 pub mod ShortSingles

@@ -3,26 +3,28 @@
 
 ghost use Rattle.std.specs.Prelude.{◌≡◌, ℕ, ◌+◌, ◌*◌, ◌%◌, ◌^◌, ◌≤◌, ◌<◌, List, length, slice_index, false, IsTrue};
 ghost use Rattle.fast_bits.specs.lanes.Sides.{LeadsPast};
-ghost use Rattle.fast_bits.specs.lanes.Targets.{IsSingleFormat, IsTarget};
+ghost use Rattle.fast_bits.specs.lanes.Targets.{IsShortFormat, IsSingleFormat};
 ghost use Rattle.rustc_apfloat.specs.declared.Round.{Round as Mode};
 ghost use Rattle.rustc_apfloat.specs.Lawful.{Constants, format_with, layout_with};
-ghost use Rattle.rustc_apfloat.specs.FlaggedTypes.{constants_of, format_of, layout_of};
-ghost use Rattle.apfloat_arrays.specs.Blocks.{IsBlock, value_at};
+ghost use Rattle.small_formats.specs.declared.saturation.saturation.Overflow.{Overflow};
+ghost use Rattle.apfloat_arrays.specs.Blocks.{value_at};
 ghost use Rattle.apfloat_arrays.specs.Rows.{AreFiniteHalves, IsRow, number_in};
 ghost use Rattle.apfloat_arrays.specs.ShortSingles.{AreHalvesOf, IsShortPlanFor};
 ghost use Rattle.apfloat_arrays.specs.Singles.{counts_with};
 ghost use Rattle.apfloat_arrays.specs.Values.{IsConvertedBy};
-ghost use Rattle.apfloat_arrays.specs.Widths.{bytes_of};
 
 use crate::bytes::write_number;
 use crate::counts::Counts;
+use crate::single_plans::{BlockPlan, SinglesPlan};
+use crate::single_targets::target_of;
 use crate::singles::{all_counts, counted};
 use crate::specials::{are_finite, convert_specials, number_in, word_of};
-use crate::widths::Widths;
-use fast_bits::lanes::{FewCounts, ShortPlan, convert_half, delivers_past, upper_half};
+use crate::task::Task;
+use fast_bits::lanes::{
+    FewCounts, ShortPlan, convert_half, delivers_past, short_format_plan, upper_half,
+};
 use rustc_apfloat::Round;
 use rustc_apfloat::ieee::Flagged;
-use small_formats::saturation::Overflow;
 
 /// Reads the upper sixteen bits of the singles of a block.
 #[inline(always)]
@@ -126,75 +128,38 @@ fn convert_alike<const N: usize>(
     }
 }
 
-/// Converts the values of a block, its infinities and NaNs apart.
-#[inline(always)]
-fn convert_apart<S: Flagged, T: Flagged, const N: usize>(
-    plan: ShortPlan,
-    overflow: Overflow,
-    round: Round,
-    widths: Widths,
-    halves: &mut [u16; N],
-    input: &[u8],
-    output: &mut [u8],
-) -> Counts
-    requires read { S.PRECISION < S.BITS }
-    requires written { T.PRECISION < T.BITS }
-    requires single { IsSingleFormat (format_of S.Flagged) (layout_of S.Flagged) }
-    requires plan { IsShortPlanFor overflow (constants_of T.Flagged) round plan }
-    requires source { widths.source ≡ 4 }
-    requires short { IsTarget (format_of T.Flagged) (layout_of T.Flagged) T.MIN_EXP T.MAX_EXP }
-    requires target { widths.target ≡ bytes_of T.BITS }
-    requires written_width { T.BITS ≤ 8 * bytes_of T.BITS }
-    requires halves { AreHalvesOf N halves.old (λ index. value_at 4 index input.now) }
-    requires groups { N % 16 ≡ 0 }
-    requires few { N < 2 ^ 16 }
-    requires input { length input.now ≡ N * widths.source }
-    requires output { length output.old ≡ N * widths.target }
-    ensures { let c = constants_of S.Flagged in let d = constants_of T.Flagged in
-        IsBlock (IsConvertedBy overflow c d round) widths.source widths.target N input.now
-        output.new result }
-{
-    let finite = leave_numbers(halves);
-    let few = convert_halves(plan, false, widths.target, halves, output);
-    let counts = all_counts(few, N);
-    if finite {
-        counts
-    } else {
-        convert_specials::<S, T, N>(overflow, round, widths.target, counts, input, output)
+impl SinglesPlan for ShortPlan {
+    ghost can = { λ layout precision least. IsShortFormat layout precision least };
+
+    ghost is_for = { λ plan overflow d mode. IsShortPlanFor overflow d mode plan };
+
+    #[inline(always)]
+    fn plan_to<T: Flagged>(saturating: bool, round: Round) -> ShortPlan {
+        short_format_plan(target_of::<T>(), saturating, round)
     }
 }
 
-/// Converts the values of a block.
-#[inline(always)]
-pub(crate) fn convert_block<S: Flagged, T: Flagged, const N: usize>(
-    plan: ShortPlan,
-    overflow: Overflow,
-    round: Round,
-    widths: Widths,
-    halves: &mut [u16; N],
-    input: &[u8],
-    output: &mut [u8],
-) -> Counts
-    requires read { S.PRECISION < S.BITS }
-    requires written { T.PRECISION < T.BITS }
-    requires single { IsSingleFormat (format_of S.Flagged) (layout_of S.Flagged) }
-    requires plan { IsShortPlanFor overflow (constants_of T.Flagged) round plan }
-    requires source { widths.source ≡ 4 }
-    requires short { IsTarget (format_of T.Flagged) (layout_of T.Flagged) T.MIN_EXP T.MAX_EXP }
-    requires target { widths.target ≡ bytes_of T.BITS }
-    requires written_width { T.BITS ≤ 8 * bytes_of T.BITS }
-    requires groups { N % 16 ≡ 0 }
-    requires few { N < 2 ^ 16 }
-    requires input { length input.now ≡ N * widths.source }
-    requires output { length output.old ≡ N * widths.target }
-    ensures { let c = constants_of S.Flagged in let d = constants_of T.Flagged in
-        IsBlock (IsConvertedBy overflow c d round) widths.source widths.target N input.now
-        output.new result }
-{
-    read_halves(input, halves);
-    if delivers_past(plan.target, plan.positive, plan.negative) {
-        convert_alike(plan, widths.target, halves, output)
-    } else {
-        convert_apart::<S, T, N>(plan, overflow, round, widths, halves, input, output)
+impl<const N: usize> BlockPlan<N> for ShortPlan {
+    #[inline(always)]
+    fn convert_block<S: Flagged, T: Flagged>(
+        self,
+        task: Task,
+        width: usize,
+        uppers: &mut [u16; N],
+        _lowers: &mut [u16; N],
+        output: &mut [u8],
+    ) -> Counts {
+        read_halves(task.input, uppers);
+        if delivers_past(self.target, self.positive, self.negative) {
+            return convert_alike(self, width, uppers, output);
+        }
+        let finite = leave_numbers(uppers);
+        let few = convert_halves(self, false, width, uppers, output);
+        let counts = all_counts(few, N);
+        if finite {
+            counts
+        } else {
+            convert_specials::<S, T, N>(task, width, counts, output)
+        }
     }
 }

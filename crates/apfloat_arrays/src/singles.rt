@@ -1,30 +1,33 @@
 //! Singles converted a block at a time. The loops below have no jump that depends on a value, and compute everything in
 //! words of sixteen bits, so that a compiler can work on several values at once.
 
-ghost use Rattle.std.specs.Prelude.{◌≡◌, ℕ, ◌+◌, ◌*◌, ◌/◌, ◌%◌, ◌^◌, ◌≤◌, ◌<◌, List, length, replicate, false, IsTrue};
+ghost use Rattle.std.specs.Prelude.{◌≡◌, ℕ, ⊤, ◌+◌, ◌*◌, ◌/◌, ◌%◌, ◌^◌, ◌≤◌, ◌<◌, List, length, replicate, false, IsTrue};
 ghost use Rattle.fast_bits.specs.lanes.FewCounts.{FewAreAtMost};
 ghost use Rattle.fast_bits.specs.lanes.Sides.{LeadsPast};
 ghost use Rattle.fast_bits.specs.lanes.Targets.{IsSingleFormat, IsTarget};
 ghost use Rattle.rustc_apfloat.specs.declared.Round.{Round as Mode};
 ghost use Rattle.rustc_apfloat.specs.Lawful.{Constants, format_with, layout_with};
 ghost use Rattle.rustc_apfloat.specs.FlaggedTypes.{constants_of, format_of, layout_of};
-ghost use Rattle.apfloat_arrays.specs.Blocks.{IsBlock, value_at};
+ghost use Rattle.small_formats.specs.declared.saturation.saturation.Overflow.{Overflow};
+ghost use Rattle.apfloat_arrays.specs.Blocks.{value_at};
 ghost use Rattle.apfloat_arrays.specs.Outcomes.{with_outcome};
 ghost use Rattle.apfloat_arrays.specs.Rows.{AreFiniteHalves, IsRow, number_from};
 ghost use Rattle.apfloat_arrays.specs.Singles.{AreHalfSingles, IsPlanFor, counts_with, outcome_of};
+ghost use Rattle.apfloat_arrays.specs.Tasks.{HasConverted, HasSingles};
 ghost use Rattle.apfloat_arrays.specs.Values.{IsConvertedBy};
 ghost use Rattle.apfloat_arrays.specs.Widths.{bytes_of};
 
 use crate::bytes::write_number;
 use crate::counts::Counts;
 use crate::one_by_one::convert_one_by_one;
+use crate::single_plans::{BlockPlan, SinglesPlan};
 use crate::single_targets::{is_single, is_target, saturates, target_of};
 use crate::specials::{BLOCK, are_finite, convert_specials, lower_in, number_in, word_of};
+use crate::task::Task;
 use crate::widths::{Widths, bytes_of};
 use fast_bits::lanes::{FewCounts, Lane, Plan, convert_single, delivers_past, plan_of, with_lane};
 use rustc_apfloat::Round;
 use rustc_apfloat::ieee::Flagged;
-use small_formats::saturation::Overflow;
 
 /// From how many values on it takes less time to convert a whole block than each of them.
 const FEWEST: usize = 20;
@@ -164,74 +167,39 @@ fn convert_alike<const N: usize>(
     }
 }
 
-/// Converts the values of a block, its infinities and NaNs apart.
-#[inline(always)]
-fn convert_apart<S: Flagged, T: Flagged, const N: usize>(
-    plan: Plan,
-    overflow: Overflow,
-    round: Round,
-    widths: Widths,
-    uppers: &mut [u16; N],
-    lowers: &mut [u16; N],
-    input: &[u8],
-    output: &mut [u8],
-) -> Counts
-    requires read { S.PRECISION < S.BITS }
-    requires written { T.PRECISION < T.BITS }
-    requires single { IsSingleFormat (format_of S.Flagged) (layout_of S.Flagged) }
-    requires plan { IsPlanFor overflow (constants_of T.Flagged) round plan }
-    requires source { widths.source ≡ 4 }
-    requires target { T.BITS ≤ 8 * widths.target }
-    requires halves { AreHalfSingles N uppers.old lowers.old (λ index. value_at 4 index input.now) }
-    requires groups { N % 16 ≡ 0 }
-    requires few { N < 2 ^ 16 }
-    requires input { length input.now ≡ N * widths.source }
-    requires output { length output.old ≡ N * widths.target }
-    ensures { let c = constants_of S.Flagged in let d = constants_of T.Flagged in
-        IsBlock (IsConvertedBy overflow c d round) widths.source widths.target N input.now
-        output.new result }
-{
-    let finite = leave_numbers(uppers, lowers);
-    let few = convert_halves(plan, false, widths.target, uppers, lowers, output);
-    let counts = all_counts(few, N);
-    if finite {
-        counts
-    } else {
-        convert_specials::<S, T, N>(overflow, round, widths.target, counts, input, output)
+impl SinglesPlan for Plan {
+    ghost can = { λ layout precision least. ⊤ };
+
+    ghost is_for = { λ plan overflow d mode. IsPlanFor overflow d mode plan };
+
+    #[inline(always)]
+    fn plan_to<T: Flagged>(saturating: bool, round: Round) -> Plan {
+        plan_of(target_of::<T>(), saturating, round)
     }
 }
 
-/// Converts the values of a block.
-#[inline(always)]
-pub(crate) fn convert_block<S: Flagged, T: Flagged, const N: usize>(
-    plan: Plan,
-    overflow: Overflow,
-    round: Round,
-    widths: Widths,
-    uppers: &mut [u16; N],
-    lowers: &mut [u16; N],
-    input: &[u8],
-    output: &mut [u8],
-) -> Counts
-    requires read { S.PRECISION < S.BITS }
-    requires written { T.PRECISION < T.BITS }
-    requires single { IsSingleFormat (format_of S.Flagged) (layout_of S.Flagged) }
-    requires plan { IsPlanFor overflow (constants_of T.Flagged) round plan }
-    requires source { widths.source ≡ 4 }
-    requires target { T.BITS ≤ 8 * widths.target }
-    requires groups { N % 16 ≡ 0 }
-    requires few { N < 2 ^ 16 }
-    requires input { length input.now ≡ N * widths.source }
-    requires output { length output.old ≡ N * widths.target }
-    ensures { let c = constants_of S.Flagged in let d = constants_of T.Flagged in
-        IsBlock (IsConvertedBy overflow c d round) widths.source widths.target N input.now
-        output.new result }
-{
-    read_halves(input, uppers, lowers);
-    if delivers_past(plan.target, plan.positive, plan.negative) {
-        convert_alike(plan, widths.target, uppers, lowers, output)
-    } else {
-        convert_apart::<S, T, N>(plan, overflow, round, widths, uppers, lowers, input, output)
+impl<const N: usize> BlockPlan<N> for Plan {
+    #[inline(always)]
+    fn convert_block<S: Flagged, T: Flagged>(
+        self,
+        task: Task,
+        width: usize,
+        uppers: &mut [u16; N],
+        lowers: &mut [u16; N],
+        output: &mut [u8],
+    ) -> Counts {
+        read_halves(task.input, uppers, lowers);
+        if delivers_past(self.target, self.positive, self.negative) {
+            return convert_alike(self, width, uppers, lowers, output);
+        }
+        let finite = leave_numbers(uppers, lowers);
+        let few = convert_halves(self, false, width, uppers, lowers, output);
+        let counts = all_counts(few, N);
+        if finite {
+            counts
+        } else {
+            convert_specials::<S, T, N>(task, width, counts, output)
+        }
     }
 }
 
@@ -239,46 +207,29 @@ pub(crate) fn convert_block<S: Flagged, T: Flagged, const N: usize>(
 /// are made in `room` and copied to `output`.
 #[inline(always)]
 fn convert_between<S: Flagged, T: Flagged>(
-    overflow: Overflow,
-    round: Round,
-    count: usize,
+    task: Task,
     singles: &mut [u8],
     room: &mut [u8],
-    input: &[u8],
     output: &mut [u8],
 ) -> Counts
-    requires read { S.PRECISION < S.BITS }
-    requires written { T.PRECISION < T.BITS }
-    requires single { IsSingleFormat (format_of S.Flagged) (layout_of S.Flagged) }
-    requires target { IsTarget (format_of T.Flagged) (layout_of T.Flagged) T.MIN_EXP T.MAX_EXP }
-    requires width { T.BITS ≤ 8 * bytes_of T.BITS }
-    requires few { count ≤ 64 }
+    requires few { task.count ≤ 64 }
     requires zeros { singles.old ≡ replicate 256 0 }
     requires room { length room.old ≡ 128 }
-    requires input { length input.now ≡ count * 4 }
-    requires output { length output.old ≡ count * bytes_of T.BITS }
-    ensures { let c = constants_of S.Flagged in let d = constants_of T.Flagged in
-        IsBlock (IsConvertedBy overflow c d round) 4 (bytes_of T.BITS) count input.now output.new
+    requires given { HasSingles (constants_of S.Flagged) (constants_of T.Flagged) task output.old }
+    ensures { HasConverted (constants_of S.Flagged) (constants_of T.Flagged) task.entry output.new
         result }
 {
-    let plan = plan_of(target_of::<T>(), saturates(overflow), round);
-    let widths = Widths {
-        source: 4,
-        target: bytes_of(T::BITS),
+    let count = task.count;
+    let width = bytes_of(T::BITS);
+    let plan = plan_of(target_of::<T>(), saturates(task.overflow), task.round);
+    singles[..count * 4].copy_from_slice(task.input);
+    let padded = Task {
+        input: singles,
+        ..task
     };
-    singles[..count * 4].copy_from_slice(input);
-    let made = &mut room[..BLOCK * widths.target];
-    let counts = convert_block::<S, T, BLOCK>(
-        plan,
-        overflow,
-        round,
-        widths,
-        &mut [0; BLOCK],
-        &mut [0; BLOCK],
-        singles,
-        made,
-    );
-    output.copy_from_slice(&room[..count * widths.target]);
+    let made = &mut room[..BLOCK * width];
+    let counts = plan.convert_block::<S, T>(padded, width, &mut [0; BLOCK], &mut [0; BLOCK], made);
+    output.copy_from_slice(&room[..count * width]);
     Counts {
         values: count as u64,
         ..counts
@@ -287,67 +238,33 @@ fn convert_between<S: Flagged, T: Flagged>(
 
 /// Converts a few values as a block.
 #[inline(always)]
-fn convert_padded<S: Flagged, T: Flagged>(
-    overflow: Overflow,
-    round: Round,
-    count: usize,
-    input: &[u8],
-    output: &mut [u8],
-) -> Counts
-    requires read { S.PRECISION < S.BITS }
-    requires written { T.PRECISION < T.BITS }
-    requires single { IsSingleFormat (format_of S.Flagged) (layout_of S.Flagged) }
-    requires target { IsTarget (format_of T.Flagged) (layout_of T.Flagged) T.MIN_EXP T.MAX_EXP }
-    requires width { T.BITS ≤ 8 * bytes_of T.BITS }
-    requires few { count ≤ 64 }
-    requires input { length input.now ≡ count * 4 }
-    requires output { length output.old ≡ count * bytes_of T.BITS }
-    ensures { let c = constants_of S.Flagged in let d = constants_of T.Flagged in
-        IsBlock (IsConvertedBy overflow c d round) 4 (bytes_of T.BITS) count input.now output.new
+fn convert_padded<S: Flagged, T: Flagged>(task: Task, output: &mut [u8]) -> Counts
+    requires few { task.count ≤ 64 }
+    requires given { HasSingles (constants_of S.Flagged) (constants_of T.Flagged) task output.old }
+    ensures { HasConverted (constants_of S.Flagged) (constants_of T.Flagged) task.entry output.new
         result }
 {
     let mut singles = [0; BLOCK * 4];
     let mut room = [0; BLOCK * 2];
-    convert_between::<S, T>(
-        overflow,
-        round,
-        count,
-        &mut singles,
-        &mut room,
-        input,
-        output,
-    )
+    convert_between::<S, T>(task, &mut singles, &mut room, output)
 }
 
 /// Converts the last values of an array, fewer than a block has.
 #[inline(never)]
-pub(crate) fn convert_last<S: Flagged, T: Flagged>(
-    overflow: Overflow,
-    round: Round,
-    count: usize,
-    input: &[u8],
-    output: &mut [u8],
-) -> Counts
-    requires read { S.PRECISION < S.BITS }
-    requires written { T.PRECISION < T.BITS }
-    requires single { IsSingleFormat (format_of S.Flagged) (layout_of S.Flagged) }
-    requires target { IsTarget (format_of T.Flagged) (layout_of T.Flagged) T.MIN_EXP T.MAX_EXP }
-    requires width { T.BITS ≤ 8 * bytes_of T.BITS }
-    requires few { count < 64 }
-    requires input { length input.now ≡ count * 4 }
-    requires output { length output.old ≡ count * bytes_of T.BITS }
-    ensures { let c = constants_of S.Flagged in let d = constants_of T.Flagged in
-        IsBlock (IsConvertedBy overflow c d round) 4 (bytes_of T.BITS) count input.now output.new
+pub(crate) fn convert_last<S: Flagged, T: Flagged>(task: Task, output: &mut [u8]) -> Counts
+    requires few { task.count < 64 }
+    requires given { HasSingles (constants_of S.Flagged) (constants_of T.Flagged) task output.old }
+    ensures { HasConverted (constants_of S.Flagged) (constants_of T.Flagged) task.entry output.new
         result }
 {
-    if count < FEWEST {
+    if task.count < FEWEST {
         let widths = Widths {
             source: 4,
             target: bytes_of(T::BITS),
         };
-        convert_one_by_one::<S, T>(overflow, round, widths, count, input, output)
+        convert_one_by_one::<S, T>(task, widths, output)
     } else {
-        convert_padded::<S, T>(overflow, round, count, input, output)
+        convert_padded::<S, T>(task, output)
     }
 }
 
