@@ -404,8 +404,8 @@ pub halves_there : (input : List ℕ) (index half : ℕ)
 halves_there input index half is =
     let x = number_of (value_at 4 index input) in
     ap number_in is
-    ∙ made_there (λ n. odd_quotient n (2 ^ 16)) (ltb (odd_quotient x (2 ^ 16) % 2 ^ 15) (255 * 2 ^ 7)) input index refl
-    (half_alike x)
+    ∙ made_there (λ n. odd_quotient n (2 ^ 16)) (ltb (odd_quotient x (2 ^ 16) % 2 ^ 15) (255 * 2 ^ 7)) input index
+    refl (half_alike x)
 
 pub finite_kept : (half : ℕ) → half % 2 ^ 15 < 255 * 2 ^ 7 → half ≡ number_in half
 finite_kept half number =

@@ -1,5 +1,6 @@
 -- Results in the places of a table.
-use Rattle.std.proofs.Common.{◌≡◌, ℕ, ◌+◌, ◌-◌, ◌*◌, ◌^◌, ◌<◌, ◌≤◌, List, length, take, set, Option, Some, sym, ap, ◌∙◌, subst, arith}
+use Rattle.std.proofs.Common.{◌≡◌, ℕ, ◌+◌, ◌-◌, ◌*◌, ◌^◌, ◌<◌, ◌≤◌, List, length}
+use Rattle.std.proofs.Common.{take, set, Option, Some, sym, ap, ◌∙◌, subst, arith}
 use Rattle.std.specs.Prelude.{slice_get, IfSome}
 use Rattle.std.proofs.Math.Path.{ap₂}
 use Rattle.std.proofs.lemmas.List.{take_more_set}
@@ -34,8 +35,8 @@ table_more {O} Holds width index count bytes new outcomes outcome before all siz
 
 module _ (Gives : ℕ → ℕ → Outcome → Type 0) where
   -- what a look-up copies
-  pub looked_up : (width count place at size : ℕ) (values new : List ℕ) (outcomes : List Outcome) (outcome : Outcome)
-      → IsTable Gives width count values outcomes → slice_get outcomes place ≡ Some outcome
+  pub looked_up : (width count place at size : ℕ) (values new : List ℕ) (outcomes : List Outcome)
+      (outcome : Outcome) → IsTable Gives width count values outcomes → slice_get outcomes place ≡ Some outcome
       → new ≡ value_at size place values → size ≡ width → place ≡ at → Gives at (number_of new) outcome
   looked_up width count place at size values new outcomes outcome table found copied wide is =
       let here : Gives place (number_of (value_at width place values)) outcome =
@@ -49,14 +50,15 @@ module _ (Gives : ℕ → ℕ → Outcome → Type 0) where
   -- the results fit in the bytes of a value of the target
   pub entries_of : (bits width size : ℕ) (table : List ℕ)
       → ((place result : ℕ) (outcome : Outcome) → Gives place result outcome → result < 2 ^ bits)
-      → length table ≡ size * 8 → bits ≤ 8 * width → IsResultTable Gives size table → AreEntries width size table
+      → length table ≡ size * 8 → bits ≤ 8 * width → IsResultTable Gives size table
+      → AreEntries width size table
   entries_of bits width size table few room wide is =
       are_entries Gives outcome_tally width size table room
       (λ place result outcome made. fits result bits width (few place result outcome made) wide) is
 
   -- the values whose results were looked up are converted
-  pub block_looked_up : (source width size count : ℕ) (input output table : List ℕ) (tally : Tally) (counts : Counts)
-      → IsResultTable Gives size table
+  pub block_looked_up : (source width size count : ℕ) (input output table : List ℕ) (tally : Tally)
+      (counts : Counts) → IsResultTable Gives size table
       → AreLookedUp (λ k. number_of (value_at source k input)) size width count table output tally
       → counts ≡ counts_with count tally
       → IsBlock (IsConvertedIn Gives) source width count input output counts

@@ -5,7 +5,8 @@ ghost use Rattle.std.specs.Prelude.{◌≡◌, ◌-◌, ◌*◌, ◌^◌, ◌<�
 ghost use Rattle.apfloat_model.specs.declared.kinds.NonfiniteBehavior.TheVariants.{IEEE754};
 ghost use Rattle.rustc_apfloat.specs.FlaggedTypes.{constants_of};
 ghost use Rattle.rustc_apfloat.proofs.LawTest.{lawful_from_test};
-ghost use Rattle.apfloat_arrays.specs.ShortSources.{AreShortened, HasShortTable, IsCoarseFor, IsShortFor, is_nan_of, short_of};
+ghost use Rattle.apfloat_arrays.specs.ShortSources.{AreShortened, HasShortTable, IsCoarseFor, IsShortFor, is_nan_of};
+ghost use Rattle.apfloat_arrays.specs.ShortSources.{short_of};
 ghost use Rattle.apfloat_arrays.specs.Tasks.{HaveWidths, IsDone, IsGiven};
 ghost use Rattle.apfloat_arrays.specs.Values.{IsConvertedBy};
 

@@ -1,7 +1,8 @@
 //! Singles converted a block at a time. The loops below have no jump that depends on a value, and compute everything in
 //! words of sixteen bits, so that a compiler can work on several values at once.
 
-ghost use Rattle.std.specs.Prelude.{◌≡◌, ℕ, ⊤, ◌+◌, ◌*◌, ◌/◌, ◌%◌, ◌^◌, ◌≤◌, ◌<◌, List, length, replicate, false, IsTrue};
+ghost use Rattle.std.specs.Prelude.{◌≡◌, ℕ, ⊤, ◌+◌, ◌*◌, ◌/◌, ◌%◌, ◌^◌, ◌≤◌};
+ghost use Rattle.std.specs.Prelude.{◌<◌, List, length, replicate, false, IsTrue};
 ghost use Rattle.fast_bits.specs.lanes.FewCounts.{FewAreAtMost};
 ghost use Rattle.fast_bits.specs.lanes.Sides.{LeadsPast};
 ghost use Rattle.fast_bits.specs.lanes.Targets.{IsSingleFormat, IsTarget};
