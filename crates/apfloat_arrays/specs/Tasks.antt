@@ -17,11 +17,15 @@ pub record HaveWidths (c d : Constants) (source target : ℕ) : Type 0 where
   pub few : source ≤ 16
   pub room : d.bits ≤ 8 * target
 
--- the bytes of all values, and room for those of their conversions
-pub record IsGiven (c d : Constants) (task : Task) (widths : Widths) (into : List ℕ) : Type 0 where
+-- the bytes of so many values, and room for those of their conversions
+pub record HasBytes (c d : Constants) (widths : Widths) (count : ℕ) (from into : List ℕ) : Type 0 where
   pub have : HaveWidths c d widths.source widths.target
-  pub input : length task.input.now ≡ task.count * widths.source
-  pub output : length into ≡ task.count * widths.target
+  pub input : length from ≡ count * widths.source
+  pub output : length into ≡ count * widths.target
+
+-- the same of all values of a task
+abbrev pub IsGiven : Constants → Constants → Task → Widths → List ℕ → Type 0
+IsGiven c d task widths into = HasBytes c d widths task.count task.input.now into
 
 abbrev pub IsDone : Constants → Constants → Task → Widths → List ℕ → Counts → Type 0
 IsDone c d task widths output counts =

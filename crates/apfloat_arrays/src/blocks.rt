@@ -69,7 +69,7 @@ pub fn convert_block_by<S: Flagged, T: Flagged>(
     } else if Ways::<S, T>::SHORT && has_short_table::<S, ShortHalfS, T>(widths, count) {
         convert_shortened::<S, ShortHalfS, T>(task, widths, output)
     } else {
-        convert_one_by_one::<S, T>(task, widths, output)
+        convert_one_by_one::<S, T>(overflow, round, widths, count, input, output)
     }
 }
 

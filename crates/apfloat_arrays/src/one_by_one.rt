@@ -1,7 +1,9 @@
 //! Values in consecutive bytes, converted one after another.
 
 ghost use Rattle.rustc_apfloat.specs.FlaggedTypes.{constants_of};
-ghost use Rattle.apfloat_arrays.specs.Tasks.{IsDone, IsGiven};
+ghost use Rattle.apfloat_arrays.specs.Blocks.{IsBlock};
+ghost use Rattle.apfloat_arrays.specs.Tasks.{HasBytes, IsDone, IsGiven};
+ghost use Rattle.apfloat_arrays.specs.Values.{IsConvertedBy};
 
 use crate::counts::Counts;
 use crate::each::convert_each;
@@ -9,21 +11,34 @@ use crate::far_numbers::far_answers_for;
 use crate::one_value::Between;
 use crate::task::Task;
 use crate::widths::{Widths, bytes_of};
+use rustc_apfloat::Round;
 use rustc_apfloat::ieee::Flagged;
+use small_formats::saturation::Overflow;
 use std::marker::PhantomData;
 
-/// Converts each value in its place. The widths that most values have are constants of their formats, so that the loop
-/// knows how many bytes it reads and writes.
+/// Converts `count` values, each in its place. The widths that most values have are constants of their formats, so that
+/// the loop knows how many bytes it reads and writes. What it is given is passed in registers, and not as a task in
+/// memory, which costs short arrays a twelfth.
 #[inline(never)]
 pub fn convert_one_by_one<S: Flagged, T: Flagged>(
-    task: Task,
+    overflow: Overflow,
+    round: Round,
     widths: Widths,
+    count: usize,
+    input: &[u8],
     output: &mut [u8],
 ) -> Counts
-    requires { IsGiven (constants_of S.Flagged) (constants_of T.Flagged) task widths output.old }
-    ensures { IsDone (constants_of S.Flagged) (constants_of T.Flagged) task.entry widths output.new
-        result }
+    requires { HasBytes (constants_of S.Flagged) (constants_of T.Flagged) widths count input.now
+        output.old }
+    ensures { IsBlock (IsConvertedBy overflow (constants_of S.Flagged) (constants_of T.Flagged) round)
+        widths.source widths.target count input.now output.new result }
 {
+    let task = Task {
+        overflow,
+        round,
+        count,
+        input,
+    };
     let usual = Widths {
         source: bytes_of(S::BITS),
         target: bytes_of(T::BITS),

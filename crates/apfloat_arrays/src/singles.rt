@@ -263,7 +263,14 @@ pub(crate) fn convert_last<S: Flagged, T: Flagged>(task: Task, output: &mut [u8]
             source: 4,
             target: bytes_of(T::BITS),
         };
-        convert_one_by_one::<S, T>(task, widths, output)
+        convert_one_by_one::<S, T>(
+            task.overflow,
+            task.round,
+            widths,
+            task.count,
+            task.input,
+            output,
+        )
     } else {
         convert_padded::<S, T>(task, output)
     }
