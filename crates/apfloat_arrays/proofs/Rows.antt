@@ -407,10 +407,6 @@ halves_there input index half is =
     ∙ made_there (λ n. odd_quotient n (2 ^ 16)) (ltb (odd_quotient x (2 ^ 16) % 2 ^ 15) (255 * 2 ^ 7)) input index
     refl (half_alike x)
 
-pub finite_kept : (half : ℕ) → half % 2 ^ 15 < 255 * 2 ^ 7 → half ≡ number_in half
-finite_kept half number =
-    sym (ap (λ (b : Bool). if b then half else 0) (lt-ltb (half % 2 ^ 15) (255 * 2 ^ 7) number))
-
 -- singles whose upper halves are those of numbers
 pub finite_there : (done : ℕ) (input : List ℕ) (index half : ℕ)
     → ltb (half % 2 ^ 15) (255 * 2 ^ 7) ≡ ltb (number_of (value_at 4 index input) % 2 ^ 31) (255 * 2 ^ 23)

@@ -13,7 +13,6 @@ pub mod Tables
 pub mod Tasks
 pub mod ShortSources
 pub mod Singles
-pub mod ShortSingles
 pub mod Rows
 pub mod stored
 pub mod scaled_blocks

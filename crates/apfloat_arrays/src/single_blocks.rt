@@ -8,7 +8,7 @@ ghost use Rattle.apfloat_arrays.specs.Tasks.{AreConverted, AreSingles, HasConver
 use crate::counts::Counts;
 use crate::single_plans::BlockPlan;
 use crate::single_targets::{is_short_target, saturates};
-use crate::singles::convert_last;
+use crate::singles::{convert_block, convert_last};
 use crate::specials::{BLOCK, LONG};
 use crate::task::Task;
 use crate::widths::bytes_of;
@@ -47,7 +47,14 @@ fn convert_blocks<P: BlockPlan<N>, S: Flagged, T: Flagged, const N: usize>(
             ..task
         };
         let target = &mut output[first * width..last * width];
-        counts.add(plan.convert_block::<S, T>(block, width, &mut uppers, &mut lowers, target));
+        counts.add(convert_block::<P, S, T, N>(
+            plan,
+            block,
+            width,
+            &mut uppers,
+            &mut lowers,
+            target,
+        ));
     }
     counts
 }

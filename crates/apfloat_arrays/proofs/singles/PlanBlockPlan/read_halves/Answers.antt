@@ -2,7 +2,7 @@ use Rattle.std.proofs.Common.{◌≡◌, ℕ, ◌/◌, ◌%◌, ◌^◌, ap, ◌
 use Rattle.apfloat_arrays.specs.Blocks.{value_at}
 use Rattle.apfloat_arrays.specs.Bytes.{number_of}
 use Rattle.apfloat_arrays.proofs.Items.{set_says}
-use Rattle.apfloat_arrays.proofs.singles.read_halves.Goals as goal
+use Rattle.apfloat_arrays.proofs.singles.PlanBlockPlan.read_halves.Goals as goal
 
 pub loop-index-init : goal.loop-index-init
 loop-index-init g c = record {
@@ -39,7 +39,7 @@ loop-index-preserved g c =
 pub returns : goal.returns
 returns g c =
     let past = c.loop-index-test.false in
-    record {
-      upper = λ k before. c.loop-index.invariant.upper k (omega (arith, before, past));
-      lower = λ k before. c.loop-index.invariant.lower k (omega (arith, before, past));
-    }
+    λ k before. (
+      c.loop-index.invariant.upper k (omega (arith, before, past)),
+      c.loop-index.invariant.lower k (omega (arith, before, past)),
+    )
