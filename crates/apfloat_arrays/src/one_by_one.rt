@@ -17,8 +17,8 @@ use small_formats::saturation::Overflow;
 use std::marker::PhantomData;
 
 /// Converts `count` values, each in its place. The widths that most values have are constants of their formats, so that
-/// the loop knows how many bytes it reads and writes. It takes no `Task`, since one in memory adds up to a twelfth to
-/// the instructions of a value.
+/// the loop knows how many bytes it reads and writes. It takes no `Task`: read from one in memory, the arguments add 5
+/// to 7 percent to the instructions of a value.
 #[inline(never)]
 pub fn convert_one_by_one<S: Flagged, T: Flagged>(
     overflow: Overflow,
