@@ -826,7 +826,11 @@ impl<'a> Walk<'a, '_> {
 
     /// `#[derive_where(Clone, Copy)]` before `struct name<S: Bound, ..> {..}`: both impls, after the closing brace.
     fn derive_below(&mut self, at: usize, end: usize) -> Result<(), Fault> {
-        let keyword = if self.text(end) == "pub" { end + 1 } else { end };
+        let keyword = match (self.text(end), self.text(end + 1)) {
+            ("pub", "(") => self.after_bracket(end + 1)?,
+            ("pub", _) => end + 1,
+            _ => end,
+        };
         let name = keyword + 1;
         let body = self.after_generics(name + 1)?;
         if self.text(keyword) != "struct" || !self.is_word(name) || body == name + 1 || self.text(body) != "{" {

@@ -1,13 +1,11 @@
 -- A converted number is a converted value.
-use Rattle.std.proofs.Common.{◌≡◌, ℕ, Bool, true, false, List, refl, sym, subst, inl, inr}
+use Rattle.std.proofs.Common.{◌≡◌, ℕ, Bool, true, false, refl, sym, subst, inl, inr}
 use Rattle.std.proofs.lemmas.Bool.{true≢false}
 use Rattle.apfloat_model.specs.bits.Layout.{Layout}
 use Rattle.apfloat_model.specs.formats.Format.{Format}
 use Rattle.apfloat_model.specs.formats.Datum.{Datum, finite}
 use Rattle.fast_bits.specs.declared.lanes.lanes.Lane.{Lane}
 use Rattle.fast_bits.specs.declared.lanes.constants.Target.{Target}
-use Rattle.fast_bits.specs.declared.lanes.plans.Plan.{Plan}
-use Rattle.fast_bits.specs.declared.lanes.plans.ShortPlan.{ShortPlan}
 use Rattle.fast_bits.specs.lanes.At.{format_at, layout_at}
 use Rattle.fast_bits.specs.lanes.Lanes.{IsLane, finished, flags_of}
 use Rattle.rustc_apfloat.specs.Conversions.{IsConversion}
@@ -15,13 +13,10 @@ use Rattle.rustc_apfloat.specs.Lawful.{Constants, format_with, layout_with}
 use Rattle.rustc_apfloat.specs.declared.Round.{Round}
 use Rattle.small_formats.specs.declared.saturation.saturation.Overflow.{Overflow}
 use Rattle.small_formats.specs.declared.saturation.saturation.Overflow.TheVariants.{Rounded, Saturated, Finite}
-use Rattle.apfloat_arrays.specs.Bytes.{number_of}
 use Rattle.apfloat_arrays.specs.Outcomes.{raised}
 use Rattle.small_formats.specs.saturation.Saturation.{IsConversionBy}
-use Rattle.apfloat_arrays.specs.ShortSingles.{IsShortPlanFor}
 use Rattle.apfloat_arrays.specs.Singles.{IsPlanFor, outcome_of, saturates}
-use Rattle.apfloat_arrays.specs.Values.{IsAnswerFrom, IsConvertedBy}
-use Rattle.apfloat_arrays.proofs.ConversionsBy.{converted_from}
+use Rattle.apfloat_arrays.specs.Values.{IsAnswerAt, IsAnswerFrom}
 
 -- a finite number's conversion, with any treatment of overflow
 finished_by : (overflow : Overflow) (f g : Format) (mode : Round) (negative : Bool) (quanta : ℕ) (rounded : Datum)
@@ -77,51 +72,24 @@ lane_answers overflow c d mode bits lane (inr both) =
       nan_is = it.nan_is;
     }
 
--- a lane that was made with the target, the mode and the saturation of a plan for the conversion is its result
-answers_by : (overflow : Overflow) (c d : Constants) (mode : Round) (target : Target) (by : Bool) (round : Round)
-    (input output : List ℕ) (bits : ℕ) (lane : Lane) → format_at target ≡ format_with d
-    → layout_at target ≡ layout_with d → by ≡ saturates overflow → round ≡ mode → bits ≡ number_of input
-    → number_of output ≡ lane.bits
+-- a lane that was made with the target, the saturation and the mode of a plan for the conversion is its result
+pub plan_answers : (overflow : Overflow) (c d : Constants) (mode : Round) (target : Target) (by : Bool) (round : Round)
+    (word bits : ℕ) (lane : Lane) → IsPlanFor overflow d mode target by round → bits ≡ word
     → IsLane by (format_with c) (layout_with c) (format_at target) (layout_at target) round bits lane
-    → IsConvertedBy overflow c d mode input output (outcome_of lane)
-answers_by overflow c d mode target by round input output bits lane format layout by_is round_is read written it =
-    let there : IsLane (saturates overflow) (format_with c) (layout_with c) (format_with d)
-    (layout_with d) mode
-    (number_of input) lane =
-    subst (λ (n : ℕ). IsLane (saturates overflow) (format_with c) (layout_with c) (format_with d)
+    → IsAnswerAt overflow c d mode word lane.bits (outcome_of lane)
+plan_answers overflow c d mode target by round word bits lane is read it =
+    lane_answers overflow c d mode word lane
+    (subst (λ (n : ℕ). IsLane (saturates overflow) (format_with c) (layout_with c) (format_with d)
     (layout_with d)
     mode n lane) read
     (subst (λ (r : Round). IsLane (saturates overflow) (format_with c) (layout_with c) (format_with d)
-    (layout_with d) r bits lane) round_is
+    (layout_with d) r bits lane) is.round_is
     (subst (λ (b : Bool). IsLane b (format_with c) (layout_with c) (format_with d) (layout_with d) round
-    bits lane) by_is
+    bits lane) is.saturates_is
     (subst (λ (l : Layout). IsLane by (format_with c) (layout_with c) (format_with d) l round
-    bits lane) layout
+    bits lane) is.layout
     (subst (λ (f : Format). IsLane by (format_with c) (layout_with c) f (layout_at target) round bits lane)
-    format it)))) in
-    converted_from overflow c d mode input output (record { bits = lane.bits; outcome = outcome_of lane })
-    (lane_answers overflow c d mode (number_of input) lane there) written
-
-pub plan_answers : (overflow : Overflow) (c d : Constants) (mode : Round) (plan : Plan) (input output : List ℕ)
-    (bits : ℕ) (lane : Lane) → IsPlanFor overflow d mode plan → bits ≡ number_of input
-    → number_of output ≡ lane.bits
-    → IsLane plan.saturates (format_with c) (layout_with c) (format_at plan.target) (layout_at plan.target)
-    plan.round bits lane
-    → IsConvertedBy overflow c d mode input output (outcome_of lane)
-plan_answers overflow c d mode plan input output bits lane is read written it =
-    answers_by overflow c d mode plan.target plan.saturates plan.round input output bits lane is.format is.layout
-    is.saturates_is is.round read written it
-
-pub short_plan_answers : (overflow : Overflow) (c d : Constants) (mode : Round) (plan : ShortPlan)
-    (input output : List ℕ) (bits : ℕ) (lane : Lane) → IsShortPlanFor overflow d mode plan
-    → bits ≡ number_of input
-    → number_of output ≡ lane.bits
-    → IsLane plan.saturates (format_with c) (layout_with c) (format_at plan.target) (layout_at plan.target)
-    plan.round bits lane
-    → IsConvertedBy overflow c d mode input output (outcome_of lane)
-short_plan_answers overflow c d mode plan input output bits lane is read written it =
-    answers_by overflow c d mode plan.target plan.saturates plan.round input output bits lane is.format is.layout
-    is.saturates_is is.round read written it
+    is.format it)))))
 
 -- ---- counts
 

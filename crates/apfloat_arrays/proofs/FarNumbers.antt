@@ -112,6 +112,24 @@ biased_of c bits = (fields_of (format_with c) (layout_with c) bits).biased_expon
 abbrev trailing_of : Constants → ℕ → ℕ
 trailing_of c bits = (fields_of (format_with c) (layout_with c) bits).trailing
 
+-- bits of a normal number on that side
+number_placed : (c d : Constants) (bits place : ℕ) (past : Bool) → c.explicit_integer_bit ≡ false
+    → 0 < biased_of c bits → biased_of c bits + 1 < 2 ^ c.exp_bits
+    → place ≡ far_place past (fields_of (format_with c) (layout_with c) bits).negative
+    → IsFar past (format_with d)
+    (quanta_with c.precision (biased_of c bits) (trailing_of c bits) * 2 ^ (format_with d).scale)
+    (2 ^ (format_with c).scale)
+    → IsFarPlace c d bits place
+number_placed c d bits place past implied low high is far = record {
+  past = past;
+  negative = (fields_of (format_with c) (layout_with c) bits).negative;
+  quanta = quanta_with c.precision (biased_of c bits) (trailing_of c bits);
+  place_is = is;
+  read = number_read c bits implied low high;
+  some = quanta_some c.precision (biased_of c bits) (trailing_of c bits);
+  far = far;
+}
+
 -- bits that pass the tests encode a number on that side
 pub placed : (c d : Constants) (bits place : ℕ) (past little number : Bool) → IsLawful c → IsLawful d
     → c.explicit_integer_bit ≡ false
@@ -123,38 +141,22 @@ pub placed : (c d : Constants) (bits place : ℕ) (past little number : Bool) �
     → IsFarPlace c d bits place
 placed c d bits place true little true lawful_c lawful_d implied is_past is_little is_number both is =
     let between = is_number refl in
-    record {
-      past = true;
-      negative = (fields_of (format_with c) (layout_with c) bits).negative;
-      quanta = quanta_with c.precision (biased_of c bits) (trailing_of c bits);
-      place_is = is;
-      read = number_read c bits implied between.0 between.1;
-      some = quanta_some c.precision (biased_of c bits) (trailing_of c bits);
-      far =
-          record {
-            some = pow_pos (format_with c).scale;
-            from = past_far c d (biased_of c bits) (trailing_of c bits) lawful_c lawful_d between.0 (is_past refl);
-          };
-    }
+    number_placed c d bits place true implied between.0 between.1 is
+    (record {
+      some = pow_pos (format_with c).scale;
+      from = past_far c d (biased_of c bits) (trailing_of c bits) lawful_c lawful_d between.0 (is_past refl);
+    })
 placed c d bits place false true true lawful_c lawful_d implied is_past is_little is_number both is =
     let between = is_number refl in
-    record {
-      past = false;
-      negative = (fields_of (format_with c) (layout_with c) bits).negative;
-      quanta = quanta_with c.precision (biased_of c bits) (trailing_of c bits);
-      place_is = is;
-      read = number_read c bits implied between.0 between.1;
-      some = quanta_some c.precision (biased_of c bits) (trailing_of c bits);
-      far =
-          record {
-            some =
-                mul-pos (quanta_some c.precision (biased_of c bits) (trailing_of c bits))
-                (pow_pos (format_with d).scale);
-            to =
-                little_far c d (biased_of c bits) (trailing_of c bits) lawful_c lawful_d between.0
-                (trailing_low c bits implied) (is_little refl);
-          };
-    }
+    number_placed c d bits place false implied between.0 between.1 is
+    (record {
+      some =
+          mul-pos (quanta_some c.precision (biased_of c bits) (trailing_of c bits))
+          (pow_pos (format_with d).scale);
+      to =
+          little_far c d (biased_of c bits) (trailing_of c bits) lawful_c lawful_d between.0
+          (trailing_low c bits implied) (is_little refl);
+    })
 placed c d bits place true little false lawful_c lawful_d implied is_past is_little is_number both is =
     absurd (false≢true both)
 placed c d bits place false true false lawful_c lawful_d implied is_past is_little is_number both is =

@@ -1,5 +1,4 @@
 pub mod LittleEndian
-pub mod ConversionsBy
 pub mod FarNumbers
 pub mod Places
 pub mod WidthBounds
@@ -11,6 +10,7 @@ pub mod ShortSources
 pub mod NormalNumbers
 pub mod ConvertedLanes
 pub mod Joined
+pub mod Tasks
 pub mod SingleTargets
 pub mod Rows
 pub mod Items

@@ -59,48 +59,12 @@ same_outcome a b status test =
     ap (λ (n : ℕ). record { status = record { 0 = n }; is_nan = a.is_nan }) status
     ∙ ap (λ (n : Bool). record { status = b.status; is_nan = n }) test
 
--- the parts of a converted value, with any treatment of overflow
-record AreParts (overflow : Overflow) (c d : Constants) (mode : Round) (input output : List ℕ) (outcome : Outcome)
-    : Type 0 where
-  value : Datum
-  loses : Bool
-  is_conversion : IsConversionBy overflow (format_with c) (format_with d) mode
-      (datum_of (format_with c) (layout_with c) (number_of input)) value (bits_of outcome.status) loses
-  is_encoded : IsEncodedBy (format_with d) (layout_with d) (number_of output) value
-  nan_is : outcome.is_nan ≡ is_nan value
-
-parts_of : (overflow : Overflow) (c d : Constants) (mode : Round) (input output : List ℕ) (outcome : Outcome)
-    → IsConvertedBy overflow c d mode input output outcome → AreParts overflow c d mode input output outcome
-parts_of Rounded c d mode input output outcome x = record {
-  value = x.value;
-  loses = x.loses;
-  is_conversion = x.is_conversion;
-  is_encoded = x.is_encoded;
-  nan_is = x.nan_is;
-}
-parts_of Saturated c d mode input output outcome x = record {
-  value = x.value;
-  loses = x.loses;
-  is_conversion = x.is_conversion;
-  is_encoded = x.is_encoded;
-  nan_is = x.nan_is;
-}
-parts_of (Finite nans) c d mode input output outcome x = record {
-  value = x.value;
-  loses = x.loses;
-  is_conversion = x.is_conversion;
-  is_encoded = x.is_encoded;
-  nan_is = x.nan_is;
-}
-
 -- the conversion of a value determines the number and the outcome
 pub converted_value_once : (overflow : Overflow) (c d : Constants) (mode : Round) (input bytes other : List ℕ)
     (outcome also : Outcome) → IsLawful d → d.precision < d.bits
     → IsConvertedBy overflow c d mode input bytes outcome → IsConvertedBy overflow c d mode input other also
     → (number_of bytes ≡ number_of other) × (outcome ≡ also)
-converted_value_once overflow c d mode input bytes other o p law wide h k =
-    let x = parts_of overflow c d mode input bytes o h in
-    let y = parts_of overflow c d mode input other p k in
+converted_value_once overflow c d mode input bytes other o p law wide x y =
     let same = conversion_by_once overflow (format_with c) (format_with d) mode
     (datum_of (format_with c) (layout_with c) (number_of input)) x.value y.value (bits_of o.status) (bits_of p.status)
     x.loses y.loses x.is_conversion y.is_conversion in

@@ -242,29 +242,11 @@ zero_by (Finite nans) f g mode value status loses it =
     let kept = zero_kept f g mode it.rounded status loses it.is_conversion in
     (kept.0, ap is_nan (it.value_is ∙ ap (saturated g (finite false 0)) kept.1))
 
--- what a converted value says of its conversion
-record IsOf (overflow : Overflow) (c d : Constants) (mode : Round) (bits : ℕ) (o : Outcome) : Type 0 where
-  value : Datum
-  loses : Bool
-  is_conversion : IsConversionBy overflow (format_with c) (format_with d) mode
-      (datum_of (format_with c) (layout_with c) bits) value (bits_of o.status) loses
-  nan_is : o.is_nan ≡ is_nan value
-
-conversion_of : (overflow : Overflow) (c d : Constants) (mode : Round) (input output : List ℕ) (o : Outcome)
-    → IsConvertedBy overflow c d mode input output o → IsOf overflow c d mode (number_of input) o
-conversion_of Rounded c d mode input output o it =
-    record { value = it.value; loses = it.loses; is_conversion = it.is_conversion; nan_is = it.nan_is }
-conversion_of Saturated c d mode input output o it =
-    record { value = it.value; loses = it.loses; is_conversion = it.is_conversion; nan_is = it.nan_is }
-conversion_of (Finite nans) c d mode input output o it =
-    record { value = it.value; loses = it.loses; is_conversion = it.is_conversion; nan_is = it.nan_is }
-
 -- the zero of a single, whose conversion counts nothing
 pub zeros_quiet : (overflow : Overflow) (c d : Constants) (mode : Round)
     → IsSingleFormat (format_with c) (layout_with c) → (input bytes : List ℕ) (o : Outcome) → number_of input ≡ 0
     → IsConvertedBy overflow c d mode input bytes o → IsQuiet o
-zeros_quiet overflow c d mode is_single input bytes o none it =
-    let of = conversion_of overflow c d mode input bytes o it in
+zeros_quiet overflow c d mode is_single input bytes o none of =
     let read : datum_of (format_with c) (layout_with c) (number_of input) ≡ finite false 0 =
     ap (datum_of (format_with c) (layout_with c)) none
     ∙ single_read (format_with c) (layout_with c) 0 is_single (omega arith) (omega arith) in
@@ -415,9 +397,15 @@ made_there convert number input index zero is =
     ∙ ap (λ (b : Bool). convert (number_of (if b || ltb (number_of (value_at 4 index input) % 2 ^ 31) (255 * 2 ^ 23)
     then value_at 4 index input else []))) (sym none)
 
-pub finite_kept : (half : ℕ) → half % 2 ^ 15 < 255 * 2 ^ 7 → half ≡ number_in half
-finite_kept half number =
-    sym (ap (λ (b : Bool). if b then half else 0) (lt-ltb (half % 2 ^ 15) (255 * 2 ^ 7) number))
+-- the same of the upper half of a single, rounded to odd
+pub halves_there : (input : List ℕ) (index half : ℕ)
+    → half ≡ odd_quotient (number_of (value_at 4 index input)) (2 ^ 16)
+    → number_in half ≡ odd_quotient (number_of (number_from 0 input index)) (2 ^ 16)
+halves_there input index half is =
+    let x = number_of (value_at 4 index input) in
+    ap number_in is
+    ∙ made_there (λ n. odd_quotient n (2 ^ 16)) (ltb (odd_quotient x (2 ^ 16) % 2 ^ 15) (255 * 2 ^ 7)) input index
+    refl (half_alike x)
 
 -- singles whose upper halves are those of numbers
 pub finite_there : (done : ℕ) (input : List ℕ) (index half : ℕ)

@@ -18,7 +18,7 @@ pub record HasRoom (bits width : ℕ) : Type 0 where
   pub enough : bits ≤ 8 * width
 
 -- the bytes that the bits take have room for them
-in_bytes : (bits : ℕ) → 1 ≤ bits → bits ≤ 128 → HasRoom bits (bytes_of bits)
+pub in_bytes : (bits : ℕ) → 1 ≤ bits → bits ≤ 128 → HasRoom bits (bytes_of bits)
 in_bytes bits some few = room (div_ceil bits 8 == 3) refl
   where
     room : (three : Bool) → (div_ceil bits 8 == 3) ≡ three → HasRoom bits (if three then 4 else div_ceil bits 8)

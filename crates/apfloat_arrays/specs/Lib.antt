@@ -10,9 +10,9 @@ pub mod Words
 pub mod Tallies
 pub mod Entries
 pub mod Tables
+pub mod Tasks
 pub mod ShortSources
 pub mod Singles
-pub mod ShortSingles
 pub mod Rows
 pub mod stored
 pub mod scaled_blocks

@@ -1,8 +1,17 @@
 -- Values whose significands are rounded to odd to six digits before they are converted to a format of few digits.
-use Rattle.std.specs.Prelude.{◌≡◌, ℕ, ◌-◌, ◌/◌, ◌%◌, ◌^◌, ◌≤◌, pos, ◌+ℤ◌, ◌-ℤ◌, ◌≤ℤ◌, Bool, false, ◌&&◌, not, eqb}
+use Rattle.std.specs.Prelude.{◌≡◌, ℕ, ◌-◌, ◌*◌, ◌/◌, ◌%◌, ◌^◌, ◌<◌, ◌≤◌, pos}
+use Rattle.std.specs.Prelude.{◌+ℤ◌, ◌-ℤ◌, ◌≤ℤ◌}
+use Rattle.std.specs.Prelude.{Bool, false, ◌&&◌, not, eqb, List, length}
 use Rattle.apfloat_model.specs.declared.kinds.NonfiniteBehavior.TheVariants.{IEEE754}
 use Rattle.rustc_apfloat.specs.Lawful.{Constants}
+use Rattle.rustc_apfloat.specs.declared.Round.{Round}
+use Rattle.small_formats.specs.declared.saturation.saturation.Overflow.{Overflow}
 use Rattle.apfloat_model.specs.rounding.RoundingToOdd.{odd_quotient}
+use Rattle.apfloat_arrays.specs.declared.counts.Outcome.{Outcome}
+use Rattle.apfloat_arrays.specs.declared.widths.Widths.{Widths}
+use Rattle.apfloat_arrays.specs.Tables.{IsTable}
+use Rattle.apfloat_arrays.specs.Tasks.{HaveWidths}
+use Rattle.apfloat_arrays.specs.Values.{IsAnswerAt}
 
 -- z has six digits, and the exponents of c
 pub record IsShortFor (c z : Constants) : Type 0 where
@@ -19,6 +28,25 @@ pub record IsShortFor (c z : Constants) : Type 0 where
 pub record IsCoarseFor (z d : Constants) : Type 0 where
   pub precision : d.precision ≤ 4
   pub quantum : ((pos d.precision -ℤ d.min_exp) +ℤ pos 3) ≤ℤ (pos z.precision -ℤ z.min_exp)
+
+-- the conversions from c to d are those from z, of values rounded to odd
+pub record AreShortened (c z d : Constants) (widths : Widths) : Type 0 where
+  pub short : IsShortFor c z
+  pub coarse : IsCoarseFor z d
+  pub source_bits : c.bits ≤ 32
+  pub target_bits : d.bits ≤ 8
+  pub source : 8 * widths.source ≡ c.bits
+  pub target : widths.target ≡ 1
+
+-- there is a table of the conversions from z to d
+pub record HasShortTable (overflow : Overflow) (c z d : Constants) (mode : Round) (values : List ℕ)
+    (outcomes : List Outcome) (source target : ℕ) : Type 0 where
+  pub widths : HaveWidths c d source target
+  pub listed : z.precision < z.bits
+  pub short : AreShortened c z d (record { source = source; target = target })
+  pub size : length values ≡ 2 ^ z.bits
+  pub all : length outcomes ≡ 2 ^ z.bits
+  pub table : IsTable (IsAnswerAt overflow z d mode) 1 (2 ^ z.bits) values outcomes
 
 -- the bits of the value of six digits that a value of c rounded to odd becomes: the last of them stands for all that
 -- are cut off

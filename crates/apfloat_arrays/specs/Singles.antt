@@ -1,7 +1,8 @@
--- Blocks of singles, converted by both halves of their words.
-use Rattle.std.specs.Prelude.{◌≡◌, ℕ, ◌/◌, ◌%◌, ◌^◌, ◌<◌, List, slice_index, Bool, true, false}
+-- Blocks of singles, converted by the halves of their words.
+use Rattle.std.specs.Prelude.{◌≡◌, ℕ, ◌/◌, ◌%◌, ◌^◌, Bool, true, false}
+use Rattle.apfloat_model.specs.rounding.RoundingToOdd.{odd_quotient}
+use Rattle.fast_bits.specs.declared.lanes.constants.Target.{Target}
 use Rattle.fast_bits.specs.declared.lanes.lanes.Lane.{Lane}
-use Rattle.fast_bits.specs.declared.lanes.plans.Plan.{Plan}
 use Rattle.fast_bits.specs.lanes.At.{format_at, layout_at}
 use Rattle.fast_bits.specs.lanes.Lanes.{flags_of}
 use Rattle.rustc_apfloat.specs.Lawful.{Constants, format_with, layout_with}
@@ -11,7 +12,6 @@ use Rattle.apfloat_arrays.specs.declared.counts.Outcome.{Outcome}
 use Rattle.fast_bits.specs.declared.lanes.few_counts.FewCounts.{FewCounts}
 use Rattle.small_formats.specs.declared.saturation.saturation.Overflow.{Overflow}
 use Rattle.small_formats.specs.declared.saturation.saturation.Overflow.TheVariants.{Rounded, Saturated, Finite}
-use Rattle.apfloat_arrays.specs.Bytes.{number_of}
 
 -- whether the largest value stands for what is past it
 abbrev pub saturates : Overflow → Bool
@@ -19,12 +19,13 @@ saturates Rounded = false
 saturates Saturated = true
 saturates (Finite nans) = true
 
--- the plan is that of conversions to the format
-pub record IsPlanFor (overflow : Overflow) (d : Constants) (mode : Round) (plan : Plan) : Type 0 where
-  pub format : format_at plan.target ≡ format_with d
-  pub layout : layout_at plan.target ≡ layout_with d
-  pub saturates_is : plan.saturates ≡ saturates overflow
-  pub round : plan.round ≡ mode
+-- a plan with that target, saturation and mode is that of conversions to the format
+pub record IsPlanFor (overflow : Overflow) (d : Constants) (mode : Round) (target : Target) (by : Bool) (round : Round)
+    : Type 0 where
+  pub format : format_at target ≡ format_with d
+  pub layout : layout_at target ≡ layout_with d
+  pub saturates_is : by ≡ saturates overflow
+  pub round_is : round ≡ mode
 
 -- the number of values and the counts of a block
 abbrev pub counts_with : FewCounts → ℕ → Counts
@@ -41,7 +42,10 @@ counts_with few values =
 abbrev pub outcome_of : Lane → Outcome
 outcome_of lane = record { status = record { 0 = flags_of lane }; is_nan = lane.is_nan }
 
--- they are the upper and the lower halves of the words of so many given values
-pub record AreHalfSingles (count : ℕ) (uppers lowers : List ℕ) (given : ℕ → List ℕ) : Type 0 where
-  pub upper : (index : ℕ) → index < count → slice_index uppers index ≡ number_of (given index) / 2 ^ 16
-  pub lower : (index : ℕ) → index < count → slice_index lowers index ≡ number_of (given index) % 2 ^ 16
+-- they are the upper and the lower half of a word
+abbrev pub AreHalves : ℕ → ℕ → ℕ → Type 0
+AreHalves upper lower word = (upper ≡ word / 2 ^ 16) × (lower ≡ word % 2 ^ 16)
+
+-- the first is the upper half of a word, rounded to odd
+abbrev pub IsShortHalf : ℕ → ℕ → ℕ → Type 0
+IsShortHalf upper lower word = upper ≡ odd_quotient word (2 ^ 16)

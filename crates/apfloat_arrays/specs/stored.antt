@@ -5,3 +5,4 @@ pub mod Numbers
 pub mod ByMode
 pub mod CodeTables
 pub mod NumberCodes
+pub mod NumberArrays

@@ -12,6 +12,7 @@ use crate::one_by_one::convert_one_by_one;
 use crate::short_sources::{ShortHalfS, ShortSingleS, convert_shortened, has_short_table};
 use crate::single_blocks::convert_all_singles;
 use crate::singles::has_singles;
+use crate::task::Task;
 use crate::widths::Widths;
 use rustc_apfloat::Round;
 use rustc_apfloat::ieee::Flagged;
@@ -53,14 +54,20 @@ pub fn convert_block_by<S: Flagged, T: Flagged>(
         IsBlock (IsConvertedBy overflow c d round) widths.source widths.target count
         input.now output.new result }
 {
+    let task = Task {
+        overflow,
+        round,
+        count,
+        input,
+    };
     if Ways::<S, T>::SINGLES && has_singles::<S, T>(widths) {
-        convert_all_singles::<S, T>(overflow, round, count, input, output)
+        convert_all_singles::<S, T>(task, output)
     } else if Ways::<S, T>::BYTES && has_byte_table::<S, T>(widths, count) {
-        convert_bytes::<S, T>(overflow, round, widths, count, input, output)
+        convert_bytes::<S, T>(task, widths, output)
     } else if Ways::<S, T>::SHORT && has_short_table::<S, ShortSingleS, T>(widths, count) {
-        convert_shortened::<S, ShortSingleS, T>(overflow, round, widths, count, input, output)
+        convert_shortened::<S, ShortSingleS, T>(task, widths, output)
     } else if Ways::<S, T>::SHORT && has_short_table::<S, ShortHalfS, T>(widths, count) {
-        convert_shortened::<S, ShortHalfS, T>(overflow, round, widths, count, input, output)
+        convert_shortened::<S, ShortHalfS, T>(task, widths, output)
     } else {
         convert_one_by_one::<S, T>(overflow, round, widths, count, input, output)
     }

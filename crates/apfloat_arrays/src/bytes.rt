@@ -1,7 +1,9 @@
 //! Integers as little-endian bytes.
 
-ghost use Rattle.std.specs.Prelude.{◌≡◌, ◌^◌, ◌<◌, ◌≤◌, length};
+ghost use Rattle.std.specs.Prelude.{◌≡◌, ◌*◌, ◌^◌, ◌<◌, ◌≤◌, IsTrue, length};
 ghost use Rattle.apfloat_arrays.specs.Bytes.{number_of};
+
+use rustc_apfloat::ieee::Flagged;
 
 /// The integer that the bytes encode in little-endian order.
 #[inline]
@@ -57,4 +59,23 @@ fn write_byte_by_byte(number: u128, bytes: &mut [u8])
         bytes[place] = (rest % 256) as u8;
         rest /= 256;
     }
+}
+
+/// Whether a value of `S` fills this number of bytes.
+#[inline(always)]
+pub(crate) fn has_width<S: Flagged>(width: usize) -> bool
+    ensures { IsTrue result → 8 * width ≡ S.BITS }
+{
+    (S::BITS % 8 == 0) & (width == S::BITS / 8)
+}
+
+/// The bits of a value.
+#[inline(always)]
+pub(crate) fn bits_in<S: Flagged>(bytes: &[u8]) -> u32
+    requires size { 8 * length bytes.now ≡ S.BITS }
+    requires bits { S.BITS ≤ 32 }
+    ensures is { result ≡ number_of bytes.now }
+    ensures below { result < 2 ^ S.BITS }
+{
+    number_of(bytes) as u32
 }

@@ -111,7 +111,7 @@ fn byte_at(bytes: &[u8], index: usize) -> usize
 
 /// The number that a byte is.
 #[inline(always)]
-fn byte_of(bytes: &[u8]) -> usize
+pub(crate) fn byte_of(bytes: &[u8]) -> usize
     requires { length bytes.now ≡ 1 }
     ensures is { result ≡ number_of bytes.now }
     ensures within { result < 256 }

@@ -7,13 +7,15 @@ ghost use Rattle.formats_at_run_time.specs.BuiltIns.{constants_in};
 ghost use Rattle.formats_at_run_time.specs.FlaggedKinds.{flagged_constants};
 ghost use Rattle.apfloat_arrays.specs.Blocks.{IsBlock};
 ghost use Rattle.apfloat_arrays.specs.Calls.{at_format};
-ghost use Rattle.apfloat_arrays.specs.Tables.{AreConversions};
-ghost use Rattle.apfloat_arrays.specs.Values.{IsConvertedBy};
+ghost use Rattle.apfloat_arrays.specs.Tables.{IsResultTable};
+ghost use Rattle.apfloat_arrays.specs.Values.{IsAnswerAt, IsConvertedBy};
 ghost use Rattle.apfloat_arrays.specs.Widths.{array_widths};
 
 use crate::array::ArrayConversion;
 use crate::counts::Counts;
 use crate::entries::{ENTRY, TwoBytes, look_up};
+use crate::far_numbers::far_answers_for;
+use crate::one_value::Between;
 use crate::tables::fill_entries;
 use formats_at_run_time::WritesInFormat;
 use rustc_apfloat::ieee::Flagged;
@@ -105,8 +107,8 @@ impl WritesInFormat for TableCall {
         × ((flagged_constants it.conversion.target).bits ≤ 32) × (length old ≡ 65536 * 8) };
 
     ghost gives = { λ it kind old new none.
-        at_format kind (λ c. AreConversions it.conversion.overflow c
-        (flagged_constants it.conversion.target) it.conversion.round 65536 new) };
+        at_format kind (λ c. IsResultTable (IsAnswerAt it.conversion.overflow c
+        (flagged_constants it.conversion.target) it.conversion.round) 65536 new) };
 
     fn write_in_format<S: Flagged>(self, table: &mut [u8]) {
         let target = self.conversion.target;
@@ -127,8 +129,8 @@ impl<S: Flagged> WritesInFormat for TableCallFrom<S> {
         × at_format kind (λ d. d.bits ≤ 32) × (length old ≡ 65536 * 8) };
 
     ghost gives = { λ it kind old new none.
-        at_format kind (λ d. AreConversions it.conversion.overflow (constants_of S.Flagged) d
-        it.conversion.round 65536 new) };
+        at_format kind (λ d. IsResultTable (IsAnswerAt it.conversion.overflow (constants_of S.Flagged) d
+        it.conversion.round) 65536 new) };
 
     fn write_in_format<T: Flagged>(self, table: &mut [u8]) {
         let ArrayConversion {
@@ -138,7 +140,15 @@ impl<S: Flagged> WritesInFormat for TableCallFrom<S> {
         } = self.conversion;
         // The other formats have no such table, and no code for one.
         if (S::BITS <= 16) & (T::BITS <= 32) {
-            fill_entries::<S, T>(overflow, round, PLACES, table)
+            let far = far_answers_for::<S, T>(overflow, round, PLACES);
+            let between = Between::<S, T> {
+                in_line: true,
+                far: &far,
+                overflow,
+                round,
+                formats: PhantomData,
+            };
+            fill_entries(between, PLACES, table)
         }
     }
 }

@@ -5,20 +5,23 @@ ghost use Rattle.std.specs.Prelude.{◌≡◌, ◌-◌, ◌*◌, ◌^◌, ◌<�
 ghost use Rattle.apfloat_model.specs.declared.kinds.NonfiniteBehavior.TheVariants.{IEEE754};
 ghost use Rattle.rustc_apfloat.specs.FlaggedTypes.{constants_of};
 ghost use Rattle.rustc_apfloat.proofs.LawTest.{lawful_from_test};
-ghost use Rattle.apfloat_arrays.specs.Blocks.{IsBlock};
-ghost use Rattle.apfloat_arrays.specs.Bytes.{number_of};
-ghost use Rattle.apfloat_arrays.specs.ShortSources.{IsCoarseFor, IsShortFor, is_nan_of, short_of};
-ghost use Rattle.apfloat_arrays.specs.Tables.{IsTable};
+ghost use Rattle.apfloat_arrays.specs.ShortSources.{AreShortened, HasShortTable, IsCoarseFor, IsShortFor, is_nan_of};
+ghost use Rattle.apfloat_arrays.specs.ShortSources.{short_of};
+ghost use Rattle.apfloat_arrays.specs.Tasks.{HaveWidths, IsDone, IsGiven};
 ghost use Rattle.apfloat_arrays.specs.Values.{IsConvertedBy};
 
-use crate::bytes::number_of;
+use crate::bytes::{bits_in, has_width};
 use crate::counts::{Counts, Outcome};
-use crate::one_value::convert_slowly;
+use crate::each::{ValueConversion, convert_each};
+use crate::far_numbers::far_answers_for;
+use crate::one_value::{Between, convert_slowly};
 use crate::tables::{fill_table, look_up};
+use crate::task::Task;
 use crate::widths::Widths;
 use rustc_apfloat::ieee::{Flagged, NonfiniteBehavior, Semantics};
 use rustc_apfloat::{ExpInt, Round};
 use small_formats::saturation::Overflow;
+use std::marker::PhantomData;
 
 /// Six digits with the exponents of singles.
 #[derive(Clone, Copy)]
@@ -146,10 +149,8 @@ const PLACES: usize = 1 << 14;
 /// Whether a table of all values of `Z` has the results, and there are enough values to fill it.
 #[inline(always)]
 pub fn has_short_table<S: Flagged, Z: Flagged, T: Flagged>(widths: Widths, count: usize) -> bool
-    ensures { IsTrue result → IsShortFor (constants_of S.Flagged) (constants_of Z.Flagged)
-        × IsCoarseFor (constants_of Z.Flagged) (constants_of T.Flagged)
-        × (S.BITS ≤ 32) × (Z.BITS ≤ 14) × (T.BITS ≤ 8)
-        × (8 * widths.source ≡ S.BITS) × (widths.target ≡ 1) }
+    ensures { IsTrue result → AreShortened (constants_of S.Flagged) (constants_of Z.Flagged)
+        (constants_of T.Flagged) widths × (Z.BITS ≤ 14) }
 {
     is_short_for::<S, Z>()
         & is_coarse_for::<Z, T>()
@@ -166,14 +167,6 @@ fn pays<Z: Flagged>(count: usize) -> bool
     ensures { IsTrue result → Z.BITS ≤ 14 }
 {
     Z::BITS <= 14 && count >= 4 << Z::BITS
-}
-
-/// Whether a value of `S` fills this number of bytes.
-#[inline(always)]
-fn has_width<S: Flagged>(width: usize) -> bool
-    ensures { IsTrue result → 8 * width ≡ S.BITS }
-{
-    (S::BITS % 8 == 0) & (width == S::BITS / 8)
 }
 
 /// Whether `Z` has six digits and the exponents of `S`.
@@ -208,44 +201,35 @@ fn has_finer_quantum<Z: Flagged, T: Flagged>() -> bool
     T::PRECISION as ExpInt - T::MIN_EXP + 3 <= Z::PRECISION as ExpInt - Z::MIN_EXP
 }
 
-/// Converts `count` values, each in its place, by a table of all values of `Z`.
+/// Converts each value in its place, by a table of all values of `Z`.
 #[inline(never)]
 pub fn convert_shortened<S: Flagged, Z: Flagged, T: Flagged>(
-    overflow: Overflow,
-    round: Round,
+    task: Task,
     widths: Widths,
-    count: usize,
-    input: &[u8],
     output: &mut [u8],
 ) -> Counts
-    requires read { S.PRECISION < S.BITS }
     requires listed { Z.PRECISION < Z.BITS }
-    requires written { T.PRECISION < T.BITS }
-    requires short { IsShortFor (constants_of S.Flagged) (constants_of Z.Flagged) }
-    requires coarse { IsCoarseFor (constants_of Z.Flagged) (constants_of T.Flagged) }
-    requires source_bits { S.BITS ≤ 32 }
     requires places { Z.BITS ≤ 14 }
-    requires target_bits { T.BITS ≤ 8 }
-    requires source { 8 * widths.source ≡ S.BITS }
-    requires target { widths.target ≡ 1 }
-    requires input { length input.now ≡ count * widths.source }
-    requires output { length output.old ≡ count * widths.target }
-    ensures { let c = constants_of S.Flagged in let d = constants_of T.Flagged in
-        IsBlock (IsConvertedBy overflow c d round) widths.source widths.target count
-        input.now output.new result }
+    requires short { AreShortened (constants_of S.Flagged) (constants_of Z.Flagged)
+        (constants_of T.Flagged) widths }
+    requires given { IsGiven (constants_of S.Flagged) (constants_of T.Flagged) task widths
+        output.old }
+    ensures { IsDone (constants_of S.Flagged) (constants_of T.Flagged) task.entry widths output.new
+        result }
 {
     let mut values = [0_u8; PLACES];
     let mut outcomes = [Outcome::EXACT; PLACES];
     let places = places_of::<Z>();
+    let whole = Widths {
+        source: S::BITS / 8,
+        target: 1,
+    };
     convert_with::<S, Z, T>(
-        overflow,
-        round,
-        S::BITS / 8,
+        task,
+        whole,
         places,
         &mut values[..places],
         &mut outcomes[..places],
-        count,
-        input,
         output,
     )
 }
@@ -260,79 +244,71 @@ fn places_of<Z: Flagged>() -> usize
     1 << Z::BITS
 }
 
-/// `convert_shortened` in memory lent for the table, which has `places` places; a value of `S` takes `width` bytes.
+/// `convert_shortened` in memory lent for the table, which has `places` places.
 #[inline(always)]
 fn convert_with<S: Flagged, Z: Flagged, T: Flagged>(
-    overflow: Overflow,
-    round: Round,
-    width: usize,
+    task: Task,
+    widths: Widths,
     places: usize,
     values: &mut [u8],
     outcomes: &mut [Outcome],
-    count: usize,
-    input: &[u8],
     output: &mut [u8],
 ) -> Counts
-    requires read { S.PRECISION < S.BITS }
     requires listed { Z.PRECISION < Z.BITS }
-    requires written { T.PRECISION < T.BITS }
-    requires short { IsShortFor (constants_of S.Flagged) (constants_of Z.Flagged) }
-    requires coarse { IsCoarseFor (constants_of Z.Flagged) (constants_of T.Flagged) }
-    requires source_bits { S.BITS ≤ 32 }
-    requires target_bits { T.BITS ≤ 8 }
-    requires width { 8 * width ≡ S.BITS }
     requires places { places ≡ 2 ^ Z.BITS }
     requires values { length values.old ≡ places * 1 }
     requires outcomes { length outcomes.old ≡ places }
-    requires input { length input.now ≡ count * width }
-    requires output { length output.old ≡ count * 1 }
-    ensures { let c = constants_of S.Flagged in let d = constants_of T.Flagged in
-        IsBlock (IsConvertedBy overflow c d round) width 1 count input.now output.new result }
+    requires short { AreShortened (constants_of S.Flagged) (constants_of Z.Flagged)
+        (constants_of T.Flagged) widths }
+    requires given { IsGiven (constants_of S.Flagged) (constants_of T.Flagged) task widths
+        output.old }
+    ensures { IsDone (constants_of S.Flagged) (constants_of T.Flagged) task.entry widths output.new
+        result }
 {
-    fill_table::<Z, T>(overflow, round, 1, places, values, outcomes);
-    let mut counts = Counts::NONE;
-    for index in 0..count {
-        let (from, to) = (index * width, index * 1);
-        let source = &input[from..from + width];
-        let target = &mut output[to..to + 1];
-        counts.count(convert_shortened_value::<S, Z, T>(
-            overflow, round, values, outcomes, source, target,
-        ));
-    }
-    counts
+    let far = far_answers_for::<Z, T>(task.overflow, task.round, places);
+    let listed = Between::<Z, T> {
+        in_line: true,
+        far: &far,
+        overflow: task.overflow,
+        round: task.round,
+        formats: PhantomData,
+    };
+    fill_table(listed, 1, places, values, outcomes);
+    let shortened = Shortened::<S, Z, T> {
+        overflow: task.overflow,
+        round: task.round,
+        values,
+        outcomes,
+        formats: PhantomData,
+    };
+    convert_each(shortened, widths, task.count, task.input, output)
 }
 
-/// Converts a value by the table, or a NaN, whose payload may need more digits, in the general way.
-#[inline(always)]
-fn convert_shortened_value<S: Flagged, Z: Flagged, T: Flagged>(
+/// The conversion from `S` to `T` by a table of those from `Z`.
+#[derive_where(Clone, Copy)]
+struct Shortened<'a, S: Flagged, Z: Flagged, T: Flagged> {
     overflow: Overflow,
     round: Round,
-    values: &[u8],
-    outcomes: &[Outcome],
-    source: &[u8],
-    target: &mut [u8],
-) -> Outcome
-    requires read { S.PRECISION < S.BITS }
-    requires listed { Z.PRECISION < Z.BITS }
-    requires written { T.PRECISION < T.BITS }
-    requires short { IsShortFor (constants_of S.Flagged) (constants_of Z.Flagged) }
-    requires coarse { IsCoarseFor (constants_of Z.Flagged) (constants_of T.Flagged) }
-    requires source_bits { S.BITS ≤ 32 }
-    requires target_bits { T.BITS ≤ 8 }
-    requires values { length values.now ≡ 2 ^ Z.BITS }
-    requires outcomes { length outcomes.now ≡ 2 ^ Z.BITS }
-    requires table { IsTable overflow (constants_of Z.Flagged) (constants_of T.Flagged) round 1
-        (2 ^ Z.BITS) values.now outcomes.now }
-    requires source { 8 * length source.now ≡ S.BITS }
-    requires target { length target.old ≡ 1 }
-    ensures { IsConvertedBy overflow (constants_of S.Flagged) (constants_of T.Flagged) round
-        source.now target.new result }
-{
-    let bits = bits_in::<S>(source);
-    if is_nan::<S>(bits) {
-        convert_apart::<S, T>(overflow, round, source, target)
-    } else {
-        look_up(values, outcomes, short_of::<S, Z>(bits), target)
+    values: &'a [u8],
+    outcomes: &'a [Outcome],
+    formats: PhantomData<(S, Z, T)>,
+}
+
+impl<S: Flagged, Z: Flagged, T: Flagged> ValueConversion for Shortened<'_, S, Z, T> {
+    ghost can = { λ it. HasShortTable it.overflow (constants_of S.Flagged) (constants_of Z.Flagged)
+        (constants_of T.Flagged) it.round it.values.now it.outcomes.now };
+
+    ghost gives = { λ it. IsConvertedBy it.overflow (constants_of S.Flagged) (constants_of T.Flagged) it.round };
+
+    /// Converts a value by the table, or a NaN, whose payload may need more digits, in the general way.
+    #[inline(always)]
+    fn convert(self, input: &[u8], output: &mut [u8]) -> Outcome {
+        let bits = bits_in::<S>(input);
+        if is_nan::<S>(bits) {
+            convert_apart::<S, T>(self.overflow, self.round, input, output)
+        } else {
+            look_up(self.values, self.outcomes, short_of::<S, Z>(bits), output)
+        }
     }
 }
 
@@ -344,25 +320,12 @@ fn convert_apart<S: Flagged, T: Flagged>(
     source: &[u8],
     target: &mut [u8],
 ) -> Outcome
-    requires read { S.PRECISION < S.BITS }
-    requires written { T.PRECISION < T.BITS }
-    requires source { length source.now ≤ 16 }
-    requires target { T.BITS ≤ 8 * length target.old }
+    requires { HaveWidths (constants_of S.Flagged) (constants_of T.Flagged) (length source.now)
+        (length target.old) }
     ensures { IsConvertedBy overflow (constants_of S.Flagged) (constants_of T.Flagged) round
         source.now target.new result }
 {
     convert_slowly::<S, T>(overflow, round, source, target)
-}
-
-/// The bits of a value.
-#[inline(always)]
-fn bits_in<S: Flagged>(bytes: &[u8]) -> u32
-    requires size { 8 * length bytes.now ≡ S.BITS }
-    requires bits { S.BITS ≤ 32 }
-    ensures is { result ≡ number_of bytes.now }
-    ensures below { result < 2 ^ S.BITS }
-{
-    number_of(bytes) as u32
 }
 
 /// Whether the bits are those of a NaN.

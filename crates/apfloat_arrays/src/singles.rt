@@ -1,76 +1,51 @@
 //! Singles converted a block at a time. The loops below have no jump that depends on a value, and compute everything in
 //! words of sixteen bits, so that a compiler can work on several values at once.
 
-ghost use Rattle.std.specs.Prelude.{◌≡◌, ℕ, ◌+◌, ◌*◌, ◌/◌, ◌%◌, ◌^◌, ◌≤◌, ◌<◌, List, length, replicate, false, IsTrue};
+ghost use Rattle.std.specs.Prelude.{◌≡◌, ℕ, ⊤, ◌+◌, ◌*◌, ◌/◌, ◌%◌, ◌^◌, ◌≤◌};
+ghost use Rattle.std.specs.Prelude.{◌<◌, List, length, replicate, false, IsTrue};
+ghost use Rattle.std.proofs.Common.{ap};
+ghost use Rattle.apfloat_model.specs.bits.Layout.{Layout};
 ghost use Rattle.fast_bits.specs.lanes.FewCounts.{FewAreAtMost};
 ghost use Rattle.fast_bits.specs.lanes.Sides.{LeadsPast};
 ghost use Rattle.fast_bits.specs.lanes.Targets.{IsSingleFormat, IsTarget};
 ghost use Rattle.rustc_apfloat.specs.declared.Round.{Round as Mode};
 ghost use Rattle.rustc_apfloat.specs.Lawful.{Constants, format_with, layout_with};
 ghost use Rattle.rustc_apfloat.specs.FlaggedTypes.{constants_of, format_of, layout_of};
-ghost use Rattle.apfloat_arrays.specs.Blocks.{IsBlock, value_at};
+ghost use Rattle.small_formats.specs.declared.saturation.saturation.Overflow.{Overflow};
+ghost use Rattle.apfloat_arrays.specs.Blocks.{value_at};
 ghost use Rattle.apfloat_arrays.specs.Outcomes.{with_outcome};
-ghost use Rattle.apfloat_arrays.specs.Rows.{AreFiniteHalves, IsRow, number_from};
-ghost use Rattle.apfloat_arrays.specs.Singles.{AreHalfSingles, IsPlanFor, counts_with, outcome_of};
+ghost use Rattle.apfloat_arrays.specs.Rows.{AreFiniteHalves, AreTaken, IsRow, number_from};
+ghost use Rattle.apfloat_arrays.specs.Singles.{AreHalves, IsPlanFor, counts_with, outcome_of};
+ghost use Rattle.apfloat_arrays.specs.Tasks.{AreConverted, AreSingles, HasConverted, HasSingles};
 ghost use Rattle.apfloat_arrays.specs.Values.{IsConvertedBy};
 ghost use Rattle.apfloat_arrays.specs.Widths.{bytes_of};
 
 use crate::bytes::write_number;
 use crate::counts::Counts;
 use crate::one_by_one::convert_one_by_one;
+use crate::single_plans::{BlockPlan, SinglesPlan};
 use crate::single_targets::{is_single, is_target, saturates, target_of};
 use crate::specials::{BLOCK, are_finite, convert_specials, lower_in, number_in, word_of};
+use crate::task::Task;
 use crate::widths::{Widths, bytes_of};
 use fast_bits::lanes::{FewCounts, Lane, Plan, convert_single, delivers_past, plan_of, with_lane};
 use rustc_apfloat::Round;
 use rustc_apfloat::ieee::Flagged;
-use small_formats::saturation::Overflow;
 
 /// From how many values on it takes less time to convert a whole block than each of them.
 const FEWEST: usize = 20;
-
-/// Reads the upper and the lower halves of the bits of the singles of a block.
-#[inline(always)]
-fn read_halves<const N: usize>(bytes: &[u8], uppers: &mut [u16; N], lowers: &mut [u16; N])
-    requires { length bytes.now ≡ N * 4 }
-    ensures { AreHalfSingles N uppers.new lowers.new (λ index. value_at 4 index bytes.now) }
-{
-    for index in 0..N {
-        let from = index * 4;
-        let word = word_of(&bytes[from..from + 4]);
-        uppers[index] = (word / 0x1_0000) as u16;
-        lowers[index] = (word % 0x1_0000) as u16;
-    }
-}
 
 /// Zeros in place of infinities and NaNs.
 #[inline(never)]
 fn clear_specials<const N: usize>(uppers: &mut [u16; N], lowers: &mut [u16; N])
     ensures finite { AreFiniteHalves N uppers.new }
     ensures kept { (input : List ℕ)
-        → AreHalfSingles N uppers.old lowers.old (λ index. value_at 4 index input)
-        → AreHalfSingles N uppers.new lowers.new (number_from 0 input) }
+        → AreTaken AreHalves N uppers.old lowers.old (λ index. value_at 4 index input)
+        → AreTaken AreHalves N uppers.new lowers.new (number_from 0 input) }
 {
     for index in 0..N {
         lowers[index] = lower_in(uppers[index], lowers[index]);
         uppers[index] = number_in(uppers[index]);
-    }
-}
-
-/// `clear_specials`, but without the call if all are finite, as in most blocks. Returns whether all are.
-#[inline(always)]
-fn leave_numbers<const N: usize>(uppers: &mut [u16; N], lowers: &mut [u16; N]) -> bool
-    ensures finite { AreFiniteHalves N uppers.new }
-    ensures kept { (input : List ℕ)
-        → AreHalfSingles N uppers.old lowers.old (λ index. value_at 4 index input)
-        → AreHalfSingles N uppers.new lowers.new (number_from 0 input) }
-    ensures all { IsTrue result → AreFiniteHalves N uppers.old }
-{
-    if are_finite(uppers) {
-        true
-    } else {
-        clear_specials(uppers, lowers);
-        false
     }
 }
 
@@ -102,22 +77,22 @@ pub(crate) fn all_counts(few: FewCounts, values: usize) -> Counts
 
 /// Converts the values of a block, each to its place. With `specials`, infinities and NaNs may be among them.
 #[inline(always)]
-fn convert_halves<const N: usize>(
-    plan: Plan,
+fn convert_halves<P: SinglesPlan, const N: usize>(
+    plan: P,
     specials: bool,
     width: usize,
     uppers: &[u16; N],
     lowers: &[u16; N],
     output: &mut [u8],
 ) -> FewCounts
-    requires width { plan.target.bits ≤ 8 * width }
+    requires width { P.bits plan ≤ 8 * width }
     requires finite { specials ≡ false → AreFiniteHalves N uppers.now }
-    requires leads { IsTrue specials → LeadsPast plan.saturates plan.round }
+    requires past { IsTrue specials → P.leads plan }
     requires few { N < 2 ^ 16 }
     requires output { length output.old ≡ N * width }
     ensures { (overflow : Overflow) (c d : Constants) (mode : Mode) (given : ℕ → List ℕ)
-        → IsSingleFormat (format_with c) (layout_with c) → IsPlanFor overflow d mode plan
-        → AreHalfSingles N uppers.now lowers.now given
+        → IsSingleFormat (format_with c) (layout_with c) → P.is_for plan overflow d mode
+        → AreTaken P.takes N uppers.now lowers.now given
         → IsRow (IsConvertedBy overflow c d mode) given width N output.new (counts_with result N) }
 {
     let mut few = FewCounts {
@@ -130,7 +105,7 @@ fn convert_halves<const N: usize>(
     for index in 0..N {
         let from = index * width;
         let target = &mut output[from..from + width];
-        let lane = convert_single(plan, specials, uppers[index], lowers[index]);
+        let lane = plan.convert(specials, uppers[index], lowers[index]);
         write_number(u128::from(lane.bits), target);
         few = counted(few, lane);
     }
@@ -139,20 +114,20 @@ fn convert_halves<const N: usize>(
 
 /// Converts the values of a block, where infinities and NaNs take the same steps as numbers.
 #[inline(always)]
-fn convert_alike<const N: usize>(
-    plan: Plan,
+fn convert_alike<P: SinglesPlan, const N: usize>(
+    plan: P,
     width: usize,
     uppers: &[u16; N],
     lowers: &[u16; N],
     output: &mut [u8],
 ) -> Counts
-    requires width { plan.target.bits ≤ 8 * width }
-    requires leads { LeadsPast plan.saturates plan.round }
+    requires width { P.bits plan ≤ 8 * width }
+    requires past { P.leads plan }
     requires few { N < 2 ^ 16 }
     requires output { length output.old ≡ N * width }
     ensures { (overflow : Overflow) (c d : Constants) (mode : Mode) (given : ℕ → List ℕ)
-        → IsSingleFormat (format_with c) (layout_with c) → IsPlanFor overflow d mode plan
-        → AreHalfSingles N uppers.now lowers.now given
+        → IsSingleFormat (format_with c) (layout_with c) → P.is_for plan overflow d mode
+        → AreTaken P.takes N uppers.now lowers.now given
         → IsRow (IsConvertedBy overflow c d mode) given width N output.new result }
 {
     if are_finite(uppers) {
@@ -164,74 +139,86 @@ fn convert_alike<const N: usize>(
     }
 }
 
-/// Converts the values of a block, its infinities and NaNs apart.
+/// Converts the values of a block. The halves of their words that the plan takes are written to `uppers` and `lowers`.
 #[inline(always)]
-fn convert_apart<S: Flagged, T: Flagged, const N: usize>(
-    plan: Plan,
-    overflow: Overflow,
-    round: Round,
-    widths: Widths,
+pub(crate) fn convert_block<P: BlockPlan<N>, S: Flagged, T: Flagged, const N: usize>(
+    plan: P,
+    task: Task,
+    width: usize,
     uppers: &mut [u16; N],
     lowers: &mut [u16; N],
-    input: &[u8],
     output: &mut [u8],
 ) -> Counts
-    requires read { S.PRECISION < S.BITS }
-    requires written { T.PRECISION < T.BITS }
-    requires single { IsSingleFormat (format_of S.Flagged) (layout_of S.Flagged) }
-    requires plan { IsPlanFor overflow (constants_of T.Flagged) round plan }
-    requires source { widths.source ≡ 4 }
-    requires target { T.BITS ≤ 8 * widths.target }
-    requires halves { AreHalfSingles N uppers.old lowers.old (λ index. value_at 4 index input.now) }
+    requires plan { P.is_for plan task.overflow (constants_of T.Flagged) task.round }
     requires groups { N % 16 ≡ 0 }
     requires few { N < 2 ^ 16 }
-    requires input { length input.now ≡ N * widths.source }
-    requires output { length output.old ≡ N * widths.target }
-    ensures { let c = constants_of S.Flagged in let d = constants_of T.Flagged in
-        IsBlock (IsConvertedBy overflow c d round) widths.source widths.target N input.now
+    requires given { AreSingles (constants_of S.Flagged) (constants_of T.Flagged) width N
+        task.input.now output.old }
+    ensures { AreConverted (constants_of S.Flagged) (constants_of T.Flagged) task.entry width N
         output.new result }
 {
-    let finite = leave_numbers(uppers, lowers);
-    let few = convert_halves(plan, false, widths.target, uppers, lowers, output);
+    P::read_halves(task.input, uppers, lowers);
+    if plan.leads_past() {
+        return convert_alike(plan, width, uppers, lowers, output);
+    }
+    let finite = P::leave_numbers(uppers, lowers);
+    let few = convert_halves(plan, false, width, uppers, lowers, output);
     let counts = all_counts(few, N);
     if finite {
         counts
     } else {
-        convert_specials::<S, T, N>(overflow, round, widths.target, counts, input, output)
+        convert_specials::<S, T, N>(task, width, counts, output)
     }
 }
 
-/// Converts the values of a block.
-#[inline(always)]
-pub(crate) fn convert_block<S: Flagged, T: Flagged, const N: usize>(
-    plan: Plan,
-    overflow: Overflow,
-    round: Round,
-    widths: Widths,
-    uppers: &mut [u16; N],
-    lowers: &mut [u16; N],
-    input: &[u8],
-    output: &mut [u8],
-) -> Counts
-    requires read { S.PRECISION < S.BITS }
-    requires written { T.PRECISION < T.BITS }
-    requires single { IsSingleFormat (format_of S.Flagged) (layout_of S.Flagged) }
-    requires plan { IsPlanFor overflow (constants_of T.Flagged) round plan }
-    requires source { widths.source ≡ 4 }
-    requires target { T.BITS ≤ 8 * widths.target }
-    requires groups { N % 16 ≡ 0 }
-    requires few { N < 2 ^ 16 }
-    requires input { length input.now ≡ N * widths.source }
-    requires output { length output.old ≡ N * widths.target }
-    ensures { let c = constants_of S.Flagged in let d = constants_of T.Flagged in
-        IsBlock (IsConvertedBy overflow c d round) widths.source widths.target N input.now
-        output.new result }
-{
-    read_halves(input, uppers, lowers);
-    if delivers_past(plan.target, plan.positive, plan.negative) {
-        convert_alike(plan, widths.target, uppers, lowers, output)
-    } else {
-        convert_apart::<S, T, N>(plan, overflow, round, widths, uppers, lowers, input, output)
+impl SinglesPlan for Plan {
+    ghost can = { λ layout precision least. ⊤ };
+
+    ghost is_for = { λ plan overflow d mode. IsPlanFor overflow d mode plan.target plan.saturates plan.round };
+
+    ghost bits = { λ plan. plan.target.bits };
+
+    ghost leads = { λ plan. LeadsPast plan.saturates plan.round };
+
+    ghost takes = { AreHalves };
+
+    #[inline(always)]
+    fn plan_to<T: Flagged>(saturating: bool, round: Round) -> Plan {
+        plan_of(target_of::<T>(), saturating, round)
+    }
+
+    #[inline(always)]
+    fn leads_past(self) -> bool {
+        delivers_past(self.target, self.positive, self.negative)
+    }
+
+    #[inline(always)]
+    fn convert(self, specials: bool, upper: u16, lower: u16) -> Lane {
+        convert_single(self, specials, upper, lower)
+    }
+
+    ghost fits = { λ plan overflow d mode it. ap (λ (l : Layout). l.bits) it.layout };
+}
+
+impl<const N: usize> BlockPlan<N> for Plan {
+    #[inline(always)]
+    fn read_halves(bytes: &[u8], uppers: &mut [u16; N], lowers: &mut [u16; N]) {
+        for index in 0..N {
+            let from = index * 4;
+            let word = word_of(&bytes[from..from + 4]);
+            uppers[index] = (word / 0x1_0000) as u16;
+            lowers[index] = (word % 0x1_0000) as u16;
+        }
+    }
+
+    #[inline(always)]
+    fn leave_numbers(uppers: &mut [u16; N], lowers: &mut [u16; N]) -> bool {
+        if are_finite(uppers) {
+            true
+        } else {
+            clear_specials(uppers, lowers);
+            false
+        }
     }
 }
 
@@ -239,46 +226,36 @@ pub(crate) fn convert_block<S: Flagged, T: Flagged, const N: usize>(
 /// are made in `room` and copied to `output`.
 #[inline(always)]
 fn convert_between<S: Flagged, T: Flagged>(
-    overflow: Overflow,
-    round: Round,
-    count: usize,
+    task: Task,
     singles: &mut [u8],
     room: &mut [u8],
-    input: &[u8],
     output: &mut [u8],
 ) -> Counts
-    requires read { S.PRECISION < S.BITS }
-    requires written { T.PRECISION < T.BITS }
-    requires single { IsSingleFormat (format_of S.Flagged) (layout_of S.Flagged) }
-    requires target { IsTarget (format_of T.Flagged) (layout_of T.Flagged) T.MIN_EXP T.MAX_EXP }
-    requires width { T.BITS ≤ 8 * bytes_of T.BITS }
-    requires few { count ≤ 64 }
+    requires few { task.count ≤ 64 }
     requires zeros { singles.old ≡ replicate 256 0 }
     requires room { length room.old ≡ 128 }
-    requires input { length input.now ≡ count * 4 }
-    requires output { length output.old ≡ count * bytes_of T.BITS }
-    ensures { let c = constants_of S.Flagged in let d = constants_of T.Flagged in
-        IsBlock (IsConvertedBy overflow c d round) 4 (bytes_of T.BITS) count input.now output.new
+    requires given { HasSingles (constants_of S.Flagged) (constants_of T.Flagged) task output.old }
+    ensures { HasConverted (constants_of S.Flagged) (constants_of T.Flagged) task.entry output.new
         result }
 {
-    let plan = plan_of(target_of::<T>(), saturates(overflow), round);
-    let widths = Widths {
-        source: 4,
-        target: bytes_of(T::BITS),
+    let count = task.count;
+    let width = bytes_of(T::BITS);
+    let plan = plan_of(target_of::<T>(), saturates(task.overflow), task.round);
+    singles[..count * 4].copy_from_slice(task.input);
+    let padded = Task {
+        input: singles,
+        ..task
     };
-    singles[..count * 4].copy_from_slice(input);
-    let made = &mut room[..BLOCK * widths.target];
-    let counts = convert_block::<S, T, BLOCK>(
+    let made = &mut room[..BLOCK * width];
+    let counts = convert_block::<Plan, S, T, BLOCK>(
         plan,
-        overflow,
-        round,
-        widths,
+        padded,
+        width,
         &mut [0; BLOCK],
         &mut [0; BLOCK],
-        singles,
         made,
     );
-    output.copy_from_slice(&room[..count * widths.target]);
+    output.copy_from_slice(&room[..count * width]);
     Counts {
         values: count as u64,
         ..counts
@@ -287,67 +264,40 @@ fn convert_between<S: Flagged, T: Flagged>(
 
 /// Converts a few values as a block.
 #[inline(always)]
-fn convert_padded<S: Flagged, T: Flagged>(
-    overflow: Overflow,
-    round: Round,
-    count: usize,
-    input: &[u8],
-    output: &mut [u8],
-) -> Counts
-    requires read { S.PRECISION < S.BITS }
-    requires written { T.PRECISION < T.BITS }
-    requires single { IsSingleFormat (format_of S.Flagged) (layout_of S.Flagged) }
-    requires target { IsTarget (format_of T.Flagged) (layout_of T.Flagged) T.MIN_EXP T.MAX_EXP }
-    requires width { T.BITS ≤ 8 * bytes_of T.BITS }
-    requires few { count ≤ 64 }
-    requires input { length input.now ≡ count * 4 }
-    requires output { length output.old ≡ count * bytes_of T.BITS }
-    ensures { let c = constants_of S.Flagged in let d = constants_of T.Flagged in
-        IsBlock (IsConvertedBy overflow c d round) 4 (bytes_of T.BITS) count input.now output.new
+fn convert_padded<S: Flagged, T: Flagged>(task: Task, output: &mut [u8]) -> Counts
+    requires few { task.count ≤ 64 }
+    requires given { HasSingles (constants_of S.Flagged) (constants_of T.Flagged) task output.old }
+    ensures { HasConverted (constants_of S.Flagged) (constants_of T.Flagged) task.entry output.new
         result }
 {
     let mut singles = [0; BLOCK * 4];
     let mut room = [0; BLOCK * 2];
-    convert_between::<S, T>(
-        overflow,
-        round,
-        count,
-        &mut singles,
-        &mut room,
-        input,
-        output,
-    )
+    convert_between::<S, T>(task, &mut singles, &mut room, output)
 }
 
 /// Converts the last values of an array, fewer than a block has.
 #[inline(never)]
-pub(crate) fn convert_last<S: Flagged, T: Flagged>(
-    overflow: Overflow,
-    round: Round,
-    count: usize,
-    input: &[u8],
-    output: &mut [u8],
-) -> Counts
-    requires read { S.PRECISION < S.BITS }
-    requires written { T.PRECISION < T.BITS }
-    requires single { IsSingleFormat (format_of S.Flagged) (layout_of S.Flagged) }
-    requires target { IsTarget (format_of T.Flagged) (layout_of T.Flagged) T.MIN_EXP T.MAX_EXP }
-    requires width { T.BITS ≤ 8 * bytes_of T.BITS }
-    requires few { count < 64 }
-    requires input { length input.now ≡ count * 4 }
-    requires output { length output.old ≡ count * bytes_of T.BITS }
-    ensures { let c = constants_of S.Flagged in let d = constants_of T.Flagged in
-        IsBlock (IsConvertedBy overflow c d round) 4 (bytes_of T.BITS) count input.now output.new
+pub(crate) fn convert_last<S: Flagged, T: Flagged>(task: Task, output: &mut [u8]) -> Counts
+    requires few { task.count < 64 }
+    requires given { HasSingles (constants_of S.Flagged) (constants_of T.Flagged) task output.old }
+    ensures { HasConverted (constants_of S.Flagged) (constants_of T.Flagged) task.entry output.new
         result }
 {
-    if count < FEWEST {
+    if task.count < FEWEST {
         let widths = Widths {
             source: 4,
             target: bytes_of(T::BITS),
         };
-        convert_one_by_one::<S, T>(overflow, round, widths, count, input, output)
+        convert_one_by_one::<S, T>(
+            task.overflow,
+            task.round,
+            widths,
+            task.count,
+            task.input,
+            output,
+        )
     } else {
-        convert_padded::<S, T>(overflow, round, count, input, output)
+        convert_padded::<S, T>(task, output)
     }
 }
 

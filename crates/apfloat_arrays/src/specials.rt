@@ -2,20 +2,18 @@
 //! take their places, since these raise no flag and are not counted as NaNs.
 
 ghost use Rattle.std.specs.Prelude.{◌≡◌, ℕ, ◌+◌, ◌*◌, ◌%◌, ◌^◌, ◌<◌, ◌≤◌, length, slice_index, IsTrue};
-ghost use Rattle.fast_bits.specs.lanes.Targets.{IsSingleFormat};
-ghost use Rattle.rustc_apfloat.specs.FlaggedTypes.{constants_of, format_of, layout_of};
-ghost use Rattle.apfloat_arrays.specs.Blocks.{IsBlock, value_at};
+ghost use Rattle.rustc_apfloat.specs.FlaggedTypes.{constants_of};
+ghost use Rattle.apfloat_arrays.specs.Blocks.{value_at};
 ghost use Rattle.apfloat_arrays.specs.Bytes.{number_of};
-ghost use Rattle.apfloat_arrays.specs.Rows.{AreFiniteHalves, IsRow, lower_in, number_from, number_in};
-ghost use Rattle.apfloat_arrays.specs.Values.{IsConvertedBy};
+ghost use Rattle.apfloat_arrays.specs.Rows.{AreFiniteHalves, lower_in, number_in};
+ghost use Rattle.apfloat_arrays.specs.Tasks.{AreConverted, AreNumbersOf, AreSingles};
 
 use crate::bytes::number_of;
 use crate::counts::Counts;
 use crate::one_value::convert_slowly;
+use crate::task::Task;
 use fast_bits::lanes::{is_finite, is_finite_half};
-use rustc_apfloat::Round;
 use rustc_apfloat::ieee::Flagged;
-use small_formats::saturation::Overflow;
 
 /// How many values are converted at once.
 pub(crate) const BLOCK: usize = 64;
@@ -81,36 +79,28 @@ fn are_numbers(bytes: &[u8]) -> bool
 /// Converts the infinities and NaNs among the sixteen singles from `first` on, as `convert_specials` does.
 #[inline(always)]
 fn convert_group<S: Flagged, T: Flagged, const N: usize>(
-    overflow: Overflow,
-    round: Round,
+    task: Task,
     width: usize,
     first: usize,
     counts: Counts,
-    input: &[u8],
     output: &mut [u8],
 ) -> Counts
-    requires read { S.PRECISION < S.BITS }
-    requires written { T.PRECISION < T.BITS }
-    requires single { IsSingleFormat (format_of S.Flagged) (layout_of S.Flagged) }
-    requires target { T.BITS ≤ 8 * width }
     requires within { first + 16 ≤ N }
-    requires input { length input.now ≡ N * 4 }
-    requires output { length output.old ≡ N * width }
-    requires numbers { let c = constants_of S.Flagged in let d = constants_of T.Flagged in
-        IsRow (IsConvertedBy overflow c d round) (number_from first input.now) width N output.old
-        counts }
-    ensures { let c = constants_of S.Flagged in let d = constants_of T.Flagged in
-        IsRow (IsConvertedBy overflow c d round) (number_from (first + 16) input.now) width N
-        output.new result }
+    requires given { AreSingles (constants_of S.Flagged) (constants_of T.Flagged) width N
+        task.input.now output.old }
+    requires numbers { AreNumbersOf (constants_of S.Flagged) (constants_of T.Flagged) task first
+        width N output.old counts }
+    ensures { AreNumbersOf (constants_of S.Flagged) (constants_of T.Flagged) task.entry (first + 16)
+        width N output.new result }
 {
     let mut counts = counts;
     for index in first..first + GROUP {
         let from = index * 4;
-        let source = &input[from..from + 4];
+        let source = &task.input[from..from + 4];
         if !is_finite(word_of(source)) {
             let to = index * width;
             let target = &mut output[to..to + width];
-            counts.raise(convert_slowly::<S, T>(overflow, round, source, target));
+            counts.raise(convert_slowly::<S, T>(task.overflow, task.round, source, target));
         }
     }
     counts
@@ -120,31 +110,24 @@ fn convert_group<S: Flagged, T: Flagged, const N: usize>(
 /// `counts` are those with the zeros.
 #[inline(never)]
 pub(crate) fn convert_specials<S: Flagged, T: Flagged, const N: usize>(
-    overflow: Overflow,
-    round: Round,
+    task: Task,
     width: usize,
     counts: Counts,
-    input: &[u8],
     output: &mut [u8],
 ) -> Counts
-    requires read { S.PRECISION < S.BITS }
-    requires written { T.PRECISION < T.BITS }
-    requires single { IsSingleFormat (format_of S.Flagged) (layout_of S.Flagged) }
-    requires target { T.BITS ≤ 8 * width }
     requires groups { N % 16 ≡ 0 }
-    requires input { length input.now ≡ N * 4 }
-    requires output { length output.old ≡ N * width }
-    requires numbers { let c = constants_of S.Flagged in let d = constants_of T.Flagged in
-        IsRow (IsConvertedBy overflow c d round) (number_from 0 input.now) width N output.old
-        counts }
-    ensures { let c = constants_of S.Flagged in let d = constants_of T.Flagged in
-        IsBlock (IsConvertedBy overflow c d round) 4 width N input.now output.new result }
+    requires given { AreSingles (constants_of S.Flagged) (constants_of T.Flagged) width N
+        task.input.now output.old }
+    requires numbers { AreNumbersOf (constants_of S.Flagged) (constants_of T.Flagged) task 0 width N
+        output.old counts }
+    ensures { AreConverted (constants_of S.Flagged) (constants_of T.Flagged) task.entry width N
+        output.new result }
 {
     let mut counts = counts;
     for group in 0..N / GROUP {
         let first = group * GROUP;
-        if !are_numbers(&input[first * 4..(first + GROUP) * 4]) {
-            counts = convert_group::<S, T, N>(overflow, round, width, first, counts, input, output);
+        if !are_numbers(&task.input[first * 4..(first + GROUP) * 4]) {
+            counts = convert_group::<S, T, N>(task, width, first, counts, output);
         }
     }
     counts

@@ -1,73 +1,92 @@
 //! Tables of the results for all values of a format of few bits, filled by the conversion itself, for arrays of at
 //! least as many values: looking a result up is meant to cost less than converting its value.
 
-ghost use Rattle.std.specs.Prelude.{◌≡◌, ◌*◌, ◌<◌, ◌≤◌, length, slice_get, Some};
-ghost use Rattle.rustc_apfloat.specs.FlaggedTypes.{constants_of};
+ghost use Rattle.std.specs.Prelude.{◌≡◌, ℕ, ◌+◌, ◌*◌, ◌^◌, ◌<◌, ◌≤◌, length, slice_get};
+ghost use Rattle.std.specs.Prelude.{Some};
 ghost use Rattle.apfloat_arrays.specs.Blocks.{value_at};
-ghost use Rattle.apfloat_arrays.specs.Tables.{AreConversions, IsTable};
+ghost use Rattle.apfloat_arrays.specs.Bytes.{number_of};
+ghost use Rattle.apfloat_arrays.specs.Tables.{IsResultTable, IsTable, outcome_tally};
+ghost use Rattle.apfloat_arrays.specs.Tallies.{packed_of};
+ghost use Rattle.apfloat_arrays.specs.declared.counts.Outcome.{Outcome as Result};
 
 use crate::bytes::write_number;
+use crate::converted::Converted;
 use crate::counts::Outcome;
 use crate::entries::{ENTRY, write_entry};
-use crate::far_numbers::far_answers_for;
-use crate::one_value::convert_bits;
 use crate::tallies::mark_of;
-use rustc_apfloat::ieee::Flagged;
-use rustc_apfloat::{Flags, Round};
-use small_formats::saturation::Overflow;
+use rustc_apfloat::Flags;
 
-/// Fills a table with the results for the values whose bits are its `count` places, each in `width` bytes.
-pub fn fill_table<S: Flagged, T: Flagged>(
-    overflow: Overflow,
-    round: Round,
+/// The results for values that are given by their places.
+pub(crate) trait Results: Copy {
+    // How many bits a result has at the most.
+    ghost bits: { ℕ };
+
+    // Whether there is a value in a place.
+    ghost has: { Self → ℕ → Type 0 };
+
+    // Whether the value in a place becomes these bits, with that outcome.
+    ghost gives: { Self → ℕ → ℕ → Result → Type 0 };
+
+    /// How many bits a result has at the most.
+    fn bits() -> usize
+        ensures { result ≡ bits };
+
+    /// The result for the value in a place.
+    fn result_in(self, place: usize) -> Converted
+        requires { has self place }
+        ensures { gives self place result.bits result.outcome };
+
+    // Each result has so few bits.
+    ghost fits: { (it : Self) (place code : ℕ) (outcome : Result) → gives it place code outcome
+        → code < 2 ^ bits };
+}
+
+/// Fills a table with the results for the first `count` places, each in `width` bytes, and one of their outcomes.
+pub(crate) fn fill_table<R: Results>(
+    results: R,
     width: usize,
     count: usize,
     values: &mut [u8],
     outcomes: &mut [Outcome],
 )
-    requires read { S.PRECISION < S.BITS }
-    requires written { T.PRECISION < T.BITS }
-    requires target { T.BITS ≤ 8 * width }
+    requires has { (place : ℕ) → place < count → R.has results place }
+    requires width { R.bits ≤ 8 * width }
     requires values { length values.old ≡ count * width }
     requires outcomes { length outcomes.old ≡ count }
-    ensures { IsTable overflow (constants_of S.Flagged) (constants_of T.Flagged) round width count
-        values.new outcomes.new }
+    ensures { IsTable (R.gives results) width count values.new outcomes.new }
 {
-    let far = far_answers_for::<S, T>(overflow, round, count);
-    for bits in 0..count {
-        let from = bits * width;
+    for index in 0..count {
+        let from = index * width;
         let target = &mut values[from..from + width];
-        let answer = convert_bits::<S, T>(&far, overflow, round, bits as u128);
+        let answer = results.result_in(index);
         write_number(answer.bits, target);
-        outcomes[bits] = answer.outcome;
+        outcomes[index] = answer.outcome;
     }
 }
 
-/// Fills a table of entries with the results for the values whose bits are its `count` places.
-pub fn fill_entries<S: Flagged, T: Flagged>(
-    overflow: Overflow,
-    round: Round,
-    count: usize,
-    table: &mut [u8],
-)
-    requires read { S.PRECISION < S.BITS }
-    requires written { T.PRECISION < T.BITS }
-    requires few { T.BITS ≤ 32 }
-    requires table { length table.old ≡ count * 8 }
-    ensures { AreConversions overflow (constants_of S.Flagged) (constants_of T.Flagged) round count
-        table.new }
+/// Writes a result with its tally.
+#[inline(always)]
+pub(crate) fn write_result(answer: Converted, entry: &mut [u8])
+    requires fits { answer.bits < 2 ^ 32 }
+    requires size { length entry.old ≡ 8 }
+    ensures { number_of entry.new
+        ≡ answer.bits + 2 ^ 32 * packed_of (outcome_tally answer.outcome) }
 {
-    let far = far_answers_for::<S, T>(overflow, round, count);
+    let Outcome { status, is_nan } = answer.outcome;
+    let mark = mark_of(u32::from(status.bits()), is_nan);
+    write_entry(answer.bits, mark, entry)
+}
+
+/// Fills a table of entries with the results for the first `count` places.
+pub(crate) fn fill_entries<R: Results>(results: R, count: usize, table: &mut [u8])
+    requires has { (place : ℕ) → place < count → R.has results place }
+    requires few { R.bits ≤ 32 }
+    requires table { length table.old ≡ count * 8 }
+    ensures { IsResultTable (R.gives results) count table.new }
+{
     for place in 0..count {
         let from = place * ENTRY;
-        let entry = &mut table[from..from + ENTRY];
-        let answer = convert_bits::<S, T>(&far, overflow, round, place as u128);
-        let Outcome { status, is_nan } = answer.outcome;
-        write_entry(
-            answer.bits,
-            mark_of(u32::from(status.bits()), is_nan),
-            entry,
-        );
+        write_result(results.result_in(place), &mut table[from..from + ENTRY]);
     }
 }
 

@@ -1,5 +1,5 @@
 -- The conversion of a value into a storage format by a mode of conversions is unique.
-use Rattle.std.proofs.Common.{◌≡◌, ℕ, ◌^◌, ◌<◌, Bool, List, sym, refl, ap, ◌∙◌, subst}
+use Rattle.std.proofs.Common.{◌≡◌, ℕ, ◌^◌, ◌<◌, Bool, sym, refl, ap, ◌∙◌, subst}
 use Rattle.std.proofs.Math.Path.{subst₂}
 use Rattle.std.specs.Coded.{le_prop}
 use Rattle.rustc_apfloat.specs.Classes.{is_nan}

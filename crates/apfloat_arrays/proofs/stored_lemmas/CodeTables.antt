@@ -1,11 +1,7 @@
--- Codes that were looked up in a table.
+-- Codes that a table copies.
 use Rattle.std.proofs.Common.{◌≡◌, ℕ, ◌+◌, ◌-◌, ◌*◌, ◌%◌, ◌^◌, ◌<◌, ◌≤◌, List, []}
-use Rattle.std.proofs.Common.{◌∷◌, ◌++◌, length, Some, sym, ap}
-use Rattle.std.proofs.Common.{◌∙◌, subst, arith}
-use Rattle.std.specs.Prelude.{slice_get}
-use Rattle.std.proofs.Math.Path.{ap₂}
+use Rattle.std.proofs.Common.{◌∷◌, ◌++◌, length, sym, ap, ◌∙◌, subst, arith}
 use Rattle.std.proofs.lemmas.Nat.{pow_pos}
-use Rattle.std.proofs.lemmas.Option.{IfSome_then}
 use borrow.Rule.Slice.PartMut.{put_mid}
 use Rattle.rustc_apfloat.specs.declared.Round.{Round}
 use Rattle.rustc_apfloat.specs.Datum.{Datum}
@@ -15,74 +11,22 @@ use Rattle.small_formats.specs.Codes.{datum_of}
 use Rattle.small_formats.specs.Unsigned.{unsigned_datum}
 use Rattle.small_formats.specs.declared.saturation.Overflow.{Overflow}
 use Rattle.small_formats.specs.saturation.Saturation.{IsConversionBy}
-use Rattle.apfloat_arrays.specs.declared.counts.Counts.{Counts}
 use Rattle.apfloat_arrays.specs.declared.counts.Outcome.{Outcome}
 use Rattle.apfloat_arrays.specs.declared.stored.formats.StoredFormat.{StoredFormat}
 use Rattle.apfloat_arrays.specs.declared.stored.formats.StoredFormat.TheVariants.{E2M1FN, E2M3FN, E3M2FN, E3M4}
 use Rattle.apfloat_arrays.specs.declared.stored.formats.StoredFormat.TheVariants.{E8M0FNU, UE4M3}
-use Rattle.apfloat_arrays.specs.declared.tallies.Tally.{Tally}
-use Rattle.apfloat_arrays.specs.Blocks.{IsBlock, value_at}
+use Rattle.apfloat_arrays.specs.Blocks.{value_at}
 use Rattle.apfloat_arrays.specs.Bytes.{number_of}
-use Rattle.apfloat_arrays.specs.Entries.{AreEntries, AreLookedUp, HasEntry, IsEntry}
+use Rattle.apfloat_arrays.specs.Entries.{HasEntry, IsEntry}
 use Rattle.apfloat_arrays.specs.Tables.{outcome_tally}
-use Rattle.apfloat_arrays.specs.Tallies.{counts_with}
-use Rattle.apfloat_arrays.specs.stored.Arrays.{IsLoaded, IsLoadedIn}
-use Rattle.apfloat_arrays.specs.stored.CodeTables.{AreCodeEntries, IsCodeTable, IsLoadedCode}
+use Rattle.apfloat_arrays.specs.stored.Arrays.{IsLoaded}
+use Rattle.apfloat_arrays.specs.stored.CodeTables.{AreCodeEntries}
 use Rattle.apfloat_arrays.specs.stored.Formats.{bits_in, datum_in, e2m1fn_constants, e2m3fn_constants}
 use Rattle.apfloat_arrays.specs.stored.Formats.{e3m2fn_constants, format_in}
-use Rattle.apfloat_arrays.proofs.LittleEndian.{fits}
 use Rattle.apfloat_arrays.proofs.Places.{places_more}
-use Rattle.apfloat_arrays.proofs.TabledResults.{found_in}
-use Rattle.apfloat_arrays.proofs.TalliedResults.{are_entries, found, looked_up as outcomes_looked_up}
+use Rattle.apfloat_arrays.proofs.TalliedResults.{found}
 
--- a result whose bits are written
-pub written_code : (overflow : Overflow) (format : StoredFormat) (d : Constants) (mode : Round) (code bits : ℕ)
-    (bytes : List ℕ) (outcome : Outcome) → IsLoaded overflow format d mode code bits outcome
-    → number_of bytes ≡ bits → IsLoadedCode overflow format d mode code bytes outcome
-written_code overflow format d mode code bits bytes outcome it written =
-    subst (λ (n : ℕ). IsLoaded overflow format d mode code n outcome) (sym written) it
-
--- what a look-up copies
-pub code_looked_up : (overflow : Overflow) (format : StoredFormat) (d : Constants) (mode : Round)
-    (width count place at size : ℕ) (values new : List ℕ) (outcomes : List Outcome) (outcome : Outcome)
-    → IsCodeTable overflow format d mode width count values outcomes → slice_get outcomes place ≡ Some outcome
-    → new ≡ value_at size place values → size ≡ width → place ≡ at
-    → IsLoadedCode overflow format d mode at new outcome
-code_looked_up overflow format d mode width count place at size values new outcomes outcome table found copied wide is =
-    let here : IsLoadedCode overflow format d mode place (value_at width place values) outcome =
-    found_in (IsLoadedCode overflow format d mode) width count place values outcomes outcome table found in
-    let same : value_at width place values ≡ new =
-    ap (λ (n : ℕ). value_at n place values) (sym wide) ∙ sym copied in
-    subst (λ (n : ℕ). IsLoadedCode overflow format d mode n new outcome) is
-    (subst (λ (bytes : List ℕ). IsLoadedCode overflow format d mode place bytes outcome) same here)
-
--- the results fit in the bytes of a value of the target
-pub code_entries_of : (overflow : Overflow) (format : StoredFormat) (d : Constants) (mode : Round) (width size : ℕ)
-    (table : List ℕ) → length table ≡ size * 8 → d.bits ≤ 8 * width
-    → AreCodeEntries overflow format d mode size table → AreEntries width size table
-code_entries_of overflow format d mode width size table room wide is =
-    are_entries (IsLoaded overflow format d mode) outcome_tally width size table room
-    (λ place result outcome made. fits result d.bits width made.is_encoded.below wide) is
-
--- the codes whose results were looked up are converted
-pub codes_looked_up : (overflow : Overflow) (format : StoredFormat) (d : Constants) (mode : Round)
-    (width size count : ℕ) (input output table : List ℕ) (tally : Tally) (counts : Counts)
-    → AreCodeEntries overflow format d mode size table
-    → AreLookedUp (λ k. number_of (value_at 1 k input)) size width count table output tally
-    → counts ≡ counts_with count tally
-    → IsBlock (IsLoadedIn overflow format d mode) 1 width count input output counts
-codes_looked_up overflow format d mode width size count input output table tally counts is it counts_are =
-    let found = outcomes_looked_up (IsLoaded overflow format d mode) outcome_tally
-    (λ k. number_of (value_at 1 k input)) size width count table output tally is it in
-    record {
-      outcomes = found.outcomes;
-      size = found.places.size;
-      each = λ index. IfSome_then (slice_get found.outcomes index) (found.places.each index) (λ outcome made. made);
-      counted = counts_are ∙ ap₂ counts_with (sym found.places.size) found.total_is;
-    }
-
--- ---- bytes that mean what an earlier one does
-
+-- bytes that mean what an earlier one does
 like_byte : (format : StoredFormat) (place : ℕ) → 2 ^ bits_in format ≤ place → place < 256
     → datum_in format (place - 2 ^ bits_in format) ≡ datum_in format place
 like_byte E2M1FN place past within =

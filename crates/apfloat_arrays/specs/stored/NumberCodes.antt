@@ -1,6 +1,6 @@
 -- Numbers that become codes of a storage format without infinities and NaNs, from bits to bits.
-use Rattle.std.specs.Prelude.{◌≡◌, ℕ, ◌+◌, ◌-◌, ◌*◌, ◌/◌, ◌%◌, ◌^◌, ◌<◌, ◌≤◌}
-use Rattle.std.specs.Prelude.{min, negsuc, ◌≤ℤ◌, Bool, false, not}
+use Rattle.std.specs.Prelude.{◌≡◌, ℕ, ◌+◌, ◌-◌, ◌*◌, ◌/◌, ◌%◌, ◌^◌, ◌≤◌}
+use Rattle.std.specs.Prelude.{min, negsuc, ◌≤ℤ◌, Bool, false}
 use Rattle.std.specs.Prelude.{eqb, if◌then◌else◌}
 use Rattle.apfloat_model.specs.declared.kinds.NonfiniteBehavior.TheVariants.{IEEE754}
 use Rattle.rustc_apfloat.specs.declared.Round.{Round}

@@ -1,21 +1,22 @@
 //! Conversion of arrays, in bytes that the caller lends.
 
 ghost use Rattle.std.specs.Prelude.{◌≡◌, ◌*◌, ◌<◌, ◌≤◌, length};
-ghost use Rattle.rustc_apfloat.specs.FlaggedTypes.{constants_of as flagged_constants_of};
 ghost use Rattle.rustc_apfloat.specs.Types.{constants_of};
 ghost use Rattle.formats_at_run_time.specs.FormatKinds.{IfFormat};
 ghost use Rattle.apfloat_arrays.specs.Blocks.{IsBlock};
 ghost use Rattle.apfloat_arrays.specs.Bytes.{number_of};
 ghost use Rattle.apfloat_arrays.specs.stored.Arrays.{IsConverted, IsLoadedIn, IsStoredIn, widths_of};
 
-use crate::stored::code_tables::{has_code_table, load_codes};
+use crate::each::{ValueConversion, convert_each};
+use crate::stored::code_tables::{Codes, has_code_table, load_codes};
 use crate::stored::formats::StoredFormat;
 use crate::stored::number_arrays::store_numbers;
 use crate::{Counts, Extended, Outcome, Widths, number_of, width, write_number};
 use formats_at_run_time::{BuiltInFormat, FlaggedFormat, ReadsInFormat, WritesInFormat};
 use rustc_apfloat::ieee::{Flagged, IeeeFloat, Semantics};
-use rustc_apfloat::{Float, Round, StatusAnd};
+use rustc_apfloat::{Float, Round};
 use small_formats::saturation::Overflow;
+use std::marker::PhantomData;
 
 /// The source and the target format, of which one is a storage format. The rule of flags is that of the target.
 #[derive(Clone, Copy)]
@@ -101,13 +102,19 @@ impl StorageArray {
 
 /// The call that converts an array into a storage format, made at the type of the source format.
 #[derive(Clone, Copy)]
-struct StoreCall<'a> {
-    target: StoredFormat,
-    round: Round,
-    overflow: Overflow,
-    width: usize,
-    count: usize,
-    input: &'a [u8],
+pub(crate) struct StoreCall<'a> {
+    /// The storage format.
+    pub target: StoredFormat,
+    /// The rounding mode.
+    pub round: Round,
+    /// What a number that overflows becomes.
+    pub overflow: Overflow,
+    /// The width of a value.
+    pub width: usize,
+    /// The number of values.
+    pub count: usize,
+    /// Their bytes.
+    pub input: &'a [u8],
 }
 
 /// The call that converts an array out of a storage format, made at the type of the target format.
@@ -133,27 +140,20 @@ impl ReadsInFormat for StoreCall<'_> {
         it.input.now new counts) };
 
     fn read_in_format<S: Semantics>(self, bytes: &mut [u8]) -> Counts {
-        let StoreCall {
-            target,
-            round,
-            overflow,
-            width,
-            count,
-            input,
-        } = self;
-        if let Some(counts) = store_numbers::<S>(
-            target, round, overflow, width, count, input, bytes,
-        ) {
+        if let Some(counts) = store_numbers::<S>(self, bytes) {
             return counts;
         }
-        let mut counts = Counts::NONE;
-        for index in 0..count {
-            let (from, to) = (index * width, index * 1);
-            let value = &input[from..from + width];
-            let place = &mut bytes[to..to + 1];
-            counts.count(store_value::<S>(target, round, overflow, value, place));
-        }
-        counts
+        let stored = Stored::<S> {
+            target: self.target,
+            round: self.round,
+            overflow: self.overflow,
+            source: PhantomData,
+        };
+        let widths = Widths {
+            source: self.width,
+            target: 1,
+        };
+        convert_each(stored, widths, self.count, self.input, bytes)
     }
 }
 
@@ -177,17 +177,40 @@ impl WritesInFormat for LoadCall<'_> {
             count,
             input,
         } = self;
+        let codes = Codes::<T> {
+            source,
+            overflow,
+            round,
+            target: PhantomData,
+        };
         if has_code_table(source, width, count) {
-            return load_codes::<T>(source, overflow, round, width, count, input, bytes);
+            return load_codes(codes, width, count, input, bytes);
         }
-        let mut counts = Counts::NONE;
-        for index in 0..count {
-            let (from, to) = (index * 1, index * width);
-            let value = &input[from..from + 1];
-            let place = &mut bytes[to..to + width];
-            counts.count(load_value::<T>(source, round, overflow, value, place));
-        }
-        counts
+        let widths = Widths {
+            source: 1,
+            target: width,
+        };
+        convert_each(codes, widths, count, input, bytes)
+    }
+}
+
+/// The conversion of values of `S` into a storage format.
+#[derive_where(Clone, Copy)]
+struct Stored<S: Semantics> {
+    target: StoredFormat,
+    round: Round,
+    overflow: Overflow,
+    source: PhantomData<S>,
+}
+
+impl<S: Semantics> ValueConversion for Stored<S> {
+    ghost can = { λ it source target. (S.PRECISION < S.BITS) × (source ≤ 16) × (target ≡ 1) };
+
+    ghost gives = { λ it. IsStoredIn it.overflow (constants_of S.Semantics) it.target it.round };
+
+    #[inline(always)]
+    fn convert(self, input: &[u8], output: &mut [u8]) -> Outcome {
+        store_value::<S>(self.target, self.round, self.overflow, input, output)
     }
 }
 
@@ -212,40 +235,4 @@ pub(crate) fn store_value<S: Semantics>(
         status: answer.status,
         is_nan: target.is_nan(answer.value),
     }
-}
-
-/// Converts a value out of a storage format.
-fn load_value<T: Flagged>(
-    source: StoredFormat,
-    round: Round,
-    overflow: Overflow,
-    input: &[u8],
-    output: &mut [u8],
-) -> Outcome
-    requires written { T.PRECISION < T.BITS }
-    requires input { length input.now ≡ 1 }
-    requires output { T.BITS ≤ 8 * length output.old }
-    ensures { IsLoadedIn overflow source (flagged_constants_of T.Flagged) round input.now output.new
-        result }
-{
-    let mut loses_info = false;
-    let answer: StatusAnd<IeeeFloat<T>> = source.load(
-        byte_of(input),
-        overflow,
-        round,
-        &mut loses_info,
-    );
-    write_number(answer.value.to_bits(), output);
-    Outcome {
-        status: answer.status,
-        is_nan: answer.value.is_nan(),
-    }
-}
-
-/// The only byte.
-fn byte_of(bytes: &[u8]) -> u8
-    requires { length bytes.now ≡ 1 }
-    ensures { result ≡ number_of bytes.now }
-{
-    bytes[0]
 }

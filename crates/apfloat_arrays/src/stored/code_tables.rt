@@ -8,23 +8,23 @@ ghost use Rattle.rustc_apfloat.specs.declared.Round.{Round as Mode};
 ghost use Rattle.small_formats.specs.declared.saturation.Overflow.{Overflow as OverflowRule};
 ghost use Rattle.apfloat_arrays.specs.declared.stored.formats.StoredFormat.{StoredFormat as Stored};
 ghost use Rattle.apfloat_arrays.specs.Blocks.{IsBlock};
+ghost use Rattle.apfloat_arrays.specs.Tables.{IsResultTable};
 ghost use Rattle.apfloat_arrays.specs.stored.Arrays.{IsLoaded, IsLoadedIn};
-ghost use Rattle.apfloat_arrays.specs.stored.CodeTables.{AreCodeEntries, IsCodeTable};
+ghost use Rattle.apfloat_arrays.specs.stored.CodeTables.{AreCodeEntries};
 ghost use Rattle.apfloat_arrays.specs.stored.Formats.{bits_in};
 
+use crate::byte_tables::{ByteResults, PLACES, convert_by_table};
 use crate::bytes::write_number;
 use crate::converted::Converted;
 use crate::counts::{Counts, Outcome};
-use crate::entries::{ENTRY, OneByte, TablePlaces, look_up, write_entry};
+use crate::each::ValueConversion;
+use crate::entries::{ENTRY, byte_of};
 use crate::stored::formats::StoredFormat;
-use crate::tables::look_up as look_up_value;
-use crate::tallies::mark_of;
+use crate::tables::{Results, write_result};
 use rustc_apfloat::ieee::{Flagged, IeeeFloat};
-use rustc_apfloat::{Flags, Float, Round, StatusAnd};
+use rustc_apfloat::{Float, Round, StatusAnd};
 use small_formats::saturation::Overflow;
-
-/// The number of places in a table of all bytes.
-const PLACES: usize = 256;
+use std::marker::PhantomData;
 
 /// How many values it takes less time to convert one by one than to copy what codes become to all their bytes.
 const FEWEST: usize = 32;
@@ -50,12 +50,66 @@ fn codes_of(format: StoredFormat) -> usize
     }
 }
 
+/// The conversion of codes to `T`.
+#[derive_where(Clone, Copy)]
+pub(crate) struct Codes<T: Flagged> {
+    /// Their format.
+    pub source: StoredFormat,
+    /// What a number that overflows becomes.
+    pub overflow: Overflow,
+    /// The rounding mode.
+    pub round: Round,
+    /// The target format.
+    pub target: PhantomData<T>,
+}
+
+impl<T: Flagged> ValueConversion for Codes<T> {
+    ghost can = { λ it source target. (T.PRECISION < T.BITS) × (source ≡ 1)
+        × (T.BITS ≤ 8 * target) };
+
+    ghost gives = { λ it. IsLoadedIn it.overflow it.source (constants_of T.Flagged) it.round };
+
+    #[inline(always)]
+    fn convert(self, input: &[u8], output: &mut [u8]) -> Outcome {
+        let code = byte_of(input) as u8;
+        let answer = load_code::<T>(self.source, self.overflow, self.round, code);
+        write_number(answer.bits, output);
+        answer.outcome
+    }
+}
+
+impl<T: Flagged> Results for Codes<T> {
+    ghost bits = { T.BITS };
+
+    ghost has = { λ it place. (T.PRECISION < T.BITS) × (place < 256) };
+
+    ghost gives = { λ it. IsLoaded it.overflow it.source (constants_of T.Flagged) it.round };
+
+    #[inline(always)]
+    fn bits() -> usize {
+        T::BITS
+    }
+
+    #[inline(always)]
+    fn result_in(self, place: usize) -> Converted {
+        load_code::<T>(self.source, self.overflow, self.round, place as u8)
+    }
+
+    ghost fits = { λ it place code outcome made. made.is_encoded.below };
+}
+
+impl<T: Flagged> ByteResults for Codes<T> {
+    fn fill_bytes(self, table: &mut [u8]) {
+        let codes = codes_of(self.source);
+        fill_codes(self, codes, table);
+        copy_codes(codes, table);
+    }
+}
+
 /// Converts `count` codes, each in its place.
 #[inline(never)]
 pub(crate) fn load_codes<T: Flagged>(
-    source: StoredFormat,
-    overflow: Overflow,
-    round: Round,
+    codes: Codes<T>,
     width: usize,
     count: usize,
     input: &[u8],
@@ -66,125 +120,10 @@ pub(crate) fn load_codes<T: Flagged>(
     requires few { width ≤ 16 }
     requires input { length input.now ≡ count * 1 }
     requires output { length output.old ≡ count * width }
-    ensures { IsBlock (IsLoadedIn overflow source (constants_of T.Flagged) round) 1 width count
-        input.now output.new result }
+    ensures { IsBlock (IsLoadedIn codes.overflow codes.source (constants_of T.Flagged) codes.round)
+        1 width count input.now output.new result }
 {
-    if T::BITS <= 32 {
-        load_by_entries::<T>(source, overflow, round, width, count, input, output)
-    } else {
-        load_wide::<T>(source, overflow, round, width, count, input, output)
-    }
-}
-
-/// `load_codes` by a table of entries: a result of at most 32 bits fits in one, with its outcome.
-#[inline(always)]
-fn load_by_entries<T: Flagged>(
-    source: StoredFormat,
-    overflow: Overflow,
-    round: Round,
-    width: usize,
-    count: usize,
-    input: &[u8],
-    output: &mut [u8],
-) -> Counts
-    requires written { T.PRECISION < T.BITS }
-    requires few { T.BITS ≤ 32 }
-    requires target { T.BITS ≤ 8 * width }
-    requires input { length input.now ≡ count * 1 }
-    requires output { length output.old ≡ count * width }
-    ensures { IsBlock (IsLoadedIn overflow source (constants_of T.Flagged) round) 1 width count
-        input.now output.new result }
-{
-    let mut table = [0_u8; ENTRY * PLACES];
-    fill_entries::<T>(source, overflow, round, &mut table);
-    let bytes = OneByte { bytes: input };
-    look_up(bytes, width, count, &table, output).counts(count as u64)
-}
-
-/// `load_codes` by a table of results of any number of bits, and a table of their outcomes.
-#[inline(always)]
-fn load_wide<T: Flagged>(
-    source: StoredFormat,
-    overflow: Overflow,
-    round: Round,
-    width: usize,
-    count: usize,
-    input: &[u8],
-    output: &mut [u8],
-) -> Counts
-    requires written { T.PRECISION < T.BITS }
-    requires target { T.BITS ≤ 8 * width }
-    requires few { width ≤ 16 }
-    requires input { length input.now ≡ count * 1 }
-    requires output { length output.old ≡ count * width }
-    ensures { IsBlock (IsLoadedIn overflow source (constants_of T.Flagged) round) 1 width count
-        input.now output.new result }
-{
-    let mut values = [0_u8; 16 * PLACES];
-    let mut outcomes = [Outcome::EXACT; PLACES];
-    let front = &mut values[..PLACES * width];
-    load_wide_with::<T>(
-        source,
-        overflow,
-        round,
-        width,
-        front,
-        &mut outcomes,
-        count,
-        input,
-        output,
-    )
-}
-
-/// `load_wide` in memory lent for its tables.
-#[inline(always)]
-fn load_wide_with<T: Flagged>(
-    source: StoredFormat,
-    overflow: Overflow,
-    round: Round,
-    width: usize,
-    values: &mut [u8],
-    outcomes: &mut [Outcome],
-    count: usize,
-    input: &[u8],
-    output: &mut [u8],
-) -> Counts
-    requires written { T.PRECISION < T.BITS }
-    requires target { T.BITS ≤ 8 * width }
-    requires values { length values.old ≡ 256 * width }
-    requires outcomes { length outcomes.old ≡ 256 }
-    requires input { length input.now ≡ count * 1 }
-    requires output { length output.old ≡ count * width }
-    ensures { IsBlock (IsLoadedIn overflow source (constants_of T.Flagged) round) 1 width count
-        input.now output.new result }
-{
-    fill_table::<T>(source, overflow, round, width, values, outcomes);
-    let places = OneByte { bytes: input };
-    let mut counts = Counts::NONE;
-    for index in 0..count {
-        let to = index * width;
-        let place = places.place(index);
-        let target = &mut output[to..to + width];
-        counts.count(look_up_value(values, outcomes, place, target));
-    }
-    counts
-}
-
-/// Fills a table of entries with what each byte becomes.
-fn fill_entries<T: Flagged>(
-    source: StoredFormat,
-    overflow: Overflow,
-    round: Round,
-    table: &mut [u8],
-)
-    requires written { T.PRECISION < T.BITS }
-    requires few { T.BITS ≤ 32 }
-    requires table { length table.old ≡ 256 * 8 }
-    ensures { AreCodeEntries overflow source (constants_of T.Flagged) round 256 table.new }
-{
-    let codes = codes_of(source);
-    fill_codes::<T>(source, overflow, round, codes, table);
-    copy_codes(codes, table);
+    convert_by_table(codes, width, count, input, output)
 }
 
 /// Fills the other places: the bits of a byte above those of a code are ignored.
@@ -205,54 +144,17 @@ fn copy_codes(codes: usize, table: &mut [u8])
 }
 
 /// Fills the places below `codes`.
-fn fill_codes<T: Flagged>(
-    source: StoredFormat,
-    overflow: Overflow,
-    round: Round,
-    codes: usize,
-    table: &mut [u8],
-)
+fn fill_codes<T: Flagged>(results: Codes<T>, codes: usize, table: &mut [u8])
     requires written { T.PRECISION < T.BITS }
     requires few { T.BITS ≤ 32 }
     requires codes { codes ≤ 256 }
     requires table { length table.old ≡ 256 * 8 }
-    ensures { AreCodeEntries overflow source (constants_of T.Flagged) round codes table.new }
+    ensures { AreCodeEntries results.overflow results.source (constants_of T.Flagged) results.round
+        codes table.new }
 {
     for place in 0..codes {
         let from = place * ENTRY;
-        let entry = &mut table[from..from + ENTRY];
-        let answer = load_code::<T>(source, overflow, round, place as u8);
-        let Outcome { status, is_nan } = answer.outcome;
-        write_entry(
-            answer.bits,
-            mark_of(u32::from(status.bits()), is_nan),
-            entry,
-        );
-    }
-}
-
-/// Fills a table with what each byte becomes, in `width` bytes, and one of the outcomes.
-fn fill_table<T: Flagged>(
-    source: StoredFormat,
-    overflow: Overflow,
-    round: Round,
-    width: usize,
-    values: &mut [u8],
-    outcomes: &mut [Outcome],
-)
-    requires written { T.PRECISION < T.BITS }
-    requires target { T.BITS ≤ 8 * width }
-    requires values { length values.old ≡ 256 * width }
-    requires outcomes { length outcomes.old ≡ 256 }
-    ensures { IsCodeTable overflow source (constants_of T.Flagged) round width 256 values.new
-        outcomes.new }
-{
-    for place in 0..PLACES {
-        let from = place * width;
-        let target = &mut values[from..from + width];
-        let answer = load_code::<T>(source, overflow, round, place as u8);
-        write_number(answer.bits, target);
-        outcomes[place] = answer.outcome;
+        write_result(results.result_in(place), &mut table[from..from + ENTRY]);
     }
 }
 

@@ -8,11 +8,12 @@ ghost use Rattle.apfloat_arrays.specs.stored.Arrays.{IsLoaded, IsStoredAs};
 ghost use Rattle.apfloat_arrays.specs.stored.Numbers.{IsConvertedNumber};
 
 use crate::stored::array::{Ends, StorageArray};
+use crate::stored::code_tables::load_code;
 use crate::stored::formats::StoredFormat;
 use crate::{Converted, Outcome};
 use formats_at_run_time::{InFlaggedFormat, InFormat};
 use rustc_apfloat::ieee::{Flagged, IeeeFloat, Semantics};
-use rustc_apfloat::{Float, Round, StatusAnd};
+use rustc_apfloat::{Float, Round};
 use small_formats::saturation::Overflow;
 
 impl StorageArray {
@@ -89,16 +90,6 @@ impl InFlaggedFormat for LoadByte {
         (λ d. IsLoaded it.overflow it.source d it.round it.byte made.bits made.outcome) };
 
     fn in_flagged_format<T: Flagged>(self) -> Converted {
-        let mut loses_info = false;
-        let answer: StatusAnd<IeeeFloat<T>> = self
-            .source
-            .load(self.byte, self.overflow, self.round, &mut loses_info);
-        Converted {
-            bits: answer.value.to_bits(),
-            outcome: Outcome {
-                status: answer.status,
-                is_nan: answer.value.is_nan(),
-            },
-        }
+        load_code::<T>(self.source, self.overflow, self.round, self.byte)
     }
 }

@@ -11,7 +11,7 @@ ghost use Rattle.small_formats.specs.Conversions.{IsInto};
 ghost use Rattle.small_formats.specs.Types.{constants_of};
 ghost use Rattle.small_formats.specs.saturation.Saturation.{class_of};
 ghost use Rattle.apfloat_arrays.specs.stored.Formats.{bits_in};
-ghost use Rattle.apfloat_arrays.specs.stored.Stored.{IsFiniteCode, IsOwn, IsStored, IsStoredBy, saturated_code};
+ghost use Rattle.apfloat_arrays.specs.stored.Stored.{IsOwn, IsStored, IsStoredBy, saturated_code};
 
 use crate::stored::formats::StoredFormat;
 use rustc_apfloat::ieee::{IeeeFloat, Semantics};
@@ -99,37 +99,20 @@ impl StoredFormat {
         match overflow {
             Overflow::Rounded => own,
             Overflow::Saturated => self.saturated(negative, own),
-            Overflow::Finite(nans) => self.made_finite(nans, class, negative, own),
-        }
-    }
-
-    /// `treated` by `Overflow::Finite`: infinities and, if `nans` says so, NaNs become the largest number too.
-    fn made_finite(
-        self,
-        nans: FiniteNan,
-        class: ValueClass,
-        negative: bool,
-        own: StatusAnd<u8>,
-    ) -> StatusAnd<u8>
-        requires { own.value < 2 ^ bits_in self }
-        ensures stored { (f : Format) (mode : Round) (x : Datum)
-            → class_of x ≡ class → is_negative x ≡ negative
-            → IsOwn self f mode x own.value (bits_of own.status)
-            → IsFiniteCode nans self f mode x result.value (bits_of result.status) }
-        ensures below { result.value < 2 ^ bits_in self }
-    {
-        match class {
-            ValueClass::Number => self.saturated(negative, own),
-            ValueClass::Infinity => {
-                if self.keeps_infinity(negative) {
-                    own
-                } else {
-                    Status::INEXACT.and(self.largest_code(negative))
+            // Infinities and, if `nans` says so, NaNs become the largest number too.
+            Overflow::Finite(nans) => match class {
+                ValueClass::Number => self.saturated(negative, own),
+                ValueClass::Infinity => {
+                    if self.keeps_infinity(negative) {
+                        own
+                    } else {
+                        Status::INEXACT.and(self.largest_code(negative))
+                    }
                 }
-            }
-            ValueClass::NotANumber => match nans {
-                FiniteNan::Kept => own,
-                FiniteNan::Largest => Status::INVALID_OP.and(self.largest_code(false)),
+                ValueClass::NotANumber => match nans {
+                    FiniteNan::Kept => own,
+                    FiniteNan::Largest => Status::INVALID_OP.and(self.largest_code(false)),
+                },
             },
         }
     }

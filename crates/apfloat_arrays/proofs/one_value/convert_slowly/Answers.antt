@@ -1,20 +1,10 @@
-use Rattle.std.proofs.Common.{ℕ, length, subst}
-use Rattle.rustc_apfloat.specs.FlaggedTypes.{constants_of}
-use Rattle.apfloat_arrays.specs.Values.{IsAnswerFrom}
-use Rattle.apfloat_arrays.proofs.ConversionsBy.{converted_from}
+use Rattle.std.proofs.Common.{length, sym}
 use Rattle.apfloat_arrays.proofs.LittleEndian.{fits}
 use Rattle.apfloat_arrays.proofs.one_value.convert_slowly.Goals as goal
 
 pub write_number-requires : goal.write_number-requires
 write_number-requires g c = fits c.convert_near-answer.result.bits _ (length c.args.output.now)
-    c.convert_near-answer.ensures.is_encoded.below c.requires.output
+    c.convert_near-answer.ensures.is_encoded.below c.requires.room
 
 pub returns : goal.returns
-returns g c =
-    converted_from c.args.overflow (constants_of g.S.Flagged) (constants_of g.T.Flagged) c.args.round c.args.input.now
-    c.write_number.new.bytes c.convert_near-answer.result
-    (subst
-    (λ (n : ℕ). IsAnswerFrom c.args.overflow (constants_of g.S.Flagged) (constants_of g.T.Flagged) c.args.round n
-    c.convert_near-answer.result)
-    c.number_of.ensures c.convert_near-answer.ensures)
-    c.write_number.ensures
+returns g c = rw (c.write_number.ensures, sym c.number_of.ensures) c.convert_near-answer.ensures

@@ -1,24 +1,26 @@
-use Rattle.std.proofs.Common.{◌≡◌, ◌*◌, length, ◌∙◌}
+use Rattle.std.proofs.Common.{◌≡◌, ℕ, ◌*◌, ◌∙◌, subst, arith}
 use Rattle.rustc_apfloat.specs.FlaggedTypes.{constants_of}
-use Rattle.apfloat_arrays.specs.Values.{IsConvertedBy}
-use Rattle.apfloat_arrays.proofs.Places.{block_none, block_more, place_size}
+use Rattle.apfloat_arrays.specs.Tables.{IsTable}
+use Rattle.apfloat_arrays.specs.Values.{IsAnswerAt}
 use Rattle.apfloat_arrays.proofs.short_sources.convert_with.Goals as goal
 
-pub loop-index-init : goal.loop-index-init
-loop-index-init g c =
-    block_none (IsConvertedBy c.args.overflow (constants_of g.S.Flagged) (constants_of g.T.Flagged) c.args.round)
-    c.args.width 1 c.args.input.now c.args.output.now
+pub fill_table-requires-clause-has : goal.fill_table-requires-clause-has
+fill_table-requires-clause-has g c =
+    λ place below. (c.requires.listed, c.requires.given.have.written, c.far_answers_for-far.ensures)
 
-pub loop-index-preserved : goal.loop-index-preserved
-loop-index-preserved g c =
-    let size : length c.loop-index.output ≡ c.args.count * 1 =
-    c.loop-index.auto.output ∙ c.requires.output in
-    let width : length c.convert_shortened_value.new.target ≡ 1 =
-    c.convert_shortened_value.auto.target
-    ∙ place_size 1 c.loop-index.index c.args.count c.loop-index.output c.loop-index-test.true size in
-    rw c.count.ensures
-    (block_more (IsConvertedBy c.args.overflow (constants_of g.S.Flagged) (constants_of g.T.Flagged) c.args.round)
-    c.args.width 1
-    c.loop-index.index c.args.count c.args.input.now c.loop-index.output c.convert_shortened_value.new.target
-    c.loop-index.counts c.convert_shortened_value.result c.loop-index-test.true size width
-    c.convert_shortened_value.ensures c.loop-index.invariant)
+pub convert_each-requires-clause-can : goal.convert_each-requires-clause-can
+convert_each-requires-clause-can g c =
+    let one : c.args.places * 1 ≡ c.args.places = omega arith in
+    record {
+      widths = c.requires.given.have;
+      listed = c.requires.listed;
+      short = c.requires.short;
+      size = c.fill_table.auto.values ∙ c.requires.values ∙ one ∙ c.requires.places;
+      all = c.fill_table.auto.outcomes ∙ c.requires.outcomes ∙ c.requires.places;
+      table =
+          subst
+          (λ (n : ℕ).
+          IsTable (IsAnswerAt c.args.task.overflow (constants_of g.Z.Flagged) (constants_of g.T.Flagged)
+          c.args.task.round) 1 n c.fill_table.new.values c.fill_table.new.outcomes)
+          c.requires.places c.fill_table.ensures;
+    }

@@ -20,11 +20,13 @@ returns g c = λ test.
     let one : c.args.widths.target ≡ 1 = eqb-true c.args.widths.target 1 a.1 in
     let source : g.S.Flagged.BITS ≤ 32 = omega (arith, few, c.BITS.ensures) in
     let target : g.T.Flagged.BITS ≤ 8 = omega (arith, few_out, c.BITS-2.ensures) in (
-      c.is_short_for.ensures h.0,
-      c.is_coarse_for.ensures h.1,
-      source,
+      record {
+        short = c.is_short_for.ensures h.0;
+        coarse = c.is_coarse_for.ensures h.1;
+        source_bits = source;
+        target_bits = target;
+        source = c.has_width.ensures b.1;
+        target = one;
+      },
       c.pays.ensures e.1,
-      target,
-      c.has_width.ensures b.1,
-      one,
     )

@@ -1,34 +1,34 @@
-use Rattle.std.proofs.Common.{◌≡◌, ℕ, ◌-◌, ◌*◌, ◌/◌, ◌≤◌, length, ◌∙◌, ap, sym}
+use Rattle.std.proofs.Common.{◌*◌, ◌/◌, ◌∙◌, ap, sym, arith}
 use Rattle.std.proofs.Math.Nat.{div-mul-le_self}
 use Rattle.rustc_apfloat.specs.FlaggedTypes.{constants_of}
 use Rattle.apfloat_arrays.specs.Values.{IsConvertedBy}
 use Rattle.apfloat_arrays.specs.Widths.{bytes_of}
-use Rattle.apfloat_arrays.proofs.Joined.{block_rest, block_width, rest_size}
+use Rattle.apfloat_arrays.proofs.Tasks.{singles_after, singles_joined, singles_width}
 use Rattle.apfloat_arrays.proofs.single_blocks.convert_few.Goals as goal
 
-pub convert_last-requires-2-clause-output : goal.convert_last-requires-2-clause-output
-convert_last-requires-2-clause-output g c =
-    let width : c.bytes_of.result ≡ bytes_of g.T.Flagged.BITS = c.bytes_of.ensures ∙ ap bytes_of c.BITS.ensures in
-    let size : length c.convert_blocks-counts.new.output ≡ c.args.count * c.bytes_of.result =
-    c.convert_blocks-counts.auto.output ∙ c.requires.output ∙ ap (λ (n : ℕ). c.args.count * n) (sym width) in
-    rest_size c.bytes_of.result (c.args.count / 64 * 64) c.args.count c.convert_blocks-counts.new.output
-    (div-mul-le_self c.args.count 64) size ∙ ap (λ (n : ℕ). (c.args.count - c.args.count / 64 * 64) * n) width
+pub convert_blocks-counts-requires-clause-given : goal.convert_blocks-counts-requires-clause-given
+convert_blocks-counts-requires-clause-given g c =
+    singles_width (constants_of g.S.Flagged) (constants_of g.T.Flagged) _ c.bytes_of-width.result _ _ _
+    (sym (c.bytes_of-width.ensures ∙ ap bytes_of c.BITS.ensures)) c.requires.given
+
+pub convert_last-requires-2-clause-given : goal.convert_last-requires-2-clause-given
+convert_last-requires-2-clause-given g c =
+    let task = c.args.task in
+    singles_after (constants_of g.S.Flagged) (constants_of g.T.Flagged) _ c.bytes_of-width.result
+    (task.count / 64 * 64) task.count task.input.now c.args.output.now c.convert_blocks-counts.new.output
+    (c.bytes_of-width.ensures ∙ ap bytes_of c.BITS.ensures) (div-mul-le_self task.count 64)
+    c.convert_blocks-counts.auto.output c.requires.given
 
 pub returns : goal.returns
 returns g c =
-    let target = c.bytes_of.result in
-    let width : c.bytes_of.result ≡ bytes_of g.T.Flagged.BITS = c.bytes_of.ensures ∙ ap bytes_of c.BITS.ensures in
-    let done = c.args.count / 64 * 64 in
-    let before : c.args.count / 64 * 64 ≤ c.args.count = div-mul-le_self c.args.count 64 in
-    let size : length c.convert_blocks-counts.new.output ≡ c.args.count * c.bytes_of.result =
-    c.convert_blocks-counts.auto.output ∙ c.requires.output ∙ ap (λ (n : ℕ). c.args.count * n) (sym width) in
-    let Holds = IsConvertedBy c.args.overflow (constants_of g.S.Flagged) (constants_of g.T.Flagged) c.args.round in
+    let task = c.args.task in
     rw c.add.ensures
-    (block_width Holds 4 target (bytes_of g.T.Flagged.BITS) c.args.count c.args.input.now _ _ width
-    (block_rest Holds 4 target done c.args.count c.args.input.now c.convert_blocks-counts.new.output
-    c.convert_last-2.new.output c.convert_blocks-counts.result c.convert_last-2.result before
-    c.ranges.count.fits size
-    (c.convert_last-2.auto.output ∙ rest_size target done c.args.count c.convert_blocks-counts.new.output before
-    size)
-    (block_width Holds 4 (bytes_of g.T.Flagged.BITS) target (c.args.count - c.args.count / 64 * 64) _ _ _ (sym width)
-    c.convert_last-2.ensures) c.convert_blocks-counts.ensures))
+    (singles_joined
+    (IsConvertedBy task.overflow (constants_of g.S.Flagged) (constants_of g.T.Flagged) task.round)
+    (bytes_of g.T.Flagged.BITS) c.bytes_of-width.result (task.count / 64 * 64) task.count task.input.now
+    c.convert_blocks-counts.new.output c.convert_last-2.new.output c.convert_blocks-counts.result
+    c.convert_last-2.result
+    (c.bytes_of-width.ensures ∙ ap bytes_of c.BITS.ensures) (div-mul-le_self task.count 64)
+    (omega (arith, c.requires.given.input, c.ranges.task.0))
+    (c.convert_blocks-counts.auto.output ∙ c.requires.given.output) c.convert_last-2.auto.output
+    c.convert_last-2.ensures c.convert_blocks-counts.ensures)

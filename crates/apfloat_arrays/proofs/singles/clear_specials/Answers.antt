@@ -61,15 +61,13 @@ returns g c =
     record {
       finite = λ k before. subst (λ (n : ℕ). n % 2 ^ 15 < 255 * 2 ^ 7) (sym (kept k before))
           (cleared_finite (slice_index c.args.uppers.now k));
-      kept = λ input read. record {
-        upper = λ k before.
-            let x = number_of (value_at 4 k input) in
-            kept k before ∙ ap number_in (read.upper k before)
-            ∙ made_there (λ n. n / 2 ^ 16) (ltb (x / 2 ^ 16 % 2 ^ 15) (255 * 2 ^ 7)) input k refl (upper_alike x);
-        lower = λ k before.
-            let x = number_of (value_at 4 k input) in
+      kept = λ input read k before.
+          let x = number_of (value_at 4 k input) in
+          let number = upper_alike x in (
+            kept k before ∙ ap number_in (read k before).0
+                ∙ made_there (λ n. n / 2 ^ 16) (ltb (x / 2 ^ 16 % 2 ^ 15) (255 * 2 ^ 7)) input k refl number,
             so_far.each_lower k (omega (arith, before, past))
-            ∙ (λ i. lower_in (read.upper k before i) (read.lower k before i))
-            ∙ made_there (λ n. n % 2 ^ 16) (ltb (x / 2 ^ 16 % 2 ^ 15) (255 * 2 ^ 7)) input k refl (upper_alike x);
-      };
+                ∙ (λ i. lower_in ((read k before).0 i) ((read k before).1 i))
+                ∙ made_there (λ n. n % 2 ^ 16) (ltb (x / 2 ^ 16 % 2 ^ 15) (255 * 2 ^ 7)) input k refl number,
+          );
     }

@@ -17,32 +17,35 @@ pub returns : goal.returns
 returns g c =
     let from = constants_of g.S.Flagged in
     let to = constants_of g.T.Flagged in
-    let Holds = IsConvertedBy c.args.overflow from to c.args.round in
-    let count = c.args.count in
-    let target = c.bytes_of.result in
+    let Holds = IsConvertedBy c.args.task.overflow from to c.args.task.round in
+    let count = c.args.task.count in
+    let target = c.bytes_of-width.result in
     let few = c.requires.few in
-    let width : c.bytes_of.result ≡ bytes_of g.T.Flagged.BITS = c.bytes_of.ensures ∙ ap bytes_of c.BITS.ensures in
-    let short : bytes_of g.T.Flagged.BITS ≤ 2 = narrow g.T.Flagged.BITS c.requires.target.bits in
+    let width : c.bytes_of-width.result ≡ bytes_of g.T.Flagged.BITS =
+    c.bytes_of-width.ensures ∙ ap bytes_of c.BITS.ensures in
+    let short : bytes_of g.T.Flagged.BITS ≤ 2 = narrow g.T.Flagged.BITS c.requires.given.target.bits in
     let given = c.copy_from_slice.new.self in
-    let filled : c.copy_from_slice.new.self ≡ c.args.input.now = c.copy_from_slice.ensures.after in
-    let size : length c.copy_from_slice.new.self ≡ c.args.count * 4 = ap length filled ∙ c.requires.input in
+    let filled : c.copy_from_slice.new.self ≡ c.args.task.input.now = c.copy_from_slice.ensures.after in
+    let size : length c.copy_from_slice.new.self ≡ c.args.task.count * 4 =
+    ap length filled ∙ c.requires.given.input in
     let zeros : c.args.singles.now ≡ replicate 256 0 = c.requires.zeros in
     let singles : List ℕ = given ++ drop (count * 4) c.args.singles.now in
     let old = c.args.room.now in
     let wide = c.requires.room in
     let made = c.convert_block-counts.new.output in
-    let long : length c.convert_block-counts.new.output ≡ 64 * c.bytes_of.result =
+    let long : length c.convert_block-counts.new.output ≡ 64 * c.bytes_of-width.result =
     c.convert_block-counts.auto.output ∙ length-take-le (64 * target) old (omega (arith, wide, width, short)) in
-    let least : c.args.count * c.bytes_of.result ≤ 64 * c.bytes_of.result = mul-le-mul_right target few in
+    let least : c.args.task.count * c.bytes_of-width.result ≤ 64 * c.bytes_of-width.result =
+    mul-le-mul_right target few in
     let output : c.copy_from_slice-2.new.self
-    ≡ take (c.args.count * c.bytes_of.result) c.convert_block-counts.new.output =
+    ≡ take (c.args.task.count * c.bytes_of-width.result) c.convert_block-counts.new.output =
     c.copy_from_slice-2.ensures.after
     ∙ take-append-le (count * target) made (drop (64 * target) old) (omega (arith, long, least)) in
-    block_width Holds 4 target (bytes_of g.T.Flagged.BITS) count c.args.input.now _ _ width
+    block_width Holds 4 target (bytes_of g.T.Flagged.BITS) count c.args.task.input.now _ _ width
     (rw output
-    (block_first Holds 4 target 64 count singles c.args.input.now made c.convert_block-counts.result few
+    (block_first Holds 4 target 64 count singles c.args.task.input.now made c.convert_block-counts.result few
     (λ k low. padded_first count k c.args.singles.now given size low ∙ ap (value_at 4 k) filled)
-    (λ k after low bytes o it. zeros_quiet c.args.overflow from to c.args.round c.requires.single
+    (λ k after low bytes o it. zeros_quiet c.args.task.overflow from to c.args.task.round c.requires.given.single
     (value_at 4 k singles) bytes o
     (ap (λ (xs : List ℕ). number_of (value_at 4 k (given ++ drop (count * 4) xs))) zeros
     ∙ padded_zero count k given size after low) it)

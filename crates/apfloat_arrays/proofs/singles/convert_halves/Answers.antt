@@ -1,18 +1,12 @@
-use Rattle.std.proofs.Common.{◌≡◌, ℕ, ◌+◌, ◌*◌, ◌/◌, ◌%◌, ◌^◌, length, ◌∙◌, subst, arith}
+use Rattle.std.proofs.Common.{◌≡◌, ℕ, ◌*◌, length, ◌∙◌, sym, subst, arith}
 use Rattle.apfloat_arrays.specs.Bytes.{number_of}
 use Rattle.apfloat_arrays.specs.Singles.{counts_with, outcome_of}
 use Rattle.apfloat_arrays.specs.Rows.{IsRow}
-use Rattle.apfloat_arrays.specs.Values.{IsConvertedBy}
-use Rattle.apfloat_arrays.proofs.ConvertedLanes.{plan_answers}
+use Rattle.apfloat_arrays.specs.Values.{IsAnswerAt, IsConvertedBy}
 use Rattle.apfloat_arrays.proofs.LittleEndian.{fits}
 use Rattle.apfloat_arrays.proofs.Places.{place_size}
 use Rattle.apfloat_arrays.proofs.Rows.{row_more, row_none}
 use Rattle.apfloat_arrays.proofs.singles.convert_halves.Goals as goal
-
--- a word by its halves
-word_parts : (word upper lower : ℕ) → upper ≡ word / 2 ^ 16 → lower ≡ word % 2 ^ 16
-    → upper * 2 ^ 16 + lower ≡ word
-word_parts word upper lower upper_is lower_is = omega (arith, upper_is, lower_is)
 
 pub loop-index-init : goal.loop-index-init
 loop-index-init g c = record {
@@ -31,15 +25,15 @@ pub write_number-requires : goal.write_number-requires
 write_number-requires g c =
     let size : length c.loop-index.output ≡ g.row.N * c.args.width = c.loop-index.auto.output ∙ c.requires.output in
     let width = place_size c.args.width c.loop-index.index g.row.N c.loop-index.output c.loop-index-test.true size in
-    let room = c.requires.width in
-    rw c.from.ensures
-    (fits c.convert_single-lane.result.bits c.args.plan.target.bits _ c.convert_single-lane.ensures.below
-    (omega (arith, room, width)))
+    rw (c.from.ensures, width)
+    (fits c.convert-lane.result.bits (g.P.SinglesPlan.bits c.args.plan) c.args.width c.convert-lane.ensures.below
+    c.requires.width)
 
 pub loop-index-preserved : goal.loop-index-preserved
 loop-index-preserved g c =
     let index = c.loop-index.index in
     let before = c.loop-index-test.true in
+    let outcome = outcome_of c.convert-lane.result in
     let size : length c.loop-index.output ≡ g.row.N * c.args.width = c.loop-index.auto.output ∙ c.requires.output in
     let width : length c.write_number.new.bytes ≡ c.args.width =
     c.write_number.auto.bytes ∙ place_size c.args.width index g.row.N c.loop-index.output before size in
@@ -49,12 +43,11 @@ loop-index-preserved g c =
           rw (c.counted-few.ensures.counts index)
           (row_more (IsConvertedBy overflow from to mode) given c.args.width index g.row.N c.loop-index.output
           c.write_number.new.bytes (counts_with c.loop-index.few index)
-          (outcome_of c.convert_single-lane.result) before size width
-          (plan_answers overflow from to mode c.args.plan (given index) c.write_number.new.bytes
-          _ c.convert_single-lane.result is_plan
-          (word_parts (number_of (given index)) _ _ (read.upper index before) (read.lower index before))
-          (c.write_number.ensures ∙ c.from.ensures)
-          (c.convert_single-lane.ensures.converted _ _ is_single))
+          (outcome_of c.convert-lane.result) before size width
+          (subst (λ (n : ℕ). IsAnswerAt overflow from to mode (number_of (given index)) n outcome)
+          (sym (c.write_number.ensures ∙ c.from.ensures))
+          (c.convert-lane.ensures.converted overflow from to mode (number_of (given index)) is_single is_plan
+          (read index before)))
           (c.loop-index.invariant.row overflow from to mode given is_single is_plan read));
     }
 

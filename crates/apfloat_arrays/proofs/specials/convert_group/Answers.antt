@@ -14,13 +14,15 @@ loop-index-init g c = c.requires.numbers
 
 pub loop-index-preserved : goal.loop-index-preserved
 loop-index-preserved g c =
-    let Holds = IsConvertedBy c.args.overflow (constants_of g.S.Flagged) (constants_of g.T.Flagged) c.args.round in
-    let input = c.args.input.now in
+    let task = c.args.task in
+    let Holds = IsConvertedBy task.overflow (constants_of g.S.Flagged) (constants_of g.T.Flagged) task.round in
+    let input = c.args.task.input.now in
     let index = c.loop-index.index in
     let next = c.loop-index-test.true in
     let within = c.requires.within in
     let before : c.loop-index.index < g.row.N = omega (arith, next, within) in
-    let room : length c.loop-index.output ≡ g.row.N * c.args.width = c.loop-index.auto.output ∙ c.requires.output in
+    let room : length c.loop-index.output ≡ g.row.N * c.args.width =
+    c.loop-index.auto.output ∙ c.requires.given.output in
     let number : c.is_finite.result ≡ ltb (number_of (value_at 4 index input) % 2 ^ 31) (255 * 2 ^ 23) =
     c.is_finite.ensures ∙ ap (λ (n : ℕ). ltb (n % 2 ^ 31) (255 * 2 ^ 23)) c.word_of.ensures in
     elim c.if-not-is_finite.branch [
@@ -36,8 +38,8 @@ loop-index-preserved g c =
           (next_there index input)
           (subst (λ (bytes : List ℕ). Holds bytes w.convert_slowly.new.output w.convert_slowly.result)
           (sym (done_there (index + 1) input index (omega arith))) w.convert_slowly.ensures)
-          (λ bytes o it. zero_quiet c.args.overflow (constants_of g.S.Flagged) (constants_of g.T.Flagged) c.args.round
-          c.requires.single bytes o
+          (λ bytes o it. zero_quiet task.overflow (constants_of g.S.Flagged) (constants_of g.T.Flagged) task.round
+          c.requires.given.single bytes o
           (subst (λ (given : List ℕ). Holds given bytes o) (zero_there index input special) it))
           c.loop-index.invariant)
       | else-not-is_finite w ↦
@@ -55,6 +57,6 @@ returns g c =
     let all : c.loop-index.index ≡ c.args.first + 16 = omega (arith, past, most) in
     subst
     (λ (n : ℕ).
-    IsRow (IsConvertedBy c.args.overflow (constants_of g.S.Flagged) (constants_of g.T.Flagged) c.args.round)
-    (number_from n c.args.input.now) c.args.width g.row.N c.loop-index.output c.loop-index.counts) all
+    IsRow (IsConvertedBy c.args.task.overflow (constants_of g.S.Flagged) (constants_of g.T.Flagged) c.args.task.round)
+    (number_from n c.args.task.input.now) c.args.width g.row.N c.loop-index.output c.loop-index.counts) all
     c.loop-index.invariant

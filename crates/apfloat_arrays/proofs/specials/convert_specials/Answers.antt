@@ -16,8 +16,9 @@ convert_group-counts-requires-clause-numbers g c = c.loop-group.invariant
 
 pub loop-group-preserved : goal.loop-group-preserved
 loop-group-preserved g c =
-    let Holds = IsConvertedBy c.args.overflow (constants_of g.S.Flagged) (constants_of g.T.Flagged) c.args.round in
-    let input = c.args.input.now in
+    let task = c.args.task in
+    let Holds = IsConvertedBy task.overflow (constants_of g.S.Flagged) (constants_of g.T.Flagged) task.round in
+    let input = c.args.task.input.now in
     let done = c.loop-group.group * 16 in
     let next : done + 16 ≡ (c.loop-group.group + 1) * 16 = omega arith in
     elim c.if-not-are_numbers.branch [
@@ -44,6 +45,7 @@ pub returns : goal.returns
 returns g c =
     let past = c.loop-group-test.false in
     let done = c.loop-group.group * 16 in
-    row_block (IsConvertedBy c.args.overflow (constants_of g.S.Flagged) (constants_of g.T.Flagged) c.args.round)
-    (number_from done c.args.input.now) 4 c.args.width g.row.N c.args.input.now c.loop-group.output c.loop-group.counts
-    (λ k before. done_there done c.args.input.now k (omega (arith, before, past))) c.loop-group.invariant
+    let task = c.args.task in
+    row_block (IsConvertedBy task.overflow (constants_of g.S.Flagged) (constants_of g.T.Flagged) task.round)
+    (number_from done task.input.now) 4 c.args.width g.row.N task.input.now c.loop-group.output c.loop-group.counts
+    (λ k before. done_there done c.args.task.input.now k (omega (arith, before, past))) c.loop-group.invariant

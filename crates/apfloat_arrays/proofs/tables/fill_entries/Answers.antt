@@ -1,39 +1,34 @@
-use Rattle.std.proofs.Common.{◌≡◌, ℕ, ◌+◌, ◌*◌, ◌^◌, ◌<◌, length, ap, ◌∙◌}
+use Rattle.std.proofs.Common.{◌≡◌, ◌*◌, ◌^◌, ◌<◌, length, ◌∙◌}
 use Rattle.rustc_apfloat.specs.Flags.{bits_of}
-use Rattle.rustc_apfloat.specs.FlaggedTypes.{constants_of}
-use Rattle.apfloat_arrays.specs.Tables.{IsAnswerAt, outcome_tally}
-use Rattle.apfloat_arrays.specs.Tallies.{packed_of, tally_of}
+use Rattle.apfloat_arrays.specs.Tables.{outcome_tally}
 use Rattle.apfloat_arrays.proofs.LittleEndian.{fits}
 use Rattle.apfloat_arrays.proofs.Places.{place_size}
 use Rattle.apfloat_arrays.proofs.TalliedResults.{entries_more, no_entries, tally_most}
 use Rattle.apfloat_arrays.proofs.tables.fill_entries.Goals as goal
 
 pub loop-place-init : goal.loop-place-init
-loop-place-init g c =
-    no_entries (IsAnswerAt c.args.overflow (constants_of g.S.Flagged) (constants_of g.T.Flagged) c.args.round)
-    outcome_tally c.args.table.now
+loop-place-init g c = no_entries (g.R.Results.gives c.args.results) outcome_tally c.args.table.now
 
-pub write_entry-requires-clause-bits : goal.write_entry-requires-clause-bits
-write_entry-requires-clause-bits g c =
-    fits c.convert_bits-answer.result.bits g.T.Flagged.BITS 4 c.convert_bits-answer.ensures.is_encoded.below
+pub result_in-requires : goal.result_in-requires
+result_in-requires g c = c.requires.has c.loop-place.place c.loop-place-test.true
+
+pub write_result-requires-clause-fits : goal.write_result-requires-clause-fits
+write_result-requires-clause-fits g c =
+    let answer = c.result_in.result in
+    fits answer.bits g.R.Results.bits 4
+    (g.met.R.Results.fits c.args.results c.loop-place.place answer.bits answer.outcome c.result_in.ensures)
     c.requires.few
 
 pub loop-place-preserved : goal.loop-place-preserved
 loop-place-preserved g c =
+    let answer = c.result_in.result in
+    let place = c.loop-place.place in
     let size : length c.loop-place.table ≡ c.args.count * 8 = c.loop-place.auto.table ∙ c.requires.table in
-    let room = place_size 8 c.loop-place.place c.args.count c.loop-place.table c.loop-place-test.true size in
-    let wide : length c.write_entry.new.entry ≡ 8 = c.write_entry.auto.entry ∙ room in
-    let outcome = c.convert_bits-answer.result.outcome in
-    let flags : c.from.result ≡ bits_of outcome.status = c.from.ensures ∙ c.bits.ensures tt in
-    let mark : c.mark_of.result ≡ packed_of (outcome_tally outcome) =
-    c.mark_of.ensures.is ∙ ap (λ (n : ℕ). packed_of (tally_of n outcome.is_nan)) flags in
-    let below : c.convert_bits-answer.result.bits < 2 ^ 32 =
-    fits c.convert_bits-answer.result.bits g.T.Flagged.BITS 4 c.convert_bits-answer.ensures.is_encoded.below
-    c.requires.few in
-    entries_more
-    (IsAnswerAt c.args.overflow (constants_of g.S.Flagged) (constants_of g.T.Flagged) c.args.round) outcome_tally
-    c.loop-place.place c.args.count c.loop-place.table c.write_entry.new.entry c.convert_bits-answer.result.bits outcome
-    c.loop-place-test.true size wide c.convert_bits-answer.ensures below
-    (tally_most (bits_of outcome.status) outcome.is_nan)
-    (c.write_entry.ensures ∙ ap (λ (n : ℕ). c.convert_bits-answer.result.bits + 2 ^ 32 * n) mark)
-    c.loop-place.invariant
+    let wide : length c.write_result.new.entry ≡ 8 =
+    c.write_result.auto.entry ∙ place_size 8 place c.args.count c.loop-place.table c.loop-place-test.true size in
+    let below : c.result_in.result.bits < 2 ^ 32 =
+    fits answer.bits g.R.Results.bits 4
+    (g.met.R.Results.fits c.args.results place answer.bits answer.outcome c.result_in.ensures) c.requires.few in
+    entries_more (g.R.Results.gives c.args.results) outcome_tally place c.args.count c.loop-place.table
+    c.write_result.new.entry answer.bits answer.outcome c.loop-place-test.true size wide c.result_in.ensures below
+    (tally_most (bits_of answer.outcome.status) answer.outcome.is_nan) c.write_result.ensures c.loop-place.invariant

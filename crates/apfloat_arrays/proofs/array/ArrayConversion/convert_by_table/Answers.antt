@@ -3,7 +3,7 @@ use Rattle.formats_at_run_time.specs.BuiltIns.{constants_in}
 use Rattle.formats_at_run_time.specs.FlaggedKinds.{flagged_constants}
 use Rattle.apfloat_arrays.specs.declared.widths.Widths.{Widths}
 use Rattle.apfloat_arrays.specs.Blocks.{IsBlock}
-use Rattle.apfloat_arrays.specs.Values.{IsConvertedBy}
+use Rattle.apfloat_arrays.specs.Values.{IsAnswerAt, IsConvertedBy}
 use Rattle.apfloat_arrays.proofs.TabledResults.{block_looked_up, entries_of}
 use Rattle.apfloat_arrays.proofs.WidthBounds.{flagged_room}
 use Rattle.apfloat_arrays.proofs.array.ArrayConversion.convert_by_table.Goals as goal
@@ -14,10 +14,10 @@ look_up-requires-clause-table c =
     subst (λ (w : Widths). (flagged_constants c.args.self.target).bits ≤ 8 * w.target)
     (sym c.widths-width.ensures.is)
     (flagged_room c.args.self.target) in
-    entries_of c.args.self.overflow (constants_in c.args.self.source) (flagged_constants c.args.self.target)
-    c.args.self.round c.widths-width.result.target 65536 c.write.new.bytes
-    (c.write.auto.bytes ∙ c.requires.table) room
-    c.write.ensures
+    entries_of
+    (IsAnswerAt c.args.self.overflow (constants_in c.args.self.source) (flagged_constants c.args.self.target)
+    c.args.self.round) (flagged_constants c.args.self.target).bits c.widths-width.result.target 65536 c.write.new.bytes
+    (λ place bits outcome made. made.is_encoded.below) (c.write.auto.bytes ∙ c.requires.table) room c.write.ensures
 
 pub returns : goal.returns
 returns c =
@@ -25,6 +25,7 @@ returns c =
     subst (λ (n : ℕ). IsBlock (IsConvertedBy c.args.self.overflow (constants_in c.args.self.source)
     (flagged_constants c.args.self.target) c.args.self.round) 2 n c.args.count c.args.input.now c.look_up.new.output
     c.counts.result) same
-    (block_looked_up c.args.self.overflow (constants_in c.args.self.source) (flagged_constants c.args.self.target)
-    c.args.self.round 2 c.widths-width.result.target 65536 c.args.count c.args.input.now c.look_up.new.output
+    (block_looked_up
+    (IsAnswerAt c.args.self.overflow (constants_in c.args.self.source) (flagged_constants c.args.self.target)
+    c.args.self.round) 2 c.widths-width.result.target 65536 c.args.count c.args.input.now c.look_up.new.output
     c.write.new.bytes c.look_up.result c.counts.result c.write.ensures c.look_up.ensures c.counts.ensures)

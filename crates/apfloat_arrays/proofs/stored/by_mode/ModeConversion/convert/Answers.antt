@@ -1,4 +1,4 @@
-use Rattle.std.proofs.Common.{◌≡◌, ◌*◌, [], length, refl, ap, ◌∙◌}
+use Rattle.std.proofs.Common.{◌≡◌, ◌*◌, [], length, refl, ◌∙◌}
 use Rattle.apfloat_arrays.proofs.Places.{place_size, places_none}
 use Rattle.apfloat_arrays.specs.stored.ByMode.{IsStoredAt}
 use Rattle.apfloat_arrays.proofs.stored_lemmas.ByMode.{random_within, stored_more}

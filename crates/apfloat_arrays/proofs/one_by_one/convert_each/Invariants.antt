@@ -1,9 +1,0 @@
-use Rattle.rustc_apfloat.specs.FlaggedTypes.{constants_of}
-use Rattle.apfloat_arrays.specs.Values.{IsConvertedBy}
-use Rattle.apfloat_arrays.specs.Blocks.{IsBlock}
-use Rattle.apfloat_arrays.proofs.one_by_one.convert_each.Given as goal
-
-abbrev pub invariant-loop-index : goal.invariant-loop-index
-invariant-loop-index g l =
-    IsBlock (IsConvertedBy l.overflow (constants_of g.S.Flagged) (constants_of g.T.Flagged) l.round) l.widths.source
-    l.widths.target l.index l.input l.output l.counts

@@ -1,0 +1,32 @@
+-- Arrays of values that are converted into a storage format.
+use Rattle.std.specs.Prelude.{◌≡◌, ℕ, ◌+◌, ◌-◌, ◌*◌, ◌<◌, ◌≤◌, List, length}
+use Rattle.rustc_apfloat.specs.Lawful.{Constants}
+use Rattle.fast_bits.specs.declared.words.WordPlan.{WordPlan}
+use Rattle.small_formats.specs.Storage.{StorageConstants}
+use Rattle.apfloat_arrays.specs.declared.counts.Counts.{Counts}
+use Rattle.apfloat_arrays.specs.declared.stored.array.StoreCall.{StoreCall}
+use Rattle.apfloat_arrays.specs.declared.stored.formats.StoredFormat.{StoredFormat}
+use Rattle.apfloat_arrays.specs.Blocks.{IsBlock}
+use Rattle.apfloat_arrays.specs.stored.Arrays.{IsStoredIn}
+use Rattle.apfloat_arrays.specs.stored.NumberCodes.{HasConstants, IsWordSource}
+
+-- the bytes of all values, and room for their codes
+pub record AreStorable (c : Constants) (call : StoreCall) (into : List ℕ) : Type 0 where
+  pub read : c.precision < c.bits
+  pub width : call.width ≤ 16
+  pub input : length call.input.now ≡ call.count * call.width
+  pub output : length into ≡ call.count * 1
+
+abbrev pub AreStored : Constants → StoreCall → List ℕ → Counts → Type 0
+AreStored c call output counts =
+    IsBlock (IsStoredIn call.overflow c call.target call.round) call.width 1 call.count call.input.now output counts
+
+-- the numbers of values of so many bytes become codes from bits to bits
+pub record HasNumbers (c : Constants) (s : StorageConstants) (target : StoredFormat) (plan : WordPlan)
+    (source code : ℕ) : Type 0 where
+  pub read : c.precision < c.bits
+  pub format : HasConstants target s
+  pub word : IsWordSource c s
+  pub low : plan.low ≡ c.precision - s.precision + 32
+  pub whole : 8 * source ≡ c.bits
+  pub one : code ≡ 1
