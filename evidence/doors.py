@@ -63,7 +63,7 @@ ROWS = (
 # Why C, and with it C++ and Python, or the programs have an empty cell in a row.
 REASONS = {
     'decimals with these flags': {'Programs': 'rows lack them'},
-    'exact reductions': {'C': 'they are new', 'Programs': 'rows lack them'},
+    'exact reductions': {'Programs': 'rows lack them'},
     'blocks of NVFP4': {'C': 'no array has the scale of a tensor'},
     'formats of P3109': {'C': 'four constants have no code'},
     "a format's constants": {'Programs': '`docs/FORMATS.md` has them'},

@@ -625,6 +625,29 @@ apfloat_error apfloat_map_array_by_table(apfloat_format format, apfloat_mode mod
                                          const uint8_t *zs, size_t zs_length, uint8_t *results, size_t results_length,
                                          uint8_t *table, size_t table_length, apfloat_array_answer *answer);
 
+/* ---- exact sums of arrays
+ *
+ * The exact sum of all terms, rounded once (IEEE 754-2019 9.4), in `bits`, with the flags of that rounding; `number` is
+ * 0. No term is rounded before, so the sum does not depend on their order. Without terms it is +0; an exact zero is
+ * +0, or -0 with APFLOAT_DOWNWARD, but the sum of zeros of one sign keeps it. The first term that is a NaN is the sum,
+ * quieted, also beside an infinity; the product of an infinity and a zero is such a term, without a payload.
+ * APFLOAT_INVALID_OP is raised if a NaN was signaling or a product invalid, and for infinities of both signs, whose
+ * sum is the quiet NaN without a payload. The formats are those of at most 64 bits: APFLOAT_QUAD, APFLOAT_X87 and
+ * APFLOAT_DOUBLE_PAIR have no exact sums (APFLOAT_NO_SUCH_OPERATION). APFLOAT_WRONG_LENGTH says that an array ends
+ * inside a value, or that two have different lengths. */
+
+/* The sum of the values, of their magnitudes, and of their squares. */
+apfloat_error apfloat_sum(apfloat_format format, apfloat_mode mode, const uint8_t *xs, size_t xs_length,
+                          apfloat_answer *answer);
+apfloat_error apfloat_sum_abs(apfloat_format format, apfloat_mode mode, const uint8_t *xs, size_t xs_length,
+                              apfloat_answer *answer);
+apfloat_error apfloat_sum_square(apfloat_format format, apfloat_mode mode, const uint8_t *xs, size_t xs_length,
+                                 apfloat_answer *answer);
+
+/* The sum of the products of the values at the same places: the dot product. */
+apfloat_error apfloat_dot(apfloat_format format, apfloat_mode mode, const uint8_t *xs, size_t xs_length,
+                          const uint8_t *ys, size_t ys_length, apfloat_answer *answer);
+
 /* ---- blocks with a common scale
  *
  * The microscaling formats of the OCP (OCP Microscaling Formats 1.0; docs/FORMATS.md): each block of `length`

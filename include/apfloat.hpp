@@ -2871,6 +2871,81 @@ expected<array_counts> map_array_by_table(array_operation operation, std::size_t
     return detail::counts_of(code, answer);
 }
 
+// ---- exact sums of arrays
+
+namespace detail {
+
+// The answer of an exact sum of values that are there, or the error.
+template <class F, class... Parameters, class... Arrays>
+expected<result<value<F>>> exact_sum(apfloat_error (*call)(Parameters...), rounding mode, bool is_missing,
+                                     Arrays... arrays) noexcept {
+    static_assert(!F::is_pair && F::width <= 64, "exact sums are of formats of at most 64 bits");
+    if (!has_lowest_byte_first()) return errc::no_such_operation;
+    apfloat_answer answer = {{0, 0}, 0, 0};
+    const apfloat_error code = call(F::code, code_of(mode), arrays..., &answer);
+    if (code != APFLOAT_ANSWERED) return static_cast<errc>(code);
+    if (is_missing) return errc::wrong_length;
+    return result_of<F>(answer);
+}
+
+template <class F, class... Parameters>
+expected<result<value<F>>> exact_sum_of_one(apfloat_error (*call)(Parameters...), const value<F> *xs,
+                                            std::size_t count, rounding mode) noexcept {
+    const bool is_missing = count != 0 && xs == nullptr;
+    const std::size_t length = is_missing ? 0 : count * sizeof(value<F>);
+    return exact_sum<F>(call, mode, is_missing, bytes_of(xs), length);
+}
+
+} // namespace detail
+
+/// The sum of `count` values, of their magnitudes, or of their squares: the exact sum, rounded once, whatever their
+/// order (IEEE 754-2019 9.4; apfloat.h says what NaNs, infinities and zeros give). The formats have at most 64 bits. If
+/// `xs` is null and `count` is not 0, the error is wrong_length, and on a processor that stores the highest byte first
+/// it is no_such_operation.
+template <class F>
+expected<result<value<F>>> sum(const value<F> *xs, std::size_t count,
+                               rounding mode = rounding::nearest_even) noexcept {
+    return detail::exact_sum_of_one(apfloat_sum, xs, count, mode);
+}
+template <class F>
+expected<result<value<F>>> sum_abs(const value<F> *xs, std::size_t count,
+                                   rounding mode = rounding::nearest_even) noexcept {
+    return detail::exact_sum_of_one(apfloat_sum_abs, xs, count, mode);
+}
+template <class F>
+expected<result<value<F>>> sum_square(const value<F> *xs, std::size_t count,
+                                      rounding mode = rounding::nearest_even) noexcept {
+    return detail::exact_sum_of_one(apfloat_sum_square, xs, count, mode);
+}
+
+/// The dot product: the sum of the products of the values at the same places of two arrays, likewise.
+template <class F>
+expected<result<value<F>>> dot(const value<F> *xs, const value<F> *ys, std::size_t count,
+                               rounding mode = rounding::nearest_even) noexcept {
+    const bool is_missing = count != 0 && (xs == nullptr || ys == nullptr);
+    const std::size_t length = is_missing ? 0 : count * sizeof(value<F>);
+    return detail::exact_sum<F>(apfloat_dot, mode, is_missing, detail::bytes_of(xs), length, detail::bytes_of(ys),
+                                length);
+}
+
+/// The value alone; its flags are joined to those of the gather. An error joins none.
+template <class F>
+expected<value<F>> sum(const value<F> *xs, std::size_t count, gather &with) noexcept {
+    return detail::joined(sum(xs, count, with.mode()), with);
+}
+template <class F>
+expected<value<F>> sum_abs(const value<F> *xs, std::size_t count, gather &with) noexcept {
+    return detail::joined(sum_abs(xs, count, with.mode()), with);
+}
+template <class F>
+expected<value<F>> sum_square(const value<F> *xs, std::size_t count, gather &with) noexcept {
+    return detail::joined(sum_square(xs, count, with.mode()), with);
+}
+template <class F>
+expected<value<F>> dot(const value<F> *xs, const value<F> *ys, std::size_t count, gather &with) noexcept {
+    return detail::joined(dot(xs, ys, count, with.mode()), with);
+}
+
 // ---- blocks with a common scale
 
 namespace detail {

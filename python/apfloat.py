@@ -252,6 +252,8 @@ def _parameters() -> dict[str, list[Any]]:
         'convert_array_by_table': [code, code, code, *array * 3, ctypes.POINTER(_ArrayAnswer)],
         'map_array': [code, code, code, *array * 4, ctypes.POINTER(_ArrayAnswer)],
         'map_array_by_table': [code, code, code, *array * 5, ctypes.POINTER(_ArrayAnswer)],
+        **dict.fromkeys(('sum', 'sum_abs', 'sum_square'), [code, code, *array, answer]),
+        'dot': [code, code, *array * 2, answer],
         'quantize_blocks': [code, code, code, length, *array * 3, ctypes.POINTER(_ArrayAnswer)],
         'dequantize_blocks': [code, code, code, length, *array * 3, ctypes.POINTER(_ArrayAnswer)],
         **dict.fromkeys(('pack_codes', 'unpack_codes'), [code, *array * 2]),
@@ -2192,13 +2194,16 @@ class _Numbers(_Elements[Value]):
         moved = self if axis is None else self._moved(_axis(axis, self.ndim), self.ndim - 1)
         shape = () if axis is None else moved.shape[:-1]
         length = self.size if axis is None else moved.shape[-1]
-        if not length:
-            raise ValueError('no value is the greatest or the least of none')
         return moved.reshape(math.prod(shape), length), shape
 
-    def _extreme(self, greatest: bool, axis: int | None) -> Any:
+    def _places_of_extremes(self, greatest: bool, axis: int | None) -> tuple[Self, tuple[int, ...], list[int]]:
         rows, shape = self._rows(axis)
-        places = _extremes(rows._exact(), greatest)
+        if not rows.shape[1]:
+            raise ValueError('no value is the greatest or the least of none')
+        return rows, shape, _extremes(rows._exact(), greatest)
+
+    def _extreme(self, greatest: bool, axis: int | None) -> Any:
+        rows, shape, places = self._places_of_extremes(greatest, axis)
         if not shape:
             return rows[0, places[0]]
         width, length = self._width, rows.shape[1]
@@ -2206,8 +2211,8 @@ class _Numbers(_Elements[Value]):
         return self._like(b''.join([rows._data[at:at + width] for at in starts]), shape)
 
     def _place_of_extreme(self, greatest: bool, axis: int | None) -> Any:
-        rows, shape = self._rows(axis)
-        return _listed(iter(_extremes(rows._exact(), greatest)), shape)
+        _, shape, places = self._places_of_extremes(greatest, axis)
+        return _listed(iter(places), shape)
 
     def numbers(self) -> memoryview:
         """The numbers as a view of a copy in memory, in the shape of the array: in C's float, or in its double if that
@@ -2580,6 +2585,90 @@ class Array(_Numbers, _Arithmetic[Any]):
         import numpy
         dtype = numpy.dtype(of)
         return numpy.asarray(self.to(_stored_of(dtype) or _named(dtype), saturate), of)
+
+    def sum(self, axis: int | None = None, dtype: None = None, out: None = None) -> Any:
+        """The sum of the values, of all or along an axis: the exact sum, rounded once, whatever their order.
+
+        That of none is 0. Formats of more than 64 bits have no such sums. numpy passes `dtype` and `out`, as None.
+
+        >>> xs = half.array([[65504, 1, -65504], [0.5, 0.25, 8]])
+        >>> xs.sum(), xs.sum(axis=1), xs.sum_square(axis=0)[2]
+        (half('9.75'), half.array(['1.0', '8.75']), half('inf'))
+        """
+        return self._summed('sum', axis, dtype, out)
+
+    def sum_abs(self, axis: int | None = None) -> Any:
+        """The sum of the magnitudes of the values, likewise."""
+        return self._summed('sum_abs', axis)
+
+    def sum_square(self, axis: int | None = None) -> Any:
+        """The sum of the squares of the values, likewise: no square is rounded."""
+        return self._summed('sum_square', axis)
+
+    def mean(self, axis: int | None = None, dtype: None = None, out: None = None) -> Any:
+        """The mean of the values, of all or along an axis: the exact mean, rounded once. There is none of no values.
+
+        >>> half.array([65504, 65504, 65472]).mean(), e4m3fn.array([0.5, -1, 2, 3, -4, 0.25]).mean()
+        (half('65504.0'), e4m3fn('0.125'))
+        """
+        _none_given(dtype, out)
+        rows, shape = self._rows(axis)
+        if not rows.shape[1]:
+            raise ValueError('no values have no mean')
+        return self._shaped([rows[place]._mean().bits for place in range(rows.shape[0])], shape)
+
+    def _mean(self) -> Value:
+        """The mean of the values along the only axis."""
+        with Context(context().mode) as exact:
+            wide = self if self.format.width >= 64 else self.to(double)
+            total = wide.sum()
+        if exact.inexact:
+            return self.format(sum((value._fraction() for value in self), fractions.Fraction()) / self.size)
+        return total.to_format('div', self.format, self.size) if total.is_finite else self.sum()
+
+    def dot(self, other: Any) -> Any:
+        """The product of two arrays, as `@` makes it."""
+        return self @ other
+
+    def __matmul__(self, other: Any) -> Any:
+        """The products of rows and columns: the exact sum of the products of their elements, rounded once.
+
+        >>> xs = single.array([[1, 2], [3, 4]])
+        >>> xs @ xs, [1, -1] @ xs, xs[0] @ xs[1]
+        (single.array([['7.0', '10.0'], ['15.0', '22.0']]), single.array(['-2.0', '-2.0']), single('11.0'))
+        """
+        right = self._operand(other)
+        return right if right is NotImplemented else self._times(right)
+
+    def __rmatmul__(self, other: Any) -> Any:
+        left = self._operand(other)
+        return left if left is NotImplemented else left._times(self)
+
+    def _times(self, right: Array) -> Any:
+        if not (1 <= self.ndim <= 2 and 1 <= right.ndim <= 2 and self.shape[-1] == right.shape[0]):
+            raise ValueError(f'arrays of the shapes {self.shape} and {right.shape} have no product')
+        return self._reduced('dot', itertools.product(self._last_rows(), right.T._last_rows()),
+                             self.shape[:-1] + right.shape[1:])
+
+    def _last_rows(self) -> list[bytes]:
+        """The bytes of the rows along the last axis."""
+        data, length = self._data, self.shape[-1] * self._width
+        return [data[place * length:(place + 1) * length] for place in range(math.prod(self.shape[:-1]))]
+
+    def _summed(self, name: str, axis: int | None, *given: None) -> Any:
+        _none_given(*given)
+        rows, shape = self._rows(axis)
+        return self._reduced(name, ((row,) for row in rows._last_rows()), shape)
+
+    def _reduced(self, name: str, operands: Iterable[tuple[bytes, ...]], shape: tuple[int, ...]) -> Any:
+        """What the function of the library makes of each group of operands."""
+        mode, code = context().mode, self.format.code
+        return self._shaped([_whole(_call(name, code, mode, *(word for row in rows for word in (row, len(row)))).bits)
+                             for rows in operands], shape)
+
+    def _shaped(self, bits: list[int], shape: tuple[int, ...]) -> Any:
+        """The values of these bits in a shape, and the value alone if there are no axes."""
+        return self._like(self.format._joined(bits), shape) if shape else Value(self.format, bits[0])
 
 
 class StoredArray(_Numbers):
@@ -3259,6 +3348,12 @@ def _span(first: int, length: int, stride: int) -> slice:
     """So many places from the first one on, each a stride from the one before it."""
     end = first + length * stride
     return slice(first, end if end >= 0 else None, stride)
+
+
+def _none_given(*given: Any) -> None:
+    """Refuses what functions of numpy are given and arrays lack."""
+    if any(each is not None for each in given):
+        raise TypeError('a sum or a mean is of the format of its array, and a new value or array')
 
 
 def _axis(axis: Any, ndim: int) -> int:

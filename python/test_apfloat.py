@@ -1206,6 +1206,80 @@ class TensorTests(unittest.TestCase):
             with self.assertRaisesRegex(ValueError, 'no axis of 2'):
                 codes.max(axis)
 
+    def test_sums(self):
+        # The rows that evidence/reductions.py computes, in the formats that have names.
+        compared = collections.Counter()
+        with open(os.path.join(HERE, '..', 'tests', 'rows', 'by_crate', 'reductions.tsv'), encoding='utf-8') as file:
+            rows = [line.rstrip('\n').split('\t') for line in file if not line.startswith('#')]
+        modes = dict(zip(('even', 'up', 'down', 'zero', 'away', 'any', '-'), MODES + MODES[:2]))
+        for call, word, mode, operands, wanted, flags, _ in rows:
+            name, *rules = word.split('+')
+            format = getattr(apfloat, name, None)
+            if not format:
+                continue
+            for rule in rules:
+                format = getattr(format, rule)
+            xs, *others = [format.from_bits([int(bits, 16) for bits in words.split() if bits != '-'])
+                           for words in operands.split(' / ')]
+            with Context(modes[mode]) as context:
+                if wanted == 'LengthsDiffer':
+                    with self.assertRaisesRegex(ValueError, 'have no product'):
+                        xs @ others[0]
+                    continue
+                found = xs @ others[0] if others else getattr(xs, call)()
+            raised = str(context.flags.name or 'OK')
+            self.assertEqual((found.bits, raised), (int(wanted, 16), flags), (call, word, operands))
+            compared[call] += 1
+        self.assertTrue(min(compared.values()) > 150 and len(compared) == 4, compared)
+
+    def test_sums_along_axes(self):
+        draw = random.Random(17)
+        for format in apfloat.half, apfloat.e5m2, apfloat.double.ieee:
+            xs = format.array([[draw.randint(-9, 9) / 4 for _ in range(4)] for _ in range(3)])
+            ys = format.array([[draw.randint(-9, 9) / 4 for _ in range(2)] for _ in range(4)])
+            rows = [list(map(float, row)) for row in xs.tolist()]
+            for axis, parts in (0, zip(*rows)), (-1, rows):
+                for part, total, square in zip(list(parts), xs.sum(axis), xs.sum_square(axis)):
+                    self.assertEqual((total, square), (format(sum(part)), format(sum(each * each for each in part))))
+            self.assertEqual(xs.sum(), format(sum(map(sum, rows))))
+            product = xs @ ys
+            self.assertEqual(product.shape, (3, 2))
+            self.assertTrue((product[:, 1] == xs @ ys[:, 1]).all() and (product[2] == xs[2].dot(ys)).all())
+            self.assertEqual(product[1, 0], xs[1] @ ys[:, 0])
+        empty = apfloat.half.array([]).reshape(2, 0)
+        self.assertEqual((empty.sum(), empty.sum(1).tolist()), (0, [0, 0]))
+        self.assertEqual((empty @ empty.T).tolist(), [[0, 0], [0, 0]])
+        for wrong in ([1, 2], [[1, 2]], 2, 'text'):
+            with self.assertRaises((ValueError, TypeError)):
+                apfloat.half.array([1, 2, 3]) @ wrong
+        for format in apfloat.quad, apfloat.x87, apfloat.double_pair:
+            for call in 'sum', 'sum_abs', 'sum_square', 'mean':
+                with self.assertRaises(apfloat.Refused):
+                    getattr(format.array([1, 2]), call)()
+
+    def test_means(self):
+        draw = random.Random(19)
+        for format in apfloat.half, apfloat.bfloat, apfloat.e4m3fn, apfloat.single, apfloat.double.ieee:
+            for mode in MODES:
+                xs = format.array([draw.uniform(-8, 8) * 2.0 ** draw.randint(-3, 3) for _ in range(draw.randint(1, 9))])
+                exact = sum((value._fraction() for value in xs), Fraction()) / len(xs)
+                with Context(mode) as context:
+                    found = xs.mean()
+                with Context(mode) as wanted:
+                    self.assertEqual(found, format(exact))
+                self.assertEqual(context.flags, wanted.flags)
+        largest = apfloat.double.largest
+        self.assertEqual(apfloat.double.array([largest, largest, largest]).mean(), largest)
+        self.assertTrue(apfloat.half.array([1, math.nan]).mean().is_nan)
+        self.assertEqual(apfloat.half.array([1, -math.inf]).mean(), -math.inf)
+        with Context(apfloat.DOWNWARD):
+            self.assertTrue(apfloat.half.array([1, -1]).mean().is_negative)
+        for wrong in {'axis': 2}, {'dtype': float}, {'out': []}:
+            with self.assertRaises((ValueError, TypeError)):
+                apfloat.half.array([1, 2]).mean(**wrong)
+        with self.assertRaisesRegex(ValueError, 'no mean'):
+            apfloat.half.array([]).mean()
+
     def test_names(self):
         xs = apfloat.half.array([[1, 2, 3], [4, 5, 6]])
         self.assertEqual((xs.dtype, xs.nbytes), (apfloat.half, 12))
@@ -1219,9 +1293,6 @@ class TensorTests(unittest.TestCase):
                 open(os.path.join(HERE, 'pyproject.toml'), encoding='utf-8') as project:
             self.assertIn(f'#define APFLOAT_VERSION "{apfloat.__version__}"', header.read())
             self.assertIn(f'version = "{apfloat.__version__}"', project.read())
-        # There are no sums that are not exact.
-        for name in 'sum', 'mean', '__matmul__':
-            self.assertFalse(hasattr(xs, name))
 
     def test_limits(self):
         for format in FORMATS:

@@ -120,6 +120,23 @@ static apfloat_halves draw_value(uint32_t format, apfloat_halves before) {
     }
 }
 
+/* How many bytes a value takes in an array. */
+static uint32_t width_of(uint32_t format) {
+    uint32_t known = known_format(format), bytes = (bits_of[known] + 7) / 8;
+    return known == 0 ? 1 : bytes == 3 ? 4 : bytes;
+}
+
+/* Fills an array with values, of which each may be near the one before. Returns the last one. */
+static apfloat_halves draw_values(uint32_t format, apfloat_halves before, uint8_t *values, size_t size) {
+    uint32_t width = width_of(format);
+    for (size_t place = 0; place + width <= size; place += width) {
+        before = draw_value(format, before);
+        uint64_t words[2] = {before.low, before.high};
+        for (uint32_t byte = 0; byte < width; byte++) values[place + byte] = (uint8_t)(words[byte / 8] >> byte % 8 * 8);
+    }
+    return before;
+}
+
 /* The bits without those at and above the width of the format; once in sixteen times with them. */
 static apfloat_halves within(uint32_t format, apfloat_halves bits) {
     uint32_t known = format & 0xff;
@@ -200,7 +217,8 @@ static const char *const names[] = {
     "version",   "compare_predicate", "total_order", "extremum", "log_b", "scale_b", "integral", "to_format",
     "machine",   "read_decimal", "write_digits", "digit_count", "write_hex", "write_hex_rounded", "format_facts",
     "pair_to_format", "pair_from_format", "pair_fma", "pair_shortest", "augmented", "payload",
-    "convert_array", "map_array", "quantize_blocks", "dequantize_blocks", "pack_codes", "unpack_codes"};
+    "convert_array", "map_array", "quantize_blocks", "dequantize_blocks", "pack_codes", "unpack_codes",
+    "sum", "sum_abs", "sum_square", "dot"};
 #define KINDS (sizeof names / sizeof names[0])
 
 static void call_on_arrays(uint32_t kind) {
@@ -209,17 +227,11 @@ static void call_on_arrays(uint32_t kind) {
     apfloat_array_answer answer;
     uint32_t format = draw_format(), mode = draw_mode(), to = draw_format(), operation = below(10);
     if (kind == 0 && below(4) == 0) *(below(2) ? &format : &to) = draw_stored();
-    uint32_t known = known_format(format), bytes = (bits_of[known] + 7) / 8;
-    uint32_t width = known == 0 ? 1 : bytes == 3 ? 4 : bytes;
+    uint32_t width = width_of(format);
     uint32_t most = below(64 / width + 1);
     apfloat_halves before = {0, 0};
     for (size_t i = 0; i < 3; i++) {
-        for (size_t place = 0; place + width <= sizeof operands[i]; place += width) {
-            before = draw_value(format, before);
-            uint64_t words[2] = {before.low, before.high};
-            for (uint32_t byte = 0; byte < width; byte++)
-                operands[i][place + byte] = (uint8_t)(words[byte / 8] >> byte % 8 * 8);
-        }
+        before = draw_values(format, before, operands[i], sizeof operands[i]);
         lengths[i] = most * width;
     }
     memset(results, 0x5a, sizeof results);
@@ -242,16 +254,11 @@ static void call_on_blocks(uint32_t kind) {
     uint8_t values[256], scales[16], codes[16], packed[16];
     apfloat_array_answer answer;
     uint32_t format = draw_format(), mode = draw_mode(), element = draw_element();
-    uint32_t known = known_format(format), bytes = (bits_of[known] + 7) / 8;
-    uint32_t width = known == 0 ? 1 : bytes == 3 ? 4 : bytes;
+    uint32_t width = width_of(format);
     uint32_t length = below(6), blocks = below(4), count = length * blocks;
     uint32_t bits = element == APFLOAT_E2M1FN ? 4 : element < APFLOAT_E2M1FN ? 8 : 6;
     apfloat_halves before = {0, 0};
-    for (size_t place = 0; place + width <= sizeof values; place += width) {
-        before = draw_value(format, before);
-        uint64_t words[2] = {before.low, before.high};
-        for (uint32_t byte = 0; byte < width; byte++) values[place + byte] = (uint8_t)(words[byte / 8] >> byte % 8 * 8);
-    }
+    draw_values(format, before, values, sizeof values);
     uint32_t mask = below(16) == 0 ? 0xff : (1u << bits) - 1;
     for (size_t i = 0; i < sizeof codes; i++) {
         scales[i] = (uint8_t)(below(4) ? 119 + below(16) : draw());
@@ -281,6 +288,23 @@ static void call_on_blocks(uint32_t kind) {
     add_bytes(scales, sizeof scales);
     add_bytes(codes, sizeof codes);
     add_bytes(packed, sizeof packed);
+}
+
+static void call_for_sum(uint32_t kind) {
+    uint8_t operands[2][96];
+    uint32_t format = draw_format(), mode = draw_mode();
+    uint32_t width = width_of(format);
+    size_t length = below(sizeof operands[0] / width + 1) * width;
+    apfloat_halves before = {0, 0};
+    for (size_t i = 0; i < 2; i++)
+        before = draw_values(format, before, operands[i], sizeof operands[i]);
+    size_t first = below(16) == 0 ? below(96) : length, second = below(16) == 0 ? below(96) : first;
+    switch (kind) {
+    case 0: CALL(apfloat_sum, format, mode, operands[0], first); break;
+    case 1: CALL(apfloat_sum_abs, format, mode, operands[0], first); break;
+    case 2: CALL(apfloat_sum_square, format, mode, operands[0], first); break;
+    default: CALL(apfloat_dot, format, mode, operands[0], first, operands[1], second); break;
+    }
 }
 
 static void call_on_digits(uint32_t kind, uint32_t format, uint32_t mode, apfloat_halves x) {
@@ -402,7 +426,11 @@ static void call(size_t kind) {
     case 55: CALL(apfloat_payload, below(4), format, x); break;
     case 56:
     case 57: call_on_arrays((uint32_t)kind - 56); break;
-    default: call_on_blocks((uint32_t)kind - 58); break;
+    case 58:
+    case 59:
+    case 60:
+    case 61: call_on_blocks((uint32_t)kind - 58); break;
+    default: call_for_sum((uint32_t)kind - 62); break;
     }
 }
 

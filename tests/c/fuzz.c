@@ -372,6 +372,20 @@ static void arrays(void) {
     }
 }
 
+static void sums(void) {
+    uint32_t of = format();
+    area *xs = lend(0, fitting(below(3) ? below(20) : below(600), width_of(of)));
+    area *ys = below(4) ? lend(2, below(8) ? xs->length : below(40)) : xs;
+    remember();
+    switch (below(4)) {
+    case 0: ONE(apfloat_sum, of, mode(), LENT(xs)); break;
+    case 1: ONE(apfloat_sum_abs, of, mode(), LENT(xs)); break;
+    case 2: ONE(apfloat_sum_square, of, mode(), LENT(xs)); break;
+    default: ONE(apfloat_dot, of, mode(), LENT(xs), LENT(ys));
+    }
+    returned("a sum", 1, NULL, NULL, NULL);
+}
+
 int main(int count, char **words) {
     unsigned long calls = 0;
     time_t end = time(NULL) + (count > 2 ? atoi(words[2]) : 2);
@@ -384,6 +398,7 @@ int main(int count, char **words) {
         switch (below(8)) {
         case 0: arrays(); break;
         case 1: texts(); break;
+        case 2: sums(); break;
         default: values();
         }
     }

@@ -47,7 +47,7 @@ roomy source target given room fits =
 
 -- ---- calls that are not refused
 
-if_fitting_ok : {A : Type 0} (fits : Bool) (call known : A) → if_fitting fits call ≡ Ok known
+pub if_fitting_ok : {A : Type 0} (fits : Bool) (call known : A) → if_fitting fits call ≡ Ok known
     → (fits ≡ true) × (call ≡ known)
 if_fitting_ok true call known e = (refl, cc)
 if_fitting_ok false call known e = absurd (cc)
@@ -246,11 +246,12 @@ conversion_room source mode target given room conversion widths widths_are known
     subst (λ (w : Widths). AreRoomy w.source w.target given room) (sym widths_are)
     (conversion_fits source mode target given room conversion known_is)
 
-pub map_room : (kind : Option FlaggedKind) (mode : Option Round) (first second third room : ℕ) (map : MapCall)
-    (width : ℕ) → width ≡ bytes_in map.kind → IsKnownMap kind mode first second third room map
-    → AreRoomy width width first room
-map_room kind mode first second third room map width width_is known =
-    subst (λ (w : ℕ). AreRoomy w w first room) (sym width_is) known.roomy
+pub map_room : (kind : Option FlaggedKind) (mode : Option Round) (operation : Option ElementOperation)
+    (first second third room : ℕ) (map : MapCall) (width : ℕ) → width ≡ bytes_in map.kind
+    → known_map kind mode operation (first, second, third) room ≡ Ok map → AreRoomy width width first room
+map_room kind mode operation first second third room map width width_is known_is =
+    subst (λ (w : ℕ). AreRoomy w w first room) (sym width_is)
+    (map_is_known kind mode operation first second third room map known_is).roomy
 
 -- the bytes of the first operands are an integral number of elements
 pub first_whole : (first width bytes room : ℕ) → width ≡ bytes → AreRoomy width width first room

@@ -2,7 +2,7 @@
 use Rattle.std.proofs.Common.{◌≡◌, ℕ, ◌*◌, ◌%◌, ◌^◌, ◌<◌, List, [], ◌∷◌, length}
 use Rattle.std.proofs.Common.{Some, None, Ok, Err, refl, sym, ap}
 use Rattle.std.proofs.Common.{◌∙◌, subst, arith, lit≤}
-use Rattle.std.specs.Prelude.{⊤, All, Result}
+use Rattle.std.specs.Prelude.{⊤, All, Option, Result}
 use Rattle.apfloat_arrays.specs.declared.Counts.{Counts}
 use Rattle.apfloat_arrays.specs.Bytes.{AreBytes}
 use Rattle.small_formats.specs.declared.packing.PackingError.{PackingError}
@@ -10,6 +10,7 @@ use Rattle.small_formats.specs.declared.packing.PackingError.TheVariants.{Uneven
 use Rattle.small_formats.specs.packing.Laws.{ArePackedOnce}
 use Rattle.small_formats.specs.packing.Packed.{IsPackedBy, IsUnpackedBy}
 use Rattle.small_formats.proofs.packing_lemmas.All.{all_cons, all_none}
+use Rattle.small_formats.specs.declared.blocks.ElementFormat.{ElementFormat}
 use Rattle.small_formats.specs.declared.blocks.ElementFormat.TheVariants.{E5M2, E4M3FN, E3M2FN, E2M3FN, E2M1FN}
 use Rattle.small_formats.proofs.blocks_lemmas.OneBlock.{not_both}
 use Rattle.apfloat_arrays.specs.declared.scaled_blocks.ArrayError.{ArrayError}
@@ -18,7 +19,7 @@ use Rattle.apfloat_arrays.specs.declared.scaled_blocks.Quantization.{Quantizatio
 use Rattle.apfloat_arrays.specs.scaled_blocks.OneArray.{AreLeftIn}
 use Rattle.apfloat_arrays.proofs.scaled_blocks_lemmas.OneArray.{dequantized_once, quantized_once}
 use Rattle.apfloat_c.specs.declared.array_data.ArrayAnswer.{ArrayAnswer}
-use Rattle.apfloat_c.specs.Blocks.{IsDequantizedReply, IsPackedReply, IsQuantizedReply, IsReply, IsUnpackedReply}
+use Rattle.apfloat_c.specs.Blocks.{IsDequantizedReply, IsPackingCall, IsPackingReply, IsQuantizedReply, IsReply}
 use Rattle.apfloat_c.specs.Blocks.{packing_code}
 use Rattle.apfloat_c.specs.OneAnswer.{IsDequantizedCallOnce, IsLeftIn, IsPackedCallOnce, IsQuantizedCallOnce}
 use Rattle.apfloat_c.specs.OneAnswer.{IsUnpackedCallOnce}
@@ -123,25 +124,6 @@ packed_once once bits group codes old first second (Err CodeTooWide) (Err Length
 packed_once once bits group codes old first second (Err CodeTooWide) (Err CodeTooWide) fill a b x y =
     (x.3 ∙ sym y.3, refl)
 
-packed_reply_once : ArePackedOnce → (bits group : ℕ) (codes old first second : List ℕ) (code other : ℕ)
-    → FillGroups bits group → IsLeftIn old first → IsLeftIn old second
-    → IsPackedReply bits group codes old first code → IsPackedReply bits group codes old second other
-    → (code ≡ other) × (first ≡ second)
-packed_reply_once once bits group codes old first second code other fill a b x y =
-    let same = packed_once once bits group codes old first second x.made y.made fill a b x.is_made y.is_made in
-    (x.code_is ∙ ap packing_code same.1 ∙ sym y.code_is, same.0)
-
-pub packed_call_once : ArePackedOnce → IsPackedCallOnce
-packed_call_once once None codes old first second code other a b x y = (x.0 ∙ sym y.0, x.1 ∙ sym y.1)
-packed_call_once once (Some E5M2) codes old first second code other a b x y = (x.0 ∙ sym y.0, x.1 ∙ sym y.1)
-packed_call_once once (Some E4M3FN) codes old first second code other a b x y = (x.0 ∙ sym y.0, x.1 ∙ sym y.1)
-packed_call_once once (Some E3M2FN) codes old first second code other a b x y =
-    packed_reply_once once 6 4 codes old first second code other sixes_fill a b x y
-packed_call_once once (Some E2M3FN) codes old first second code other a b x y =
-    packed_reply_once once 6 4 codes old first second code other sixes_fill a b x y
-packed_call_once once (Some E2M1FN) codes old first second code other a b x y =
-    packed_reply_once once 4 2 codes old first second code other fours_fill a b x y
-
 -- ---- codes taken out
 
 unpacked_once : ArePackedOnce → (bits group : ℕ) (bytes old first second : List ℕ)
@@ -167,22 +149,47 @@ unpacked_once once bits group bytes old first second (Err Lengths) (Err Lengths)
 unpacked_once once bits group bytes old first second made (Err CodeTooWide) some fill a b x y = absurd y
 unpacked_once once bits group bytes old first second (Err CodeTooWide) again some fill a b x y = absurd x
 
-unpacked_reply_once : ArePackedOnce → (bits group : ℕ) (bytes old first second : List ℕ) (code other : ℕ)
-    → 0 < bits → FillGroups bits group → IsLeftIn old first → IsLeftIn old second
-    → IsUnpackedReply bits group bytes old first code → IsUnpackedReply bits group bytes old second other
+-- ---- calls
+
+-- of what was lent, one content is left, and one value returned
+abbrev LeavesOne : (List ℕ → List ℕ → List ℕ → Result ⊤ PackingError → Type 0) → Type 0
+LeavesOne Says =
+    (given old first second : List ℕ) (made again : Result ⊤ PackingError) → IsLeftIn old first
+    → IsLeftIn old second → Says given old first made → Says given old second again
+    → (first ≡ second) × (made ≡ again)
+
+reply_once : (Says : List ℕ → List ℕ → List ℕ → Result ⊤ PackingError → Type 0) → LeavesOne Says
+    → (given old first second : List ℕ) (code other : ℕ) → IsLeftIn old first → IsLeftIn old second
+    → IsPackingReply Says given old first code → IsPackingReply Says given old second other
     → (code ≡ other) × (first ≡ second)
-unpacked_reply_once once bits group bytes old first second code other some fill a b x y =
-    let same = unpacked_once once bits group bytes old first second x.made y.made some fill a.size b.size x.is_made
-    y.is_made in
+reply_once Says one given old first second code other a b x y =
+    let same = one given old first second x.made y.made a b x.is_made y.is_made in
     (x.code_is ∙ ap packing_code same.1 ∙ sym y.code_is, same.0)
 
+call_once : (Says : ℕ → ℕ → List ℕ → List ℕ → List ℕ → Result ⊤ PackingError → Type 0)
+    → LeavesOne (Says 6 4) → LeavesOne (Says 4 2) → (element : Option ElementFormat)
+    (given old first second : List ℕ) (code other : ℕ)
+    → IsLeftIn old first → IsLeftIn old second → IsPackingCall Says element given old first code
+    → IsPackingCall Says element given old second other → (code ≡ other) × (first ≡ second)
+call_once Says sixes fours None given old first second code other a b x y = (x.0 ∙ sym y.0, x.1 ∙ sym y.1)
+call_once Says sixes fours (Some E5M2) given old first second code other a b x y = (x.0 ∙ sym y.0, x.1 ∙ sym y.1)
+call_once Says sixes fours (Some E4M3FN) given old first second code other a b x y = (x.0 ∙ sym y.0, x.1 ∙ sym y.1)
+call_once Says sixes fours (Some E3M2FN) given old first second code other a b x y =
+    reply_once (Says 6 4) sixes given old first second code other a b x y
+call_once Says sixes fours (Some E2M3FN) given old first second code other a b x y =
+    reply_once (Says 6 4) sixes given old first second code other a b x y
+call_once Says sixes fours (Some E2M1FN) given old first second code other a b x y =
+    reply_once (Says 4 2) fours given old first second code other a b x y
+
+pub packed_call_once : ArePackedOnce → IsPackedCallOnce
+packed_call_once once =
+    call_once IsPackedBy (λ codes old first second made again. packed_once once 6 4 codes old first second made again
+    sixes_fill)
+    (λ codes old first second made again. packed_once once 4 2 codes old first second made again fours_fill)
+
 pub unpacked_call_once : ArePackedOnce → IsUnpackedCallOnce
-unpacked_call_once once None bytes old first second code other a b x y = (x.0 ∙ sym y.0, x.1 ∙ sym y.1)
-unpacked_call_once once (Some E5M2) bytes old first second code other a b x y = (x.0 ∙ sym y.0, x.1 ∙ sym y.1)
-unpacked_call_once once (Some E4M3FN) bytes old first second code other a b x y = (x.0 ∙ sym y.0, x.1 ∙ sym y.1)
-unpacked_call_once once (Some E3M2FN) bytes old first second code other a b x y =
-    unpacked_reply_once once 6 4 bytes old first second code other (lit≤ tt) sixes_fill a b x y
-unpacked_call_once once (Some E2M3FN) bytes old first second code other a b x y =
-    unpacked_reply_once once 6 4 bytes old first second code other (lit≤ tt) sixes_fill a b x y
-unpacked_call_once once (Some E2M1FN) bytes old first second code other a b x y =
-    unpacked_reply_once once 4 2 bytes old first second code other (lit≤ tt) fours_fill a b x y
+unpacked_call_once once =
+    call_once IsUnpackedBy (λ bytes old first second made again a b. unpacked_once once 6 4 bytes old first second made
+    again (lit≤ tt) sixes_fill a.size b.size)
+    (λ bytes old first second made again a b. unpacked_once once 4 2 bytes old first second made again (lit≤ tt)
+    fours_fill a.size b.size)

@@ -62,9 +62,9 @@ left_once format mode bits before after also old a b code other x y =
     (answers.0, once.0, answers.1)
 
 pub digits_once : AreDigitsWrittenOnce
-digits_once (Err error) bits before after also old a b code other x y =
+digits_once (Err error) bits before old after also a b code other x y =
     (x.0 ∙ sym y.0, x.1 ∙ sym y.1, unchanged old a b x.2 y.2)
-digits_once (Ok known) bits before after also old a b code other x y =
+digits_once (Ok known) bits before old after also a b code other x y =
     left_once known.format known.mode bits before after also old a b code other x y
 
 pub count_given_once : IsCountGivenOnce
@@ -107,9 +107,9 @@ hex_once text before after also (Err NoRoomForText) (Err TooManyDigits) old a b 
 hex_once text before after also (Err TooManyDigits) more old a b code other x y t u = absurd x
 
 pub hex_put_once : IsHexPutOnce
-hex_put_once (Err error) bits before after also old a b code other x y =
+hex_put_once (Err error) bits before old after also a b code other x y =
     (x.0 ∙ sym y.0, x.1 ∙ sym y.1, unchanged old a b x.2 y.2)
-hex_put_once (Ok format) bits before after also old a b code other x y =
+hex_put_once (Ok format) bits before old after also a b code other x y =
     let c = constants_in format in
     let same = one_full (format_with c) (value_of c bits) x.is_hex.text y.is_hex.text x.is_hex.is_text
     y.is_hex.is_text in
@@ -149,9 +149,9 @@ rounded_once f mode places d before after also (Err TooManyDigits) (Err TooManyD
     (t.0 ∙ sym u.0, x.1 ∙ sym y.1, unchanged old a b t.1 u.1)
 
 pub rounded_hex_put_once : IsRoundedHexPutOnce
-rounded_hex_put_once (Err error) places bits before after also old a b code other x y =
+rounded_hex_put_once (Err error) places bits before old after also a b code other x y =
     (x.0 ∙ sym y.0, x.1 ∙ sym y.1, unchanged old a b x.2 y.2)
-rounded_hex_put_once (Ok known) places bits before after also old a b code other x y =
+rounded_hex_put_once (Ok known) places bits before old after also a b code other x y =
     let c = constants_in known.format in
     rounded_once (format_with c) known.mode places (value_of c bits) before after also x.answer y.answer old a b code
     other x.is_hex y.is_hex x.told y.told

@@ -1,16 +1,19 @@
 -- An operation of IEEE 754-2019 leaves one code and one result.
-use Rattle.std.proofs.Common.{Bool, true, false, Some, None, sym, ap, ◌∙◌}
+use Rattle.std.proofs.Common.{ℕ, Bool, true, false, Some, None, sym, ap, ◌∙◌}
 use Rattle.rustc_apfloat.specs.declared.Round.{Round}
 use Rattle.rustc_apfloat.specs.declared.StatusAnd.{StatusAnd}
 use Rattle.rustc_apfloat.specs.Datum.{Datum}
 use Rattle.rustc_apfloat.specs.Determined.{Determines}
-use Rattle.rustc_apfloat.specs.Flags.{bits_of}
+use Rattle.apfloat_model.specs.Determined.{DeterminesBoth}
+use Rattle.rustc_apfloat.specs.Flags.{Gives, bits_of}
+use Rattle.rustc_apfloat.specs.Format.{Format}
 use Rattle.rustc_apfloat.specs.Lawful.{Constants, format_with}
 use Rattle.apfloat_model.proofs.Determined.{gives_once, same_answer}
 use Rattle.ieee_operations.specs.declared.extrema.Extremum.{Extremum}
 use Rattle.ieee_operations.proofs.OneAnswer.{compared_once}
 use Rattle.ieee_operations.proofs.IntegralOnce.{rounded_to_integral_once}
 use Rattle.ieee_operations.proofs.Logarithms.{log_b_once, scaled_once}
+use Rattle.apfloat_arithmetic.specs.other_formats.FormatOf.{IsSumTo, IsDifferenceTo, IsProductTo, IsQuotientTo}
 use Rattle.apfloat_arithmetic.specs.other_formats.Theorems.{HasOneSum, HasOneDifference, HasOneProduct, HasOneQuotient}
 use Rattle.apfloat_arithmetic.specs.other_formats.Theorems.{HasOneFusedSum, HasOneRoot}
 use Rattle.formats_at_run_time.specs.declared.FlaggedKind.TheVariants.{OfFormat, Pairs}
@@ -75,25 +78,22 @@ pub record EachHasOne : Type 0 where
   pub fused_sum : HasOneFusedSum
   pub root : HasOneRoot
 
+of_two_once : (Says : Format → Format → Format → Round → Datum → Datum → Datum → ℕ → Type 0)
+    → ((f h g : Format) (mode : Round) (x y : Datum) → DeterminesBoth (Says f h g mode x y))
+    → (from c : Constants) → HasLaw c → (mode : Round) (x y : ℕ)
+    → OnceAnswer (IsValue (in_format c) (λ given.
+    Gives (Says (format_with from) (format_with from) (format_with c) mode (value_of from x) (value_of from y)) given))
+of_two_once Says one from c has mode x y =
+    let f = format_with from in
+    in_format_once c has mode _ (gives_once _ (one f f (format_with c) mode (value_of from x) (value_of from y)))
+
 -- the result in a lawful format of a call on values of another
 in_another_once : EachHasOne → (from c : Constants) (has : HasLaw c) (mode : Round) (call : InAnotherCall)
     → OnceAnswer (IsInAnotherFormat from c mode call)
-in_another_once one from c has mode (SumTo x y) =
-    let f = format_with from in
-    in_format_once c has mode _
-    (gives_once _ (one.sum f f (format_with c) mode (value_of from x) (value_of from y)))
-in_another_once one from c has mode (DifferenceTo x y) =
-    let f = format_with from in
-    in_format_once c has mode _
-    (gives_once _ (one.difference f f (format_with c) mode (value_of from x) (value_of from y)))
-in_another_once one from c has mode (ProductTo x y) =
-    let f = format_with from in
-    in_format_once c has mode _
-    (gives_once _ (one.product f f (format_with c) mode (value_of from x) (value_of from y)))
-in_another_once one from c has mode (QuotientTo x y) =
-    let f = format_with from in
-    in_format_once c has mode _
-    (gives_once _ (one.quotient f f (format_with c) mode (value_of from x) (value_of from y)))
+in_another_once one from c has mode (SumTo x y) = of_two_once IsSumTo one.sum from c has mode x y
+in_another_once one from c has mode (DifferenceTo x y) = of_two_once IsDifferenceTo one.difference from c has mode x y
+in_another_once one from c has mode (ProductTo x y) = of_two_once IsProductTo one.product from c has mode x y
+in_another_once one from c has mode (QuotientTo x y) = of_two_once IsQuotientTo one.quotient from c has mode x y
 in_another_once one from c has mode (FusedSumTo x y z) =
     let f = format_with from in
     in_format_once c has mode _

@@ -19,3 +19,4 @@ pub mod AugmentedOnce
 pub mod StorageModes
 pub mod StorageOnce
 pub mod StorageModesOnce
+pub mod ExactSums

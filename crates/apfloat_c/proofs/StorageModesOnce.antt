@@ -1,5 +1,5 @@
 -- A call that rounds into a storage format by a mode of conversions has one answer.
-use Rattle.std.proofs.Common.{◌≡◌, ℕ, ◌*◌, List, take, Ok, Err, sym, ap, subst, ◌∙◌, mul-one}
+use Rattle.std.proofs.Common.{◌≡◌, ℕ, List, take, Ok, Err, sym, ap, subst, ◌∙◌, mul-one}
 use Rattle.rustc_apfloat.specs.Flags.{bits_of}
 use Rattle.apfloat_arrays.specs.declared.Counts.{Counts}
 use Rattle.apfloat_arrays.specs.declared.Outcome.{Outcome}

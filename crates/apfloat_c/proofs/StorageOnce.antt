@@ -1,5 +1,5 @@
 -- A call that converts one value into a storage format or out of it has one answer.
-use Rattle.std.proofs.Common.{◌≡◌, ℕ, Bool, Ok, Err, sym, ap, ◌∙◌}
+use Rattle.std.proofs.Common.{◌≡◌, ℕ, Ok, Err, sym, ap, ◌∙◌}
 use Rattle.rustc_apfloat.specs.Flags.{bits_of}
 use Rattle.apfloat_arrays.specs.declared.Outcome.{Outcome}
 use Rattle.apfloat_arrays.specs.declared.stored.StorageArray.{StorageArray}

@@ -1,6 +1,7 @@
 -- What calls on arrays leave.
-use Rattle.std.specs.Prelude.{◌≡◌, ℕ, ◌+◌, ◌-◌, ◌*◌, ◌/◌, ◌^◌, ◌<◌, ◌==◌, bit_and, Bool, not, if◌then◌else◌, List}
-use Rattle.std.specs.Prelude.{length, take, drop, count_by, Result, Ok, Err}
+use Rattle.std.specs.Prelude.{◌≡◌, ℕ, ◌+◌, ◌-◌, ◌*◌, ◌/◌, ◌^◌, ◌<◌, ◌⊎◌, ◌==◌}
+use Rattle.std.specs.Prelude.{bit_and, Bool, not, if◌then◌else◌, List, length, take, drop, count_by, Result, Ok}
+use Rattle.std.specs.Prelude.{Err}
 use Rattle.rustc_apfloat.specs.Classes.{is_nan, is_nan_category}
 use Rattle.rustc_apfloat.specs.Datum.{Datum}
 use Rattle.rustc_apfloat.specs.Lawful.{Constants, format_with}
@@ -13,6 +14,7 @@ use Rattle.rustc_apfloat.specs.declared.Round.{Round}
 use Rattle.formats_at_run_time.specs.declared.Arithmetic.{Arithmetic}
 use Rattle.formats_at_run_time.specs.declared.Arithmetic.TheVariants.{Sum, Difference, Product, Quotient}
 use Rattle.formats_at_run_time.specs.declared.Arithmetic.TheVariants.{NearestRemainder, TruncatedRemainder}
+use Rattle.formats_at_run_time.specs.declared.FlaggedKind.{FlaggedKind}
 use Rattle.formats_at_run_time.specs.BuiltIns.{constants_in}
 use Rattle.formats_at_run_time.specs.FlaggedKinds.{flagged_constants, flagged_kind_of}
 use Rattle.formats_at_run_time.specs.ValueKinds.{Kind, of_format, of_pairs, value_of}
@@ -160,7 +162,16 @@ relation_of_two c Quotient mode x y = IsQuotient (format_with c) mode x y
 relation_of_two c NearestRemainder mode x y = IsNearestRemainder (format_with c) x y
 relation_of_two c TruncatedRemainder mode x y = IsTruncatedRemainder (format_with c) x y
 
--- the operands of an index; an operand that the operation does not take has no bytes
+-- The operands of an operation on `count` elements, and the room for its results, each of which takes `width` bytes. An
+-- operand that the operation does not take has none.
+pub record AreOperands (kind : FlaggedKind) (width count : ℕ) (xs ys zs output : List ℕ) : Type 0 where
+  pub width_is : width ≡ bytes_in kind
+  pub xs_are : length xs ≡ count * width
+  pub ys_are : (length ys ≡ 0) ⊎ (length ys ≡ count * width)
+  pub zs_are : (length zs ≡ 0) ⊎ (length zs ≡ count * width)
+  pub output_is : length output ≡ count * width
+
+-- the operands of an index
 abbrev pub IsElementAt : MapCall → List ℕ → List ℕ → List ℕ → ℕ → List ℕ → Element → Type 0
 IsElementAt map xs ys zs index bytes element =
     IsElement map (number_of (value_at (bytes_in map.kind) index xs))

@@ -8,13 +8,12 @@ use Rattle.formats_at_run_time.specs.declared.FlaggedKind.TheVariants.{OfFormat,
 use Rattle.formats_at_run_time.specs.FlaggedKinds.{format_without_rule}
 use Rattle.apfloat_arrays.specs.declared.Counts.{Counts}
 use Rattle.small_formats.specs.declared.packing.PackingError.{PackingError}
-use Rattle.small_formats.specs.declared.packing.PackingError.TheVariants.{Uneven as UnevenCodes, Lengths as CodeLengths}
 use Rattle.small_formats.specs.declared.packing.PackingError.TheVariants.{CodeTooWide as WideCode}
 use Rattle.small_formats.specs.packing.Packed.{IsPackedBy, IsUnpackedBy}
 use Rattle.small_formats.specs.declared.blocks.ElementFormat.{ElementFormat}
 use Rattle.small_formats.specs.declared.blocks.ElementFormat.TheVariants.{E5M2, E4M3FN, E3M2FN, E2M3FN, E2M1FN}
 use Rattle.apfloat_arrays.specs.declared.scaled_blocks.ArrayError.{ArrayError}
-use Rattle.apfloat_arrays.specs.declared.scaled_blocks.ArrayError.TheVariants.{EmptyBlock, Uneven, Lengths, CodeTooWide}
+use Rattle.apfloat_arrays.specs.declared.scaled_blocks.ArrayError.TheVariants.{CodeTooWide}
 use Rattle.apfloat_arrays.specs.declared.scaled_blocks.Quantization.{Quantization}
 use Rattle.apfloat_arrays.specs.declared.scaled_blocks.Dequantization.{Dequantization}
 use Rattle.apfloat_arrays.specs.scaled_blocks.Dequantized.{IsDequantizedArray, width_out}
@@ -38,15 +37,12 @@ element_coded code =
     else None
 
 abbrev pub array_error : ArrayError → ℕ
-array_error EmptyBlock = wrong_length
-array_error Uneven = wrong_length
-array_error Lengths = wrong_length
 array_error CodeTooWide = wide_operand
+array_error error = wrong_length
 
 abbrev pub packing_error : PackingError → ℕ
-packing_error UnevenCodes = wrong_length
-packing_error CodeLengths = wrong_length
 packing_error WideCode = wide_operand
+packing_error error = wrong_length
 
 -- ---- what is asked for
 
@@ -116,29 +112,25 @@ abbrev pub packing_code : Result ⊤ PackingError → ℕ
 packing_code (Ok done) = answered
 packing_code (Err error) = packing_error error
 
-pub record IsPackedReply (bits group : ℕ) (codes before after : List ℕ) (code : ℕ) : Type 0 where
+-- what packing, or taking out, leaves, by the relation of what it returns
+pub record IsPackingReply (Says : List ℕ → List ℕ → List ℕ → Result ⊤ PackingError → Type 0)
+    (given before after : List ℕ) (code : ℕ) : Type 0 where
   pub made : Result ⊤ PackingError
-  pub is_made : IsPackedBy bits group codes before after made
+  pub is_made : Says given before after made
   pub code_is : code ≡ packing_code made
 
--- codes of 4 and 6 bits alone are packed
+-- codes of 4 and 6 bits alone are packed, in groups that fill whole bytes
+abbrev pub IsPackingCall : (ℕ → ℕ → List ℕ → List ℕ → List ℕ → Result ⊤ PackingError → Type 0)
+    → Option ElementFormat → List ℕ → List ℕ → List ℕ → ℕ → Type 0
+IsPackingCall Says None given before after code = (code ≡ unknown_format) × (after ≡ before)
+IsPackingCall Says (Some E5M2) given before after code = (code ≡ no_such_operation) × (after ≡ before)
+IsPackingCall Says (Some E4M3FN) given before after code = (code ≡ no_such_operation) × (after ≡ before)
+IsPackingCall Says (Some E3M2FN) given before after code = IsPackingReply (Says 6 4) given before after code
+IsPackingCall Says (Some E2M3FN) given before after code = IsPackingReply (Says 6 4) given before after code
+IsPackingCall Says (Some E2M1FN) given before after code = IsPackingReply (Says 4 2) given before after code
+
 abbrev pub IsPackedCall : Option ElementFormat → List ℕ → List ℕ → List ℕ → ℕ → Type 0
-IsPackedCall None codes before after code = (code ≡ unknown_format) × (after ≡ before)
-IsPackedCall (Some E5M2) codes before after code = (code ≡ no_such_operation) × (after ≡ before)
-IsPackedCall (Some E4M3FN) codes before after code = (code ≡ no_such_operation) × (after ≡ before)
-IsPackedCall (Some E3M2FN) codes before after code = IsPackedReply 6 4 codes before after code
-IsPackedCall (Some E2M3FN) codes before after code = IsPackedReply 6 4 codes before after code
-IsPackedCall (Some E2M1FN) codes before after code = IsPackedReply 4 2 codes before after code
-
-pub record IsUnpackedReply (bits group : ℕ) (bytes before after : List ℕ) (code : ℕ) : Type 0 where
-  pub made : Result ⊤ PackingError
-  pub is_made : IsUnpackedBy bits group bytes before after made
-  pub code_is : code ≡ packing_code made
+IsPackedCall element codes before after code = IsPackingCall IsPackedBy element codes before after code
 
 abbrev pub IsUnpackedCall : Option ElementFormat → List ℕ → List ℕ → List ℕ → ℕ → Type 0
-IsUnpackedCall None bytes before after code = (code ≡ unknown_format) × (after ≡ before)
-IsUnpackedCall (Some E5M2) bytes before after code = (code ≡ no_such_operation) × (after ≡ before)
-IsUnpackedCall (Some E4M3FN) bytes before after code = (code ≡ no_such_operation) × (after ≡ before)
-IsUnpackedCall (Some E3M2FN) bytes before after code = IsUnpackedReply 6 4 bytes before after code
-IsUnpackedCall (Some E2M3FN) bytes before after code = IsUnpackedReply 6 4 bytes before after code
-IsUnpackedCall (Some E2M1FN) bytes before after code = IsUnpackedReply 4 2 bytes before after code
+IsUnpackedCall element bytes before after code = IsPackingCall IsUnpackedBy element bytes before after code

@@ -133,12 +133,16 @@ IsRoundedHexPut (Ok known) places bits before after old new code =
 
 -- ---- one answer
 
+-- one code, one text and one answer
+abbrev pub LeavesOneText : (List ℕ → Answer → ℕ → Type 0) → Type 0
+LeavesOneText Says =
+    (after also : List ℕ) (first second : Answer) (code other : ℕ) → Says after first code
+    → Says also second other → (code ≡ other) × (after ≡ also) × SameAnswer first second
+
 abbrev pub AreDigitsWrittenOnce : Type 0
 AreDigitsWrittenOnce =
-    (known : Result KnownWriting ℕ) (bits : ℕ) (before after also : List ℕ) (old first second : Answer)
-    (code other : ℕ) → AreDigitsWritten known bits before after old first code
-    → AreDigitsWritten known bits before also old second other
-    → (code ≡ other) × (after ≡ also) × SameAnswer first second
+    (known : Result KnownWriting ℕ) (bits : ℕ) (before : List ℕ) (old : Answer)
+    → LeavesOneText (λ after new code. AreDigitsWritten known bits before after old new code)
 
 abbrev pub IsCountGivenOnce : Type 0
 IsCountGivenOnce =
@@ -148,14 +152,10 @@ IsCountGivenOnce =
 
 abbrev pub IsHexPutOnce : Type 0
 IsHexPutOnce =
-    (format : Result BuiltInFormat ℕ) (bits : ℕ) (before after also : List ℕ) (old first second : Answer)
-    (code other : ℕ) → IsHexPut format bits before after old first code
-    → IsHexPut format bits before also old second other
-    → (code ≡ other) × (after ≡ also) × SameAnswer first second
+    (format : Result BuiltInFormat ℕ) (bits : ℕ) (before : List ℕ) (old : Answer)
+    → LeavesOneText (λ after new code. IsHexPut format bits before after old new code)
 
 abbrev pub IsRoundedHexPutOnce : Type 0
 IsRoundedHexPutOnce =
-    (known : Result KnownWriting ℕ) (places bits : ℕ) (before after also : List ℕ) (old first second : Answer)
-    (code other : ℕ) → IsRoundedHexPut known places bits before after old first code
-    → IsRoundedHexPut known places bits before also old second other
-    → (code ≡ other) × (after ≡ also) × SameAnswer first second
+    (known : Result KnownWriting ℕ) (places bits : ℕ) (before : List ℕ) (old : Answer)
+    → LeavesOneText (λ after new code. IsRoundedHexPut known places bits before after old new code)

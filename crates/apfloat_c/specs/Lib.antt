@@ -12,3 +12,4 @@ pub mod Pairs
 pub mod Augmented
 pub mod StorageValues
 pub mod StorageModes
+pub mod Reductions

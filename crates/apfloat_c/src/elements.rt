@@ -1,6 +1,6 @@
 //! Operations on arrays, element by element. The type of their values is found once for an array.
 
-ghost use Rattle.std.specs.Prelude.{◌≡◌, ◌⊎◌, ◌+◌, ◌*◌, ◌<◌, ◌≤◌, length, slice_range, true};
+ghost use Rattle.std.specs.Prelude.{◌≡◌, ◌⊎◌, ◌+◌, ◌<◌, ◌≤◌, length, slice_range, true};
 ghost use Rattle.rustc_apfloat.specs.FlaggedTypes.{constants_of};
 ghost use Rattle.formats_at_run_time.specs.declared.FlaggedKind.TheVariants.{Pairs};
 ghost use Rattle.formats_at_run_time.specs.FlaggedKinds.{flagged_kind_of};
@@ -9,7 +9,7 @@ ghost use Rattle.apfloat_arrays.specs.Bytes.{number_of};
 ghost use Rattle.apfloat_c.specs.declared.array_calls.MapCall.{MapCall};
 ghost use Rattle.coded_calls.specs.Answers.{IsKindAnswer};
 ghost use Rattle.apfloat_c.specs.ArrayCalls.{bytes_in, has_element_operation};
-ghost use Rattle.apfloat_c.specs.Arrays.{AreElements, IsElement, call_of, is_nan_in};
+ghost use Rattle.apfloat_c.specs.Arrays.{AreElements, AreOperands, IsElement, call_of, is_nan_in};
 
 use crate::array_calls::{ElementOperation, MapCall, bytes_in};
 use crate::array_data::{Element, ElementCounts};
@@ -211,12 +211,8 @@ fn elements<C: ElementCalls>(
     output: &mut [u8],
 ) -> ElementCounts
     requires can { C.can calls }
-    requires width { width ≡ bytes_in (C.map calls).kind }
+    requires operands { AreOperands (C.map calls).kind width count xs.now ys.now zs.now output.old }
     requires few { width ≤ 16 }
-    requires xs { length xs.now ≡ count * width }
-    requires ys { (length ys.now ≡ 0) ⊎ (length ys.now ≡ count * width) }
-    requires zs { (length zs.now ≡ 0) ⊎ (length zs.now ≡ count * width) }
-    requires output { length output.old ≡ count * width }
     ensures { AreElements (C.map calls) xs.now ys.now zs.now count output.new result }
 {
     let mut counted = ElementCounts::NONE;
@@ -243,47 +239,15 @@ pub fn elements_apart<C: ElementCalls>(
     output: &mut [u8],
 ) -> ElementCounts
     requires can { C.can calls }
-    requires width { width ≡ bytes_in (C.map calls).kind }
+    requires operands { AreOperands (C.map calls).kind width count xs.now ys.now zs.now output.old }
     requires few { width ≤ 16 }
-    requires xs { length xs.now ≡ count * width }
-    requires ys { (length ys.now ≡ 0) ⊎ (length ys.now ≡ count * width) }
-    requires zs { (length zs.now ≡ 0) ⊎ (length zs.now ≡ count * width) }
-    requires output { length output.old ≡ count * width }
     ensures { AreElements (C.map calls) xs.now ys.now zs.now count output.new result }
 {
     elements(calls, width, xs, ys, zs, count, output)
 }
 
-/// `elements` if a value has the fewest bytes that the format `S` fits in, which are then a constant that the loop over
-/// values knows, and otherwise `elements_apart`.
-#[inline(always)]
-fn elements_by_calls<S: Flagged>(
-    calls: FormatCalls<S>,
-    width: usize,
-    xs: &[u8],
-    ys: &[u8],
-    zs: &[u8],
-    count: usize,
-    output: &mut [u8],
-) -> ElementCounts
-    requires format { S.PRECISION < S.BITS }
-    requires kind { of_format (constants_of S.Flagged) ≡ flagged_kind_of calls.map.kind }
-    requires width { width ≡ bytes_in calls.map.kind }
-    requires few { width ≤ 16 }
-    requires xs { length xs.now ≡ count * width }
-    requires ys { (length ys.now ≡ 0) ⊎ (length ys.now ≡ count * width) }
-    requires zs { (length zs.now ≡ 0) ⊎ (length zs.now ≡ count * width) }
-    requires output { length output.old ≡ count * width }
-    ensures { AreElements calls.map xs.now ys.now zs.now count output.new result }
-{
-    if width == S::BITS.div_ceil(8) {
-        elements(calls, S::BITS.div_ceil(8), xs, ys, zs, count, output)
-    } else {
-        elements_apart(calls, width, xs, ys, zs, count, output)
-    }
-}
-
 /// Applies the operation to each element in the format `S`, where sums, differences and products have their own loops.
+/// If a value has the fewest bytes that the format fits in, these are a constant that the loop over values knows.
 #[inline(always)]
 fn elements_in_format<S: Flagged>(
     calls: FormatCalls<S>,
@@ -296,12 +260,8 @@ fn elements_in_format<S: Flagged>(
 ) -> ElementCounts
     requires format { S.PRECISION < S.BITS }
     requires kind { of_format (constants_of S.Flagged) ≡ flagged_kind_of calls.map.kind }
-    requires width { width ≡ bytes_in calls.map.kind }
+    requires operands { AreOperands calls.map.kind width count xs.now ys.now zs.now output.old }
     requires few { width ≤ 16 }
-    requires xs { length xs.now ≡ count * width }
-    requires ys { (length ys.now ≡ 0) ⊎ (length ys.now ≡ count * width) }
-    requires zs { (length zs.now ≡ 0) ⊎ (length zs.now ≡ count * width) }
-    requires output { length output.old ≡ count * width }
     ensures { AreElements calls.map xs.now ys.now zs.now count output.new result }
 {
     match calls.map.operation {
@@ -314,7 +274,11 @@ fn elements_in_format<S: Flagged>(
         ElementOperation::OfTwo(Arithmetic::Product) => {
             normal_elements(NormalProduct, calls, width, xs, ys, zs, count, output)
         }
-        _ => elements_by_calls(calls, width, xs, ys, zs, count, output),
+        _ => if width == S::BITS.div_ceil(8) {
+            elements(calls, S::BITS.div_ceil(8), xs, ys, zs, count, output)
+        } else {
+            elements_apart(calls, width, xs, ys, zs, count, output)
+        },
     }
 }
 
@@ -332,12 +296,8 @@ struct ArraysCall<'a> {
 impl WritesInFormat for ArraysCall<'_> {
     type Output = ElementCounts;
 
-    ghost can = { λ it kind old. (kind ≡ flagged_kind_of it.map.kind)
-        × (it.width ≡ bytes_in it.map.kind) × (it.width ≤ 16)
-        × (length it.xs.now ≡ it.count * it.width)
-        × ((length it.ys.now ≡ 0) ⊎ (length it.ys.now ≡ it.count * it.width))
-        × ((length it.zs.now ≡ 0) ⊎ (length it.zs.now ≡ it.count * it.width))
-        × (length old ≡ it.count * it.width) };
+    ghost can = { λ it kind old. (kind ≡ flagged_kind_of it.map.kind) × (it.width ≤ 16)
+        × AreOperands it.map.kind it.width it.count it.xs.now it.ys.now it.zs.now old };
 
     ghost gives = { λ it kind old new counted.
         AreElements it.map it.xs.now it.ys.now it.zs.now it.count new counted };
@@ -370,10 +330,8 @@ impl MapCall {
         output: &mut [u8],
     ) -> ElementCounts
         requires has { has_element_operation self.kind self.operation ≡ true }
-        requires xs { length xs.now ≡ count * bytes_in self.kind }
-        requires ys { (length ys.now ≡ 0) ⊎ (length ys.now ≡ count * bytes_in self.kind) }
-        requires zs { (length zs.now ≡ 0) ⊎ (length zs.now ≡ count * bytes_in self.kind) }
-        requires output { length output.old ≡ count * bytes_in self.kind }
+        requires operands { AreOperands self.kind (bytes_in self.kind) count xs.now ys.now zs.now
+            output.old }
         ensures { AreElements self xs.now ys.now zs.now count output.new result }
     {
         let width = bytes_in(self.kind);

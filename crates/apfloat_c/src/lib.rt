@@ -24,6 +24,7 @@ mod one_answer;
 mod operation_tables;
 mod pairs;
 mod readings;
+mod reductions;
 mod storage_modes;
 mod storage_one_answer;
 mod storage_values;

@@ -6,10 +6,11 @@ ghost use Rattle.formats_at_run_time.specs.Modes.{mode_coded};
 ghost use Rattle.apfloat_c.specs.ArrayCalls.{known_map, operation_coded};
 ghost use Rattle.apfloat_c.specs.Arrays.{IsMappedArray};
 
-use crate::array_calls::{bytes_in, known_map, operation_coded};
+use crate::array_calls::{ElementOperation, bytes_in, known_map, operation_coded};
 use crate::array_data::ArrayAnswer;
 use coded_calls::codes::ANSWERED;
 use formats_at_run_time::{FlaggedKind, mode_coded};
+use rustc_apfloat::Round;
 
 /// Applies an operation to each element of an array, or to the elements of two or three arrays.
 #[unsafe(no_mangle)]
@@ -30,9 +31,9 @@ pub extern "C" fn apfloat_map_array(
         result }
 {
     mapped(
-        format,
-        mode,
-        operation,
+        FlaggedKind::coded(format),
+        mode_coded(mode),
+        operation_coded(operation),
         xs,
         ys,
         zs,
@@ -64,14 +65,24 @@ pub extern "C" fn apfloat_map_array_by_table(
         result }
     ensures lent { result ≢ 0 → table.new ≡ table.old }
 {
-    mapped(format, mode, operation, xs, ys, zs, results, table, answer)
+    mapped(
+        FlaggedKind::coded(format),
+        mode_coded(mode),
+        operation_coded(operation),
+        xs,
+        ys,
+        zs,
+        results,
+        table,
+        answer,
+    )
 }
 
-/// The body of both.
+/// Applies an operation, as the decoded arguments ask.
 fn mapped(
-    format: u32,
-    mode: u32,
-    operation: u32,
+    kind: Option<FlaggedKind>,
+    mode: Option<Round>,
+    operation: Option<ElementOperation>,
     xs: &[u8],
     ys: &[u8],
     zs: &[u8],
@@ -79,17 +90,16 @@ fn mapped(
     table: &mut [u8],
     answer: &mut ArrayAnswer,
 ) -> u32
-    ensures written { let lengths : ℕ × ℕ × ℕ = (length xs.now, length ys.now, length zs.now) in
-        let known = known_map (flagged_kind_coded format) (mode_coded mode)
-        (operation_coded operation) lengths (length results.old) in
+    ensures written { let known = known_map kind mode operation
+        (length xs.now, length ys.now, length zs.now) (length results.old) in
         IsMappedArray known xs.now ys.now zs.now results.old results.new answer.old answer.new
         result }
     ensures lent { result ≢ 0 → table.new ≡ table.old }
 {
     let known = known_map(
-        FlaggedKind::coded(format),
-        mode_coded(mode),
-        operation_coded(operation),
+        kind,
+        mode,
+        operation,
         (xs.len(), ys.len(), zs.len()),
         results.len(),
     );

@@ -1,6 +1,6 @@
 //! Operations on arrays that go from bits to bits in line as long as operands and results are normal numbers.
 
-ghost use Rattle.std.specs.Prelude.{◌≡◌, ◌⊎◌, ◌*◌, ◌<◌, ◌≤◌, length, IfSome};
+ghost use Rattle.std.specs.Prelude.{◌≡◌, ◌*◌, ◌<◌, ◌≤◌, length, IfSome};
 ghost use Rattle.rustc_apfloat.specs.FlaggedTypes.{constants_of};
 ghost use Rattle.formats_at_run_time.specs.declared.Arithmetic.{Arithmetic};
 ghost use Rattle.formats_at_run_time.specs.declared.Arithmetic.TheVariants.{Sum, Difference, Product};
@@ -8,8 +8,7 @@ ghost use Rattle.formats_at_run_time.specs.FlaggedKinds.{flagged_kind_of};
 ghost use Rattle.formats_at_run_time.specs.ValueKinds.{of_format, value_of};
 ghost use Rattle.fast_bits.specs.Encoded.{IsNumberAnswer};
 ghost use Rattle.apfloat_c.specs.declared.array_calls.ElementOperation.TheVariants.{OfTwo};
-ghost use Rattle.apfloat_c.specs.ArrayCalls.{bytes_in};
-ghost use Rattle.apfloat_c.specs.Arrays.{AreElements, relation_of_two};
+ghost use Rattle.apfloat_c.specs.Arrays.{AreElements, AreOperands, relation_of_two};
 
 use crate::array_data::{Element, ElementCounts};
 use crate::elements::{FormatCalls, element_apart, elements_apart, number_at};
@@ -86,12 +85,9 @@ fn normal_elements_of<S: Flagged, O: NormalOperation>(
     requires format { S.PRECISION < S.BITS }
     requires kind { of_format (constants_of S.Flagged) ≡ flagged_kind_of calls.map.kind }
     requires operation { calls.map.operation ≡ OfTwo (O.arithmetic operation) }
-    requires width { width ≡ bytes_in calls.map.kind }
+    requires operands { AreOperands calls.map.kind width count xs.now ys.now zs.now output.old }
     requires few { width ≤ 16 }
-    requires xs { length xs.now ≡ count * width }
     requires ys { length ys.now ≡ count * width }
-    requires zs { (length zs.now ≡ 0) ⊎ (length zs.now ≡ count * width) }
-    requires output { length output.old ≡ count * width }
     ensures { AreElements calls.map xs.now ys.now zs.now count output.new result }
 {
     let round = calls.map.round;
@@ -131,12 +127,8 @@ pub fn normal_elements<S: Flagged, O: NormalOperation>(
     requires format { S.PRECISION < S.BITS }
     requires kind { of_format (constants_of S.Flagged) ≡ flagged_kind_of calls.map.kind }
     requires operation { calls.map.operation ≡ OfTwo (O.arithmetic operation) }
-    requires width { width ≡ bytes_in calls.map.kind }
+    requires operands { AreOperands calls.map.kind width count xs.now ys.now zs.now output.old }
     requires few { width ≤ 16 }
-    requires xs { length xs.now ≡ count * width }
-    requires ys { (length ys.now ≡ 0) ⊎ (length ys.now ≡ count * width) }
-    requires zs { (length zs.now ≡ 0) ⊎ (length zs.now ≡ count * width) }
-    requires output { length output.old ≡ count * width }
     ensures { AreElements calls.map xs.now ys.now zs.now count output.new result }
 {
     let like = ys.len() == xs.len() && output.len() == xs.len();

@@ -1,12 +1,12 @@
 //! Operations on long arrays of values of 8 bits, by a table of the results for all pairs of values. The operation
 //! itself fills it, in memory that the caller lends.
 
-ghost use Rattle.std.specs.Prelude.{◌≡◌, ◌⊎◌, ◌*◌, ◌<◌, ◌≤◌, IsTrue, [], length, true};
+ghost use Rattle.std.specs.Prelude.{◌≡◌, ◌*◌, ◌<◌, ◌≤◌, IsTrue, [], length, true};
 ghost use Rattle.rustc_apfloat.specs.FlaggedTypes.{constants_of};
 ghost use Rattle.formats_at_run_time.specs.FlaggedKinds.{flagged_kind_of};
 ghost use Rattle.formats_at_run_time.specs.ValueKinds.{of_format};
 ghost use Rattle.apfloat_c.specs.ArrayCalls.{bytes_in, has_element_operation};
-ghost use Rattle.apfloat_c.specs.Arrays.{AreElements};
+ghost use Rattle.apfloat_c.specs.Arrays.{AreElements, AreOperands};
 ghost use Rattle.apfloat_c.specs.OperationTables.{IsEntry, IsTable};
 
 use crate::array_calls::{MapCall, bytes_in};
@@ -39,10 +39,8 @@ impl MapCall {
         table: &mut [u8],
     ) -> ElementCounts
         requires has { has_element_operation self.kind self.operation ≡ true }
-        requires xs { length xs.now ≡ count * bytes_in self.kind }
-        requires ys { (length ys.now ≡ 0) ⊎ (length ys.now ≡ count * bytes_in self.kind) }
-        requires zs { (length zs.now ≡ 0) ⊎ (length zs.now ≡ count * bytes_in self.kind) }
-        requires output { length output.old ≡ count * bytes_in self.kind }
+        requires operands { AreOperands self.kind (bytes_in self.kind) count xs.now ys.now zs.now
+            output.old }
         ensures { AreElements self xs.now ys.now zs.now count output.new result }
     {
         if self.has_table(count, ys.len(), zs.len(), table.len()) {

@@ -7,15 +7,15 @@ use Rattle.apfloat_c.proofs.elements.elements.Goals as goal
 pub loop-index-preserved : goal.loop-index-preserved
 loop-index-preserved g c =
     let by_width : length c.loop-index.output ≡ c.args.count * c.args.width =
-    c.loop-index.auto.output ∙ c.requires.output in
+    c.loop-index.auto.output ∙ c.requires.operands.output_is in
     let size : length c.loop-index.output ≡ c.args.count * bytes_in (g.C.ElementCalls.map c.args.calls).kind =
-    by_width ∙ ap (λ (w : ℕ). c.args.count * w) c.requires.width in
+    by_width ∙ ap (λ (w : ℕ). c.args.count * w) c.requires.operands.width_is in
     let long : length c.element.new.bytes ≡ c.args.width =
     c.element.auto.bytes
     ∙ place_size c.args.width c.loop-index.index c.args.count c.loop-index.output c.loop-index-test.true by_width in
     rw c.count.ensures
     (elements_more (g.C.ElementCalls.map c.args.calls) c.args.xs.now c.args.ys.now c.args.zs.now c.args.width
     c.loop-index.index c.args.count c.number_at-x.result c.number_at-y.result c.number_at-z.result
-    c.loop-index.output c.element.new.bytes c.loop-index.counted c.element.result c.requires.width
+    c.loop-index.output c.element.new.bytes c.loop-index.counted c.element.result c.requires.operands.width_is
     c.loop-index-test.true size long c.number_at-x.ensures c.number_at-y.ensures c.number_at-z.ensures
     c.element.ensures c.loop-index.invariant)

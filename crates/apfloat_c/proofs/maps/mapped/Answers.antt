@@ -1,74 +1,59 @@
-use Rattle.std.proofs.Common.{◌≡◌, ℕ, ◌*◌, ◌/◌, ◌≤◌, length, Ok, Option, ap, sym, ◌∙◌, rules}
-use Rattle.std.proofs.Math.Path.{subst₃}
+use Rattle.std.proofs.Common.{ℕ, ◌*◌, ◌/◌, ◌≤◌, length, ap, sym, ◌∙◌, refl, rules}
 use Rattle.std.proofs.lemmas.List.{length-take-le}
-use Rattle.rustc_apfloat.specs.declared.Round.{Round}
-use Rattle.formats_at_run_time.specs.declared.FlaggedKind.{FlaggedKind}
-use Rattle.apfloat_c.specs.declared.array_calls.ElementOperation.{ElementOperation}
-use Rattle.apfloat_c.specs.ArrayCalls.{bytes_in, known_map}
+use Rattle.apfloat_c.specs.ArrayCalls.{bytes_in}
 use Rattle.apfloat_c.proofs.ArrayCalls.{first_whole, map_is_known, map_left, map_room, other_whole}
 use Rattle.apfloat_c.proofs.maps.mapped.Goals as goal
 
 pub overflow_mul-front : goal.overflow_mul-front
 overflow_mul-front c =
-    let room = map_room c.coded.result c.mode_coded.result (length c.args.xs.now) (length c.args.ys.now)
-    (length c.args.zs.now) (length c.args.results.now) c.in-Ok.map c.bytes_in-width.result c.bytes_in-width.ensures.is
-    (map_is_known c.coded.result c.mode_coded.result c.operation_coded.result (length c.args.xs.now)
-    (length c.args.ys.now) (length c.args.zs.now) (length c.args.results.now) c.in-Ok.map
-    (sym c.known_map-known.ensures ∙ c.in-Ok.is)) in
+    let room = map_room c.args.kind c.args.mode c.args.operation (length c.args.xs.now) (length c.args.ys.now)
+    (length c.args.zs.now) (length c.args.results.now) c.in-Ok.map c.bytes_in-width.result
+    c.bytes_in-width.ensures.is (sym c.known_map-known.ensures ∙ c.in-Ok.is) in
     let enough : length c.args.xs.now / c.bytes_in-width.result * c.bytes_in-width.result
     ≤ length c.args.results.now = room.enough in
     search rules
 
 pub slice_bounds-front-end : goal.slice_bounds-front-end
 slice_bounds-front-end c =
-    (map_room c.coded.result c.mode_coded.result (length c.args.xs.now) (length c.args.ys.now)
-    (length c.args.zs.now) (length c.args.results.now) c.in-Ok.map c.bytes_in-width.result c.bytes_in-width.ensures.is
-    (map_is_known c.coded.result c.mode_coded.result c.operation_coded.result (length c.args.xs.now)
-    (length c.args.ys.now) (length c.args.zs.now) (length c.args.results.now) c.in-Ok.map
-    (sym c.known_map-known.ensures ∙ c.in-Ok.is))).enough
+    (map_room c.args.kind c.args.mode c.args.operation (length c.args.xs.now) (length c.args.ys.now)
+    (length c.args.zs.now) (length c.args.results.now) c.in-Ok.map c.bytes_in-width.result
+    c.bytes_in-width.ensures.is (sym c.known_map-known.ensures ∙ c.in-Ok.is)).enough
 
 pub slice_bounds-front-end-in-Ok : goal.slice_bounds-front-end-in-Ok
 slice_bounds-front-end-in-Ok c =
-    sym (length-take-le _ c.args.results.now
-    (map_room c.coded.result c.mode_coded.result (length c.args.xs.now) (length c.args.ys.now)
-    (length c.args.zs.now) (length c.args.results.now) c.in-Ok.map c.bytes_in-width.result c.bytes_in-width.ensures.is
-    (map_is_known c.coded.result c.mode_coded.result c.operation_coded.result (length c.args.xs.now)
-    (length c.args.ys.now) (length c.args.zs.now) (length c.args.results.now) c.in-Ok.map
-    (sym c.known_map-known.ensures ∙ c.in-Ok.is))).enough)
+    let room = map_room c.args.kind c.args.mode c.args.operation (length c.args.xs.now) (length c.args.ys.now)
+    (length c.args.zs.now) (length c.args.results.now) c.in-Ok.map c.bytes_in-width.result
+    c.bytes_in-width.ensures.is (sym c.known_map-known.ensures ∙ c.in-Ok.is) in
+    sym (length-take-le _ c.args.results.now room.enough)
 
 pub over_with-counted-requires : goal.over_with-counted-requires
 over_with-counted-requires c =
-    let known = (map_is_known c.coded.result c.mode_coded.result c.operation_coded.result (length c.args.xs.now)
-    (length c.args.ys.now) (length c.args.zs.now) (length c.args.results.now) c.in-Ok.map
-    (sym c.known_map-known.ensures ∙ c.in-Ok.is)) in
-    let room = map_room c.coded.result c.mode_coded.result (length c.args.xs.now) (length c.args.ys.now)
-    (length c.args.zs.now) (length c.args.results.now) c.in-Ok.map c.bytes_in-width.result c.bytes_in-width.ensures.is
-    known in
+    let room = map_room c.args.kind c.args.mode c.args.operation (length c.args.xs.now) (length c.args.ys.now)
+    (length c.args.zs.now) (length c.args.results.now) c.in-Ok.map c.bytes_in-width.result
+    c.bytes_in-width.ensures.is (sym c.known_map-known.ensures ∙ c.in-Ok.is) in
+    let known = map_is_known c.args.kind c.args.mode c.args.operation (length c.args.xs.now) (length c.args.ys.now)
+    (length c.args.zs.now) (length c.args.results.now) c.in-Ok.map (sym c.known_map-known.ensures ∙ c.in-Ok.is) in
     let xs = first_whole (length c.args.xs.now) c.bytes_in-width.result (bytes_in c.in-Ok.map.kind)
     (length c.args.results.now) c.bytes_in-width.ensures.is room in
     record {
       has = known.has;
-      xs = xs;
-      ys = other_whole (length c.args.ys.now) (length c.args.xs.now) _ known.second_is xs;
-      zs = other_whole (length c.args.zs.now) (length c.args.xs.now) _ known.third_is xs;
-      output = length-take-le _ c.args.results.now room.enough
-          ∙ ap (λ (w : ℕ). length c.args.xs.now / c.bytes_in-width.result * w) c.bytes_in-width.ensures.is;
+      operands = record {
+        width_is = refl;
+        xs_are = xs;
+        ys_are = other_whole (length c.args.ys.now) (length c.args.xs.now) _ known.second_is xs;
+        zs_are = other_whole (length c.args.zs.now) (length c.args.xs.now) _ known.third_is xs;
+        output_is = length-take-le _ c.args.results.now room.enough
+            ∙ ap (λ (w : ℕ). length c.args.xs.now / c.bytes_in-width.result * w) c.bytes_in-width.ensures.is;
+      };
     }
 
 pub returns-in-Ok-clause-written : goal.returns-in-Ok-clause-written
 returns-in-Ok-clause-written c =
-    let room = map_room c.coded.result c.mode_coded.result (length c.args.xs.now) (length c.args.ys.now)
-    (length c.args.zs.now) (length c.args.results.now) c.in-Ok.map c.bytes_in-width.result c.bytes_in-width.ensures.is
-    (map_is_known c.coded.result c.mode_coded.result c.operation_coded.result (length c.args.xs.now)
-    (length c.args.ys.now) (length c.args.zs.now) (length c.args.results.now) c.in-Ok.map
-    (sym c.known_map-known.ensures ∙ c.in-Ok.is)) in
+    let room = map_room c.args.kind c.args.mode c.args.operation (length c.args.xs.now) (length c.args.ys.now)
+    (length c.args.zs.now) (length c.args.results.now) c.in-Ok.map c.bytes_in-width.result
+    c.bytes_in-width.ensures.is (sym c.known_map-known.ensures ∙ c.in-Ok.is) in
     map_left _ c.in-Ok.map c.bytes_in-width.result c.args.xs.now c.args.ys.now c.args.zs.now c.args.results.now
     c.over_with-counted.new.output c.over_with-counted.result c.args.answer.now c.of.result c.bytes_in-width.ensures.is
-    (subst₃
-    (λ (k : Option FlaggedKind) (m : Option Round) (o : Option ElementOperation).
-    known_map k m o (length c.args.xs.now, length c.args.ys.now, length c.args.zs.now) (length c.args.results.now)
-    ≡ Ok c.in-Ok.map)
-    c.coded.ensures c.mode_coded.ensures c.operation_coded.ensures
-    (sym c.known_map-known.ensures ∙ c.in-Ok.is))
+    (sym c.known_map-known.ensures ∙ c.in-Ok.is)
     (c.over_with-counted.auto.output ∙ length-take-le _ c.args.results.now room.enough)
     c.over_with-counted.ensures c.of.ensures

@@ -1,4 +1,4 @@
-use Rattle.std.proofs.Common.{◌≡◌, ℕ, ◌*◌, ◌/◌, length, sym, ap, subst, ◌∙◌, mul-one, Result}
+use Rattle.std.proofs.Common.{ℕ, ◌*◌, ◌/◌, length, sym, ap, subst, ◌∙◌, mul-one, Result}
 use Rattle.std.specs.Prelude.{IfOk}
 use Rattle.std.proofs.lemmas.List.{length-take-le}
 use Rattle.apfloat_arrays.specs.declared.stored.ModeConversion.{ModeConversion}

@@ -1,0 +1,227 @@
+-- The terms of an exact sum of arrays, one after another, and the one answer of a call.
+use Rattle.std.proofs.Common.{◌≡◌, ℕ, suc, ◌+◌, ◌-◌, ◌*◌, ◌/◌, ◌%◌, ◌<◌, ◌≤◌}
+use Rattle.std.proofs.Common.{lit≤, Bool, true, false, List, Option, Some, None, Ok, Err, Result, refl, sym, ap}
+use Rattle.std.proofs.Common.{◌∙◌, subst, arith}
+use Rattle.std.specs.Prelude.{◌==◌, if◌then◌else◌, ok_or}
+use Rattle.std.proofs.Math.Path.{subst₂}
+use Rattle.std.proofs.lemmas.Bool.{and_parts, eqb-true, false≢true}
+use Rattle.std.proofs.lemmas.Nat.{div-add-mod'}
+use Rattle.rustc_apfloat.specs.declared.Round.{Round}
+use Rattle.rustc_apfloat.specs.declared.StatusAnd.{StatusAnd}
+use Rattle.rustc_apfloat.specs.Datum.{Datum}
+use Rattle.rustc_apfloat.specs.Determined.{Determines}
+use Rattle.rustc_apfloat.specs.Flags.{Gives}
+use Rattle.rustc_apfloat.specs.Format.{Format}
+use Rattle.rustc_apfloat.specs.Lawful.{Constants, format_with}
+use Rattle.apfloat_model.specs.rounding.Outcome.{Outcome}
+use Rattle.exact_reductions.specs.Reductions.{IsReducible, IsTotal, Tally, joined, magnitude_of, magnitude_terms}
+use Rattle.exact_reductions.specs.Reductions.{no_terms, product_terms, tally, tally_of, value_terms}
+use Rattle.exact_reductions.proofs.Laws.{total_once}
+use Rattle.exact_reductions.proofs.Tallies.{last_step, none_joined, product_one, step, value_one}
+use Rattle.formats_at_run_time.specs.declared.BuiltInFormat.{BuiltInFormat}
+use Rattle.formats_at_run_time.specs.declared.BuiltInFormat.TheVariants.{Half, Single, Double, Quad, BFloat, E5M2}
+use Rattle.formats_at_run_time.specs.declared.BuiltInFormat.TheVariants.{E4M3FN, E4M3FNUZ, X87, E4M3, E5M2FNUZ}
+use Rattle.formats_at_run_time.specs.declared.BuiltInFormat.TheVariants.{E4M3B11FNUZ, TF32}
+use Rattle.formats_at_run_time.specs.declared.FlaggedFormat.{FlaggedFormat}
+use Rattle.formats_at_run_time.specs.declared.FlaggedFormat.TheVariants.{BuiltIn, AfterRounding, BeforeRounding}
+use Rattle.formats_at_run_time.specs.declared.FlaggedKind.{FlaggedKind}
+use Rattle.formats_at_run_time.specs.declared.FlaggedKind.TheVariants.{OfFormat, Pairs}
+use Rattle.formats_at_run_time.specs.BuiltIns.{constants_in}
+use Rattle.formats_at_run_time.specs.FlaggedKinds.{flagged_constants, format_of_ieee, format_without_rule}
+use Rattle.formats_at_run_time.specs.Relations.{in_format}
+use Rattle.formats_at_run_time.specs.ValueKinds.{value_of}
+use Rattle.apfloat_arrays.specs.Blocks.{value_at}
+use Rattle.apfloat_arrays.specs.Bytes.{number_of}
+use Rattle.apfloat_arrays.proofs.scaled_blocks_lemmas.FormatLaws.{HasLaw, format_law}
+use Rattle.coded_calls.specs.declared.data.Answer.{Answer}
+use Rattle.coded_calls.specs.KnownCalls.{◌>>=◌, no_such_operation}
+use Rattle.apfloat_c.specs.declared.reductions.KnownReduction.{KnownReduction}
+use Rattle.apfloat_c.specs.declared.reductions.Reduction.{Reduction}
+use Rattle.apfloat_c.specs.declared.reductions.Reduction.TheVariants.{Sum, Magnitudes, Products}
+use Rattle.apfloat_c.specs.ArrayCalls.{bytes_in}
+use Rattle.apfloat_c.specs.Reductions.{IsReducedArray, IsReducedCall, IsReducedCallOnce, IsReducedIn, IsReductionOf}
+use Rattle.apfloat_c.specs.Reductions.{fitting_sum, has_exact_sums, known_reduction, sums_fit, term_of, values_from}
+use Rattle.apfloat_c.proofs.ArrayCalls.{if_fitting_ok}
+use Rattle.apfloat_c.proofs.ExportsOnce.{OnceAnswer, format_determined, unchanged, value_once}
+
+-- ---- the formats of at most 64 bits
+
+reducible_built_in : (format : BuiltInFormat) → has_exact_sums format ≡ true
+    → IsReducible (format_with (constants_in format))
+reducible_built_in Half e = record { short = lit≤ tt; narrow = lit≤ tt }
+reducible_built_in Single e = record { short = lit≤ tt; narrow = lit≤ tt }
+reducible_built_in Double e = record { short = lit≤ tt; narrow = lit≤ tt }
+reducible_built_in Quad e = absurd (false≢true e)
+reducible_built_in BFloat e = record { short = lit≤ tt; narrow = lit≤ tt }
+reducible_built_in E5M2 e = record { short = lit≤ tt; narrow = lit≤ tt }
+reducible_built_in E4M3FN e = record { short = lit≤ tt; narrow = lit≤ tt }
+reducible_built_in E4M3FNUZ e = record { short = lit≤ tt; narrow = lit≤ tt }
+reducible_built_in X87 e = absurd (false≢true e)
+reducible_built_in E4M3 e = record { short = lit≤ tt; narrow = lit≤ tt }
+reducible_built_in E5M2FNUZ e = record { short = lit≤ tt; narrow = lit≤ tt }
+reducible_built_in E4M3B11FNUZ e = record { short = lit≤ tt; narrow = lit≤ tt }
+reducible_built_in TF32 e = record { short = lit≤ tt; narrow = lit≤ tt }
+
+pub reducible : (format : FlaggedFormat) → has_exact_sums (format_without_rule format) ≡ true
+    → IsReducible (format_with (flagged_constants format))
+reducible (BuiltIn format) e = reducible_built_in format e
+reducible (AfterRounding format) e =
+    let plain = reducible_built_in (format_of_ieee format) e in
+    record { short = plain.short; narrow = plain.narrow }
+reducible (BeforeRounding format) e =
+    let plain = reducible_built_in (format_of_ieee format) e in
+    record { short = plain.short; narrow = plain.narrow }
+
+-- ---- calls that are not refused
+
+pub record IsKnownReduction (first second : ℕ) (known : KnownReduction) : Type 0 where
+  pub has : has_exact_sums (format_without_rule known.format) ≡ true
+  pub whole : first ≡ first / bytes_in (OfFormat known.format) * bytes_in (OfFormat known.format)
+  pub same : second ≡ first
+
+whole_of : (first width : ℕ) → (first % width == 0) ≡ true → first ≡ first / width * width
+whole_of first width e =
+    let none : first % width ≡ 0 = eqb-true _ _ e in
+    let all : first / width * width + first % width ≡ first = div-add-mod' first width in
+    omega arith
+
+known_if : (format : FlaggedFormat) (mode : Round) (first second : ℕ) (known : KnownReduction) (has : Bool)
+    → has_exact_sums (format_without_rule format) ≡ has
+    → (ok_or (if has then Some format else None) no_such_operation >>= fitting_sum mode first second) ≡ Ok known
+    → IsKnownReduction first second known
+known_if format mode first second known false has e = absurd (cc)
+known_if format mode first second known true has e =
+    let both = if_fitting_ok (sums_fit (bytes_in (OfFormat format)) first second)
+    (record { format = format; round = mode }) known e in
+    let parts = and_parts (first % bytes_in (OfFormat format) == 0) _ both.0 in
+    subst (λ (k : KnownReduction). IsKnownReduction first second k) both.1
+    (record { has = has; whole = whole_of first _ parts.0; same = eqb-true _ _ parts.1 })
+
+pub reduction_is_known : (kind : Option FlaggedKind) (mode : Option Round) (first second : ℕ) (known : KnownReduction)
+    → known_reduction kind mode first second ≡ Ok known → IsKnownReduction first second known
+reduction_is_known None mode first second known e = absurd (cc)
+reduction_is_known (Some kind) None first second known e = absurd (cc)
+reduction_is_known (Some Pairs) (Some mode) first second known e = absurd (cc)
+reduction_is_known (Some (OfFormat format)) (Some mode) first second known e =
+    known_if format mode first second known (has_exact_sums (format_without_rule format)) refl e
+
+pub reduced_call : (reduction : Reduction) (call : Result KnownReduction ℕ) (known : KnownReduction) (width : ℕ)
+    (xs ys : List ℕ) (old new : Answer) → width ≡ bytes_in (OfFormat known.format) → call ≡ Ok known
+    → IsReducedArray reduction known width xs ys new → IsReducedCall reduction call xs ys old new 0
+reduced_call reduction call known width xs ys old new width_is known_is made =
+    subst (λ (c : Result KnownReduction ℕ). IsReducedCall reduction c xs ys old new 0) (sym known_is)
+    (refl, subst (λ (w : ℕ). IsReducedArray reduction known w xs ys new) width_is made)
+
+-- ---- one term after another
+
+abbrev pub terms_of : Reduction → Format → List Datum → List Datum → List Outcome
+terms_of Sum f xs ys = value_terms f xs
+terms_of Magnitudes f xs ys = magnitude_terms f xs
+terms_of Products f xs ys = product_terms f xs ys
+
+-- the tally of so many terms from an index on
+abbrev pub rest : Constants → Reduction → ℕ → List ℕ → List ℕ → ℕ → ℕ → Tally
+rest c reduction width xs ys index count =
+    tally (terms_of reduction (format_with c) (values_from c width xs index count) (values_from c width ys index count))
+
+-- the tally of the term at an index
+abbrev pub term_at : Constants → Reduction → ℕ → List ℕ → List ℕ → ℕ → Tally
+term_at c reduction width xs ys index =
+    tally_of (term_of reduction c (number_of (value_at width index xs)) (number_of (value_at width index ys)))
+
+rest_next : (c : Constants) (reduction : Reduction) (width : ℕ) (xs ys : List ℕ) (index count : ℕ)
+    → rest c reduction width xs ys index (suc count)
+    ≡ joined (term_at c reduction width xs ys index) (rest c reduction width xs ys (index + 1) count)
+rest_next c Sum width xs ys index count = refl
+rest_next c Magnitudes width xs ys index count = refl
+rest_next c Products width xs ys index count = refl
+
+rest_none : (c : Constants) (reduction : Reduction) (width : ℕ) (xs ys : List ℕ) (index : ℕ)
+    → rest c reduction width xs ys index 0 ≡ no_terms
+rest_none c Sum width xs ys index = refl
+rest_none c Magnitudes width xs ys index = refl
+rest_none c Products width xs ys index = refl
+
+term_one : (c : Constants) (reduction : Reduction) (x y : ℕ) → (tally_of (term_of reduction c x y)).terms ≡ 1
+term_one c Sum x y = value_one (format_with c) (value_of c x)
+term_one c Magnitudes x y = value_one (format_with c) (magnitude_of (format_with c) (value_of c x))
+term_one c Products x y = product_one (format_with c) (value_of c x) (value_of c y)
+
+-- so many terms are added, and the others are left
+pub record IsAdded (c : Constants) (reduction : Reduction) (width : ℕ) (xs ys : List ℕ) (count index : ℕ)
+    (done : Tally) : Type 0 where
+  pub terms : done.terms ≡ index
+  pub total : joined done (rest c reduction width xs ys index (count - index)) ≡ rest c reduction width xs ys 0 count
+
+pub added_none : (c : Constants) (reduction : Reduction) (width : ℕ) (xs ys : List ℕ) (count : ℕ) (done : Tally)
+    → done ≡ no_terms → IsAdded c reduction width xs ys count 0 done
+added_none c reduction width xs ys count done is =
+    let all : count - 0 ≡ count = omega arith in
+    record {
+      terms = ap (λ (t : Tally). t.terms) is;
+      total = ap (λ (t : Tally). joined t (rest c reduction width xs ys 0 (count - 0))) is
+          ∙ none_joined (rest c reduction width xs ys 0 (count - 0))
+          ∙ ap (λ (n : ℕ). rest c reduction width xs ys 0 n) all;
+    }
+
+pub added_more : (c : Constants) (reduction : Reduction) (width : ℕ) (xs ys : List ℕ) (count index x y : ℕ)
+    (done next : Tally) → index < count → x ≡ number_of (value_at width index xs)
+    → y ≡ number_of (value_at width index ys) → next ≡ joined done (tally_of (term_of reduction c x y))
+    → IsAdded c reduction width xs ys count index done → IsAdded c reduction width xs ys count (index + 1) next
+added_more c reduction width xs ys count index x y done next before x_is y_is added so_far =
+    let left : count - index ≡ suc (count - (index + 1)) = omega (arith, before) in
+    let after : Tally = rest c reduction width xs ys (index + 1) (count - (index + 1)) in
+    let here : rest c reduction width xs ys index (count - index)
+    ≡ joined (term_at c reduction width xs ys index) after =
+    ap (λ (n : ℕ). rest c reduction width xs ys index n) left
+    ∙ rest_next c reduction width xs ys index (count - (index + 1)) in
+    let is : next ≡ joined done (term_at c reduction width xs ys index) =
+    subst₂ (λ (m : ℕ) (n : ℕ). next ≡ joined done (tally_of (term_of reduction c m n))) x_is y_is added in
+    let more : next.terms ≡ done.terms + (tally_of (term_of reduction c x y)).terms =
+    ap (λ (t : Tally). t.terms) added in
+    let one = term_one c reduction x y in
+    let terms = so_far.terms in
+    record { terms = omega (arith, more, one, terms); total = step _ _ _ _ _ _ so_far.total here is }
+
+-- ---- the sum
+
+of_terms : (reduction : Reduction) (f : Format) (mode : Round) (xs ys : List Datum) (value : Datum) (status : ℕ)
+    → IsTotal f mode (tally (terms_of reduction f xs ys)) value status
+    → IsReductionOf reduction f mode xs ys value status
+of_terms Sum f mode xs ys value status is = is
+of_terms Magnitudes f mode xs ys value status is = is
+of_terms Products f mode xs ys value status is = is
+
+pub all_added : (c : Constants) (reduction : Reduction) (mode : Round) (width : ℕ) (xs ys : List ℕ)
+    (count index : ℕ) (done : Tally) (value : Datum) (status : ℕ) → count ≤ index
+    → IsAdded c reduction width xs ys count index done → IsTotal (format_with c) mode done value status
+    → IsReductionOf reduction (format_with c) mode (values_from c width xs 0 count) (values_from c width ys 0 count)
+    value status
+all_added c reduction mode width xs ys count index done value status past added is =
+    let left : count - index ≡ 0 = omega (arith, past) in
+    let none : rest c reduction width xs ys index (count - index) ≡ no_terms =
+    ap (λ (n : ℕ). rest c reduction width xs ys index n) left ∙ rest_none c reduction width xs ys index in
+    of_terms reduction (format_with c) mode (values_from c width xs 0 count) (values_from c width ys 0 count) value
+    status
+    (subst (λ (t : Tally). IsTotal (format_with c) mode t value status) (last_step done _ _ added.total none) is)
+
+-- ---- one answer
+
+reduction_once : (reduction : Reduction) (f : Format) (mode : Round) (xs ys : List Datum)
+    → Determines (λ (given : StatusAnd Datum). Gives (IsReductionOf reduction f mode xs ys) given)
+reduction_once Sum f mode xs ys = total_once f mode (tally (value_terms f xs))
+reduction_once Magnitudes f mode xs ys = total_once f mode (tally (magnitude_terms f xs))
+reduction_once Products f mode xs ys = total_once f mode (tally (product_terms f xs ys))
+
+reduced_once : (c : Constants) → HasLaw c → (reduction : Reduction) (mode : Round) (xs ys : List Datum)
+    → OnceAnswer (IsReducedIn c reduction mode xs ys)
+reduced_once c has reduction mode xs ys =
+    value_once (in_format c) mode c.precision c.bits has.wide (format_determined c has mode) _
+    (reduction_once reduction (format_with c) mode xs ys)
+
+pub reduced_call_once : IsReducedCallOnce
+reduced_call_once reduction (Err error) xs ys old a b code other x y = (x.0 ∙ sym y.0, unchanged old a b x.1 y.1)
+reduced_call_once reduction (Ok known) xs ys old a b code other x y = (
+  x.0 ∙ sym y.0,
+  reduced_once (flagged_constants known.format) (format_law known.format) reduction known.round _ _ a b x.1 y.1,
+)

@@ -1,0 +1,279 @@
+//! Exact sums of arrays (IEEE 754-2019 9.4), rounded once, for C programs: of values, of their magnitudes, of their
+//! squares, and of products.
+
+ghost use Rattle.std.specs.Prelude.{◌≡◌, ◌+◌, ◌*◌, ◌^◌, ◌<◌, ◌≤◌, length, pos};
+ghost use Rattle.rustc_apfloat.specs.FlaggedTypes.{constants_of, format_of};
+ghost use Rattle.rustc_apfloat.specs.Lawful.{format_with};
+ghost use Rattle.exact_reductions.specs.Reductions.{IsReducible, joined, tally_of};
+ghost use Rattle.formats_at_run_time.specs.FlaggedKinds.{flagged_kind_coded};
+ghost use Rattle.formats_at_run_time.specs.FormatKinds.{IfFormat};
+ghost use Rattle.formats_at_run_time.specs.Modes.{mode_coded};
+ghost use Rattle.formats_at_run_time.specs.Relations.{in_format};
+ghost use Rattle.coded_calls.specs.Answers.{IsValueWritten};
+ghost use Rattle.apfloat_c.specs.declared.reductions.Reduction.TheVariants.{Sum, Magnitudes, Products};
+ghost use Rattle.apfloat_c.specs.Reductions.{IsReducedCall, IsReducedCallOnce, IsReducedIn, has_exact_sums};
+ghost use Rattle.apfloat_c.specs.Reductions.{known_reduction, reducible_format, sums_fit, term_of, values_from};
+
+use crate::array_calls::bytes_in;
+use crate::elements::number_at;
+use coded_calls::codes::{ANSWERED, NO_SUCH_OPERATION, UNKNOWN_FORMAT, UNKNOWN_MODE, WRONG_LENGTH};
+use coded_calls::data::Answer;
+use exact_reductions::ExactSum;
+use formats_at_run_time::{BuiltInFormat, FlaggedFormat, FlaggedKind, WritesInFormat, mode_coded};
+use rustc_apfloat::ieee::{Flagged, IeeeFloat};
+use rustc_apfloat::{Float, Round, StatusAnd};
+
+/// What is added.
+#[derive(Clone, Copy)]
+pub enum Reduction {
+    /// The values.
+    Sum,
+    /// Their magnitudes.
+    Magnitudes,
+    /// The products of the values at the same places of two arrays.
+    Products,
+}
+
+/// A format that has exact sums, and the mode in which they are rounded.
+#[derive(Clone, Copy)]
+pub struct KnownReduction {
+    /// The format.
+    pub format: FlaggedFormat,
+    /// The rounding mode.
+    pub round: Round,
+}
+
+/// The sum of the values of an array (IEEE 754-2019 9.4, sum).
+#[unsafe(no_mangle)]
+pub extern "C" fn apfloat_sum(format: u32, mode: u32, xs: &[u8], answer: &mut Answer) -> u32
+    ensures { let size = length xs.now in
+        let known = known_reduction (flagged_kind_coded format) (mode_coded mode) size size in
+        IsReducedCall Sum known xs.now xs.now answer.old answer.new result }
+{
+    let (kind, round) = (FlaggedKind::coded(format), mode_coded(mode));
+    reduce(Reduction::Sum, kind, round, xs, xs, answer)
+}
+
+/// The sum of the magnitudes of the values of an array (IEEE 754-2019 9.4, sumAbs).
+#[unsafe(no_mangle)]
+pub extern "C" fn apfloat_sum_abs(format: u32, mode: u32, xs: &[u8], answer: &mut Answer) -> u32
+    ensures { let size = length xs.now in
+        let known = known_reduction (flagged_kind_coded format) (mode_coded mode) size size in
+        IsReducedCall Magnitudes known xs.now xs.now answer.old answer.new result }
+{
+    let (kind, round) = (FlaggedKind::coded(format), mode_coded(mode));
+    reduce(Reduction::Magnitudes, kind, round, xs, xs, answer)
+}
+
+/// The sum of the squares of the values of an array (IEEE 754-2019 9.4, sumSquare).
+#[unsafe(no_mangle)]
+pub extern "C" fn apfloat_sum_square(format: u32, mode: u32, xs: &[u8], answer: &mut Answer) -> u32
+    ensures { let size = length xs.now in
+        let known = known_reduction (flagged_kind_coded format) (mode_coded mode) size size in
+        IsReducedCall Products known xs.now xs.now answer.old answer.new result }
+{
+    let (kind, round) = (FlaggedKind::coded(format), mode_coded(mode));
+    reduce(Reduction::Products, kind, round, xs, xs, answer)
+}
+
+/// The sum of the products of the values at the same places of two arrays (IEEE 754-2019 9.4, dot).
+#[unsafe(no_mangle)]
+pub extern "C" fn apfloat_dot(
+    format: u32,
+    mode: u32,
+    xs: &[u8],
+    ys: &[u8],
+    answer: &mut Answer,
+) -> u32
+    ensures { let known = known_reduction (flagged_kind_coded format) (mode_coded mode)
+        (length xs.now) (length ys.now) in
+        IsReducedCall Products known xs.now ys.now answer.old answer.new result }
+{
+    let (kind, round) = (FlaggedKind::coded(format), mode_coded(mode));
+    reduce(Reduction::Products, kind, round, xs, ys, answer)
+}
+
+/// The sum, as the decoded arguments ask.
+fn reduce(
+    reduction: Reduction,
+    kind: Option<FlaggedKind>,
+    mode: Option<Round>,
+    xs: &[u8],
+    ys: &[u8],
+    answer: &mut Answer,
+) -> u32
+    ensures { let known = known_reduction kind mode (length xs.now) (length ys.now) in
+        IsReducedCall reduction known xs.now ys.now answer.old answer.new result }
+{
+    let known = known_reduction(kind, mode, xs.len(), ys.len());
+    match known {
+        Err(error) => error,
+        Ok(call) => {
+            let width = bytes_in(FlaggedKind::OfFormat(call.format));
+            let count = xs.len() / width;
+            let terms = TermsCall {
+                reduction,
+                round: call.round,
+                width,
+                xs,
+                ys,
+                count,
+            };
+            *answer = call.format.write(terms, &mut []);
+            ANSWERED
+        }
+    }
+}
+
+/// The format and the mode of a sum of arrays of these lengths, or the code of the first error.
+fn known_reduction(
+    kind: Option<FlaggedKind>,
+    mode: Option<Round>,
+    first: usize,
+    second: usize,
+) -> Result<KnownReduction, u32>
+    ensures { result ≡ known_reduction kind mode first second }
+{
+    let Some(kind) = kind else {
+        return Err(UNKNOWN_FORMAT);
+    };
+    let Some(round) = mode else {
+        return Err(UNKNOWN_MODE);
+    };
+    let Some(format) = reducible_format(kind) else {
+        return Err(NO_SUCH_OPERATION);
+    };
+    let width = bytes_in(FlaggedKind::OfFormat(format));
+    if sums_fit(width, first, second) {
+        Ok(KnownReduction { format, round })
+    } else {
+        Err(WRONG_LENGTH)
+    }
+}
+
+/// The format of a kind, if it has exact sums.
+fn reducible_format(kind: FlaggedKind) -> Option<FlaggedFormat>
+    ensures { result ≡ reducible_format kind }
+{
+    match kind {
+        FlaggedKind::OfFormat(format) => {
+            if has_exact_sums(format.built_in()) {
+                Some(format)
+            } else {
+                None
+            }
+        }
+        FlaggedKind::Pairs => None,
+    }
+}
+
+/// Whether the values of the format have at most 64 bits.
+fn has_exact_sums(format: BuiltInFormat) -> bool
+    ensures { result ≡ has_exact_sums format }
+{
+    match format {
+        BuiltInFormat::Quad => false,
+        BuiltInFormat::X87 => false,
+        _ => true,
+    }
+}
+
+/// Whether the bytes are an integral number of values, and those of a second array as many.
+fn sums_fit(width: usize, first: usize, second: usize) -> bool
+    requires { 1 ≤ width }
+    ensures { result ≡ sums_fit width first second }
+{
+    first % width == 0 && second == first
+}
+
+/// A sum of `count` terms of arrays whose values take `width` bytes each.
+#[derive(Clone, Copy)]
+struct TermsCall<'a> {
+    reduction: Reduction,
+    round: Round,
+    width: usize,
+    xs: &'a [u8],
+    ys: &'a [u8],
+    count: usize,
+}
+
+impl WritesInFormat for TermsCall<'_> {
+    type Output = Answer;
+
+    ghost can = { λ it kind old. IfFormat kind (λ c. IsReducible (format_with c)) × (it.width ≤ 16)
+        × (length it.xs.now ≡ it.count * it.width) × (length it.ys.now ≡ it.count * it.width) };
+
+    ghost gives = { λ it kind old new answer. IfFormat kind (λ c.
+        IsReducedIn c it.reduction it.round (values_from c it.width it.xs.now 0 it.count)
+        (values_from c it.width it.ys.now 0 it.count) answer) };
+
+    fn write_in_format<S: Flagged>(self, bytes: &mut [u8]) -> Answer {
+        let TermsCall {
+            reduction,
+            round,
+            width,
+            xs,
+            ys,
+            count,
+        } = self;
+        reduced_in::<S>(reduction, round, width, xs, ys, count)
+    }
+}
+
+/// The sum in the format `S`.
+fn reduced_in<S: Flagged>(
+    reduction: Reduction,
+    round: Round,
+    width: usize,
+    xs: &[u8],
+    ys: &[u8],
+    count: usize,
+) -> Answer
+    requires written { S.PRECISION < S.BITS }
+    requires format { IsReducible (format_of S.Flagged) }
+    requires few { width ≤ 16 }
+    requires xs { length xs.now ≡ count * width }
+    requires ys { length ys.now ≡ count * width }
+    ensures { let c = constants_of S.Flagged in
+        IsReducedIn c reduction round (values_from c width xs.now 0 count)
+        (values_from c width ys.now 0 count) result }
+{
+    let mut sum = ExactSum::<S>::new();
+    for index in 0..count {
+        let place = index * width;
+        let x = number_at(xs, place, width);
+        let y = number_at(ys, place, width);
+        add_term(&mut sum, reduction, x, y);
+    }
+    in_bits(sum.rounded(round))
+}
+
+/// A value with its flags.
+fn in_bits<S: Flagged>(total: StatusAnd<IeeeFloat<S>>) -> Answer
+    requires { S.PRECISION < S.BITS }
+    ensures { IsValueWritten (in_format (constants_of S.Flagged)) total (pos 0) result }
+{
+    Answer::of(total.value.to_bits(), total.status, 0)
+}
+
+/// Adds the term of values of these bits.
+#[inline(always)]
+fn add_term<S: Flagged>(sum: &mut ExactSum<S>, reduction: Reduction, x: u128, y: u128)
+    requires written { S.PRECISION < S.BITS }
+    requires format { IsReducible (format_of S.Flagged) }
+    requires room { sum.old.terms + 1 < 2 ^ 64 }
+    ensures { sum.new
+        ≡ joined sum.old (tally_of (term_of reduction (constants_of S.Flagged) x y)) }
+{
+    let x = IeeeFloat::<S>::from_bits(x);
+    match reduction {
+        Reduction::Sum => sum.add(x),
+        Reduction::Magnitudes => sum.add(x.abs()),
+        Reduction::Products => sum.add_product(x, IeeeFloat::<S>::from_bits(y)),
+    }
+}
+
+/// Each of these calls has one answer.
+pub fn reductions_have_one_answer()
+    ensures { IsReducedCallOnce }
+{}

@@ -1,0 +1,109 @@
+/* Calls the library from C for the rows of tests/rows/by_crate/reductions.tsv, which evidence/reductions.py computes, and
+ * compares each field of the answer. Rows of a user's format have no code and are skipped. The program prints each row
+ * that differs, how many of each call agree, and how many errors do. By hand, at the top of the repository, after
+ * `rt lib` in crates/apfloat_c:
+ *
+ *   cc -std=c99 -Wall -Wextra -O2 -Iinclude tests/c/check_reductions.c crates/apfloat_c/out/libapfloat_c.a -o check
+ *   ./check < tests/rows/by_crate/reductions.tsv | diff - tests/c/agreeing_reductions */
+#include "apfloat.h"
+#include "rows.h"
+
+#include <stdbool.h>
+#include <stdio.h>
+#include <string.h>
+
+enum { COLUMNS = 7, MOST = 1 << 13 };
+
+struct array {
+    uint8_t bytes[MOST];
+    size_t length;
+};
+
+/* How many bytes a value takes in an array. */
+static size_t width_of(uint32_t format) {
+    static const uint8_t widths[] = {0, 2, 4, 8, 16, 2, 1, 1, 1, 10, 16, 0, 0, 0, 0, 0, 1, 1, 1, 4};
+    return widths[format & 0xff];
+}
+
+/* Reads the bits of values; a hyphen stands for none. */
+static bool read_array(char *words, uint32_t format, struct array *array) {
+    size_t width = width_of(format);
+    apfloat_halves bits;
+    array->length = 0;
+    for (char *word = strtok(words, " "); word && strcmp(word, "-") != 0; word = strtok(NULL, " ")) {
+        if (array->length + width > MOST || !read_integer(word, 16, &bits)) return false;
+        for (size_t n = 0; n < width; n++) array->bytes[array->length++] = (uint8_t)(bits.low >> 8 * n);
+    }
+    return true;
+}
+
+static uint32_t make(const char *call, uint32_t format, uint32_t mode, const struct array *xs, const struct array *ys,
+                     apfloat_answer *answer) {
+    if (strcmp(call, "sum") == 0) return apfloat_sum(format, mode, xs->bytes, xs->length, answer);
+    if (strcmp(call, "sum_abs") == 0) return apfloat_sum_abs(format, mode, xs->bytes, xs->length, answer);
+    if (strcmp(call, "sum_square") == 0) return apfloat_sum_square(format, mode, xs->bytes, xs->length, answer);
+    return apfloat_dot(format, mode, xs->bytes, xs->length, ys->bytes, ys->length, answer);
+}
+
+/* Whether the call gives what the row says, in its mode or in any. */
+static bool agrees(char *columns[], uint32_t format) {
+    static struct array xs, ys;
+    bool is_refused = strcmp(columns[4], "LengthsDiffer") == 0, is_any = strcmp(columns[2], "any") == 0;
+    apfloat_answer wanted = {{0, 0}, 0, 0};
+    char *slash = strstr(columns[3], " / ");
+    if (slash) *slash = '\0';
+    if (!read_array(columns[3], format, &xs) || (slash && !read_array(slash + 3, format, &ys))) return false;
+    if (!is_refused && (!read_integer(columns[4], 16, &wanted.bits) || !read_flags(columns[5], &wanted.status)))
+        return false;
+    for (uint32_t mode = 0; mode < 5; mode++) {
+        if (!is_refused && !is_any && code_of(modes, COUNT(modes), columns[2]) != mode) continue;
+        apfloat_answer answer = before;
+        uint32_t code = make(columns[0], format, mode, &xs, &ys, &answer);
+        const apfloat_answer *left = is_refused ? &before : &wanted;
+        if (code != (is_refused ? APFLOAT_WRONG_LENGTH : APFLOAT_ANSWERED) || answer.bits.low != left->bits.low ||
+            answer.bits.high != left->bits.high || answer.status != left->status || answer.number != left->number)
+            return false;
+    }
+    return true;
+}
+
+/* The errors, each of which leaves the answer as it was. */
+static unsigned refusals(void) {
+    const uint8_t bytes[16] = {0};
+    apfloat_answer answer = before;
+    const uint32_t codes[][2] = {
+        {apfloat_sum(0, 5, bytes, 1, &answer), APFLOAT_UNKNOWN_FORMAT},
+        {apfloat_sum(APFLOAT_E2M1FN, 0, bytes, 1, &answer), APFLOAT_UNKNOWN_FORMAT},
+        {apfloat_sum_abs(APFLOAT_QUAD, 5, bytes, 1, &answer), APFLOAT_UNKNOWN_MODE},
+        {apfloat_sum_square(APFLOAT_HALF, APFLOAT_SATURATE, bytes, 2, &answer), APFLOAT_UNKNOWN_MODE},
+        {apfloat_sum(APFLOAT_QUAD, 0, bytes, 16, &answer), APFLOAT_NO_SUCH_OPERATION},
+        {apfloat_sum_abs(APFLOAT_X87 | APFLOAT_IEEE_FLAGS, 0, bytes, 10, &answer), APFLOAT_NO_SUCH_OPERATION},
+        {apfloat_dot(APFLOAT_DOUBLE_PAIR, 0, bytes, 1, bytes, 2, &answer), APFLOAT_NO_SUCH_OPERATION},
+        {apfloat_sum(APFLOAT_HALF, 0, bytes, 3, &answer), APFLOAT_WRONG_LENGTH},
+        {apfloat_sum_square(APFLOAT_TF32, 0, bytes, 6, &answer), APFLOAT_WRONG_LENGTH},
+        {apfloat_dot(APFLOAT_HALF, 0, bytes, 4, bytes, 2, &answer), APFLOAT_WRONG_LENGTH},
+        {apfloat_dot(APFLOAT_HALF, 0, bytes, 3, bytes, 3, &answer), APFLOAT_WRONG_LENGTH}};
+    unsigned count = 0;
+    for (size_t i = 0; i < COUNT(codes); i++)
+        if (codes[i][0] == codes[i][1] && memcmp(&answer, &before, sizeof answer) == 0) count++;
+    return count;
+}
+
+int main(void) {
+    static const char *const calls[] = {"sum", "sum_abs", "sum_square", "dot"};
+    static char line[1 << 14];
+    unsigned agreeing[COUNT(calls)] = {0};
+    for (unsigned row = 1; fgets(line, sizeof line, stdin); row++) {
+        line[strcspn(line, "\n")] = '\0';
+        char *columns[COLUMNS];
+        if (*line == '#' || split(line, columns, COLUMNS) != COLUMNS) continue;
+        uint32_t format = format_of(columns[1]);
+        if (format == NO_CODE) continue;
+        if (!agrees(columns, format)) printf("row %u differs\n", row);
+        else
+            for (size_t i = 0; i < COUNT(calls); i++) agreeing[i] += strcmp(columns[0], calls[i]) == 0;
+    }
+    for (size_t i = 0; i < COUNT(calls); i++) printf("%s: %u rows agree\n", calls[i], agreeing[i]);
+    printf("%u errors agree\n", refusals());
+    return 0;
+}
