@@ -18,6 +18,7 @@
 //! `packing` packs codes of 4 and 6 bits into bytes, and `blocks` has blocks of elements with a common scale.
 #![tactic(auto)]
 
+pub mod arithmetic;
 pub mod blocks;
 pub mod cuts;
 pub mod float8_e3m4;

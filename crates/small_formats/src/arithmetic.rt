@@ -1,0 +1,228 @@
+//! Arithmetic of storage formats (IEEE 754-2019 5.4.1).
+//!
+//! An operation is computed toward zero in `WideS`, which has so many more digits and exponents than each storage
+//! format that its result, once it is rounded to odd, tells all that a rounding has to know. That result is rounded by
+//! `StoredFloat::from_value_by`, in each mode of conversions; so the exact result is rounded once.
+
+ghost use Rattle.std.specs.Prelude.{◌≡◌, ◌-◌, ◌^◌, false, pos, neg_ℤ, refl};
+ghost use Rattle.apfloat_model.specs.declared.kinds.NonfiniteBehavior.TheVariants.{IEEE754};
+ghost use Rattle.apfloat_model.proofs.formats.LawTest.{lawful_from_test};
+ghost use Rattle.apfloat_model.specs.arithmetic.FusedSums.{fused_sum};
+ghost use Rattle.apfloat_model.specs.arithmetic.Products.{product};
+ghost use Rattle.apfloat_model.specs.arithmetic.Quotients.{quotient};
+ghost use Rattle.apfloat_model.specs.arithmetic.Roots.{root};
+ghost use Rattle.apfloat_model.specs.arithmetic.Sums.{difference, sum};
+ghost use Rattle.apfloat_model.specs.rounding.Flags.{Gives, bits_of};
+ghost use Rattle.small_formats.specs.declared.modes.NanResult.TheVariants.{Zero};
+ghost use Rattle.small_formats.specs.Arithmetic.{IsProjected, IsProjection, YieldsBy, widened};
+ghost use Rattle.small_formats.specs.Codes.{datum_of};
+ghost use Rattle.small_formats.specs.ModeConversions.{IsIntoBy};
+ghost use Rattle.small_formats.specs.Storage.{format_with};
+ghost use Rattle.small_formats.specs.Types.{constants_of};
+
+use crate::format::StorageFormat;
+use crate::from_value::largest_of_sign;
+use crate::modes::{ConversionRound, NanResult};
+use crate::picks::ieee_mode;
+use crate::stored::StoredFloat;
+use apfloat_arithmetic::sums::sign_of_zero;
+use apfloat_base::{Category, ExpInt, Float, NonfiniteBehavior, Round, Status, StatusAnd};
+use apfloat_ieee::{IeeeFloat, Semantics};
+use round_to_odd::to_odd;
+
+/// A format for computing only: 53 digits, and the widest range of exponents that a format may have.
+#[derive(Clone, Copy)]
+pub(crate) struct WideS;
+
+impl Semantics for WideS {
+    const BITS: usize = 0;
+
+    const EXP_BITS: usize = 0;
+
+    const PRECISION: usize = 53;
+
+    const NONFINITE_BEHAVIOR: NonfiniteBehavior = NonfiniteBehavior::IEEE754;
+
+    const MAX_EXP: ExpInt = 1 << 20;
+
+    const IEEE_MAX_EXP: ExpInt = 0;
+
+    const MIN_EXP: ExpInt = -(1 << 20);
+
+    const IEEE_MIN_EXP: ExpInt = 0;
+
+    const NAN_SIGNIFICAND_BASE: u128 = 0;
+
+    const NAN_PAYLOAD_MASK: u128 = (1 << 52) - 1;
+
+    const QNAN_SIGNIFICAND: u128 = 1 << 51;
+
+    const EXPLICIT_INTEGER_BIT: bool = false;
+
+    const TINY_BEFORE_ROUNDING: bool = false;
+
+    ghost BITS = { 0 };
+
+    ghost EXP_BITS = { 0 };
+
+    ghost PRECISION = { 53 };
+
+    ghost NONFINITE_BEHAVIOR = { IEEE754 };
+
+    ghost MAX_EXP = { pos (2 ^ 20) };
+
+    ghost IEEE_MAX_EXP = { pos 0 };
+
+    ghost MIN_EXP = { neg_ℤ (pos (2 ^ 20)) };
+
+    ghost IEEE_MIN_EXP = { pos 0 };
+
+    ghost NAN_SIGNIFICAND_BASE = { 0 };
+
+    ghost NAN_PAYLOAD_MASK = { 2 ^ 52 - 1 };
+
+    ghost QNAN_SIGNIFICAND = { 2 ^ 51 };
+
+    ghost EXPLICIT_INTEGER_BIT = { false };
+
+    ghost TINY_BEFORE_ROUNDING = { false };
+
+    ghost lawful = { lawful_from_test _ refl };
+}
+
+/// The number in the wide format.
+fn widened<F: StorageFormat>(x: StoredFloat<F>) -> IeeeFloat<WideS>
+    ensures { result ≡ widened (constants_of F.StorageFormat) x }
+{
+    let mut loses_info = false;
+    x.convert_r(Round::TowardZero, &mut loses_info).value
+}
+
+/// A result that was rounded to odd, rounded to the storage format; `of_zero` is the sign of a zero.
+fn from_odd<F: StorageFormat>(
+    odd: StatusAnd<IeeeFloat<WideS>>,
+    of_zero: bool,
+    mode: ConversionRound,
+) -> StatusAnd<StoredFloat<F>>
+    ensures { Gives (IsProjected (constants_of F.StorageFormat) mode of_zero odd.value
+        (bits_of odd.status)) result }
+{
+    match odd.value.category() {
+        Category::NaN => odd.status.and(StoredFloat::with_sign(false, 0)),
+        Category::Infinity => odd.status.and(largest_of_sign(odd.value.is_negative())),
+        Category::Zero => Status::OK.and(StoredFloat::with_sign(of_zero, 0)),
+        Category::Normal => {
+            let mut loses_info = false;
+            StoredFloat::from_value_by(odd.value, mode, NanResult::Zero, &mut loses_info)
+        }
+    }
+}
+
+/// The result of an operation in the storage format, from that toward zero in the wide format.
+fn projected<F: StorageFormat>(
+    truncated: StatusAnd<IeeeFloat<WideS>>,
+    of_zero: bool,
+    mode: ConversionRound,
+) -> StatusAnd<StoredFloat<F>>
+    ensures { Gives (IsProjection (constants_of F.StorageFormat) mode of_zero truncated) result }
+{
+    let odd = to_odd(truncated, truncated.value.is_negative());
+    from_odd(odd, of_zero, mode)
+}
+
+impl<F: StorageFormat> StoredFloat<F> {
+    /// The number with the other sign; that of a zero changes too (IEEE 754-2019 5.5.1, negate).
+    pub fn negate(self) -> Self
+        ensures { datum_of (constants_of F.StorageFormat) result
+            ≡ opposite (datum_of (constants_of F.StorageFormat) self) }
+    {
+        Self::with_sign(!self.is_negative(), self.magnitude())
+    }
+
+    /// `self + rhs`, rounded once, with the flags of that rounding.
+    ///
+    /// Past the largest number the result is that number, as in `from_value_by`. The sign of an exact zero that is the
+    /// sum of opposite numbers is minus only where the mode is toward negative (6.3).
+    pub fn add_by(self, rhs: Self, mode: ConversionRound) -> StatusAnd<Self>
+        ensures { let c = constants_of F.StorageFormat in Gives (YieldsBy c mode
+            (sum (format_with c) (datum_of c self) (datum_of c rhs))) result }
+    {
+        let truncated = widened(self).add_r(widened(rhs), Round::TowardZero);
+        let left = self.is_negative();
+        projected(truncated, sign_of_zero(ieee_mode(mode), left, rhs.is_negative()), mode)
+    }
+
+    /// `self - rhs`, rounded once, as the sum of `self` and the number opposite to `rhs`.
+    pub fn sub_by(self, rhs: Self, mode: ConversionRound) -> StatusAnd<Self>
+        ensures { let c = constants_of F.StorageFormat in Gives (YieldsBy c mode
+            (difference (format_with c) (datum_of c self) (datum_of c rhs))) result }
+    {
+        self.add_by(rhs.negate(), mode)
+    }
+
+    /// `self * rhs`, rounded once, with the flags of that rounding.
+    pub fn mul_by(self, rhs: Self, mode: ConversionRound) -> StatusAnd<Self>
+        ensures { let c = constants_of F.StorageFormat in Gives (YieldsBy c mode
+            (product (format_with c) (datum_of c self) (datum_of c rhs))) result }
+    {
+        let truncated = widened(self).mul_r(widened(rhs), Round::TowardZero);
+        projected(truncated, truncated.value.is_negative(), mode)
+    }
+
+    /// `self / rhs`, rounded once, with the flags of that rounding.
+    ///
+    /// A number divided by zero is the largest number with the sign of the quotient, with DIV_BY_ZERO, and zero divided
+    /// by zero is +0, with INVALID_OP.
+    pub fn div_by(self, rhs: Self, mode: ConversionRound) -> StatusAnd<Self>
+        ensures { let c = constants_of F.StorageFormat in Gives (YieldsBy c mode
+            (quotient (format_with c) (datum_of c self) (datum_of c rhs))) result }
+    {
+        let truncated = widened(self).div_r(widened(rhs), Round::TowardZero);
+        projected(truncated, truncated.value.is_negative(), mode)
+    }
+
+    /// The square root, rounded once, with the flags of that rounding. A zero is its own root, and the root of a number
+    /// below zero is +0, with INVALID_OP.
+    pub fn sqrt_by(self, mode: ConversionRound) -> StatusAnd<Self>
+        ensures { let c = constants_of F.StorageFormat in Gives (YieldsBy c mode
+            (root (format_with c) (datum_of c self))) result }
+    {
+        let truncated = widened(self).sqrt_r(Round::TowardZero);
+        projected(truncated, self.is_negative(), mode)
+    }
+
+    /// `self * multiplicand + addend`, rounded once (fusedMultiplyAdd), with the flags of that rounding. The sign of an
+    /// exact zero is that of a sum.
+    pub fn mul_add_by(
+        self,
+        multiplicand: Self,
+        addend: Self,
+        mode: ConversionRound,
+    ) -> StatusAnd<Self>
+        ensures { let c = constants_of F.StorageFormat in Gives (YieldsBy c mode
+            (fused_sum (format_with c) (datum_of c self) (datum_of c multiplicand)
+            (datum_of c addend))) result }
+    {
+        let truncated = widened(self).mul_add_r(
+            widened(multiplicand),
+            widened(addend),
+            Round::TowardZero,
+        );
+        let left = self.is_negative() != multiplicand.is_negative();
+        projected(truncated, sign_of_zero(ieee_mode(mode), left, addend.is_negative()), mode)
+    }
+
+    /// The number in another storage format, rounded once (5.4.2), with the flags of that rounding. `loses_info` is set
+    /// to whether the result differs.
+    pub fn convert_by<G: StorageFormat>(
+        self,
+        mode: ConversionRound,
+        loses_info: &mut bool,
+    ) -> StatusAnd<StoredFloat<G>>
+        ensures { let c = constants_of F.StorageFormat in IsIntoBy (constants_of G.StorageFormat)
+            (format_with c) mode Zero (datum_of c self) result.value (bits_of result.status)
+            loses_info.new }
+    {
+        StoredFloat::from_value_by(widened(self), mode, NanResult::Zero, loses_info)
+    }
+}
