@@ -11,7 +11,7 @@ use Rattle.apfloat_model.specs.order.Classes.{is_negative}
 use Rattle.apfloat_model.specs.rounding.Answer.{IsAnswer}
 use Rattle.apfloat_model.specs.rounding.DeliveredRoots.{IsAboveRoot, IsBelowRoot, root_status, square_of}
 use Rattle.apfloat_model.specs.rounding.Flags.{bits_of}
-use Rattle.apfloat_model.specs.rounding.Outcome.{IsSound, Outcome, settled, rounded, totalled, rooted}
+use Rattle.apfloat_model.specs.rounding.Outcome.{Outcome, settled, rounded, totalled, rooted}
 use Rattle.apfloat_model.specs.rounding.Rounding.{ok_bits, takes_above}
 use Rattle.round_to_odd.specs.Odd.{IsAnswerMadeOdd}
 use Rattle.small_formats.specs.declared.modes.ConversionRound.{ConversionRound}
@@ -88,26 +88,25 @@ wide_format =
       ieee_flags = false;
     }
 
--- how many quanta of the wider format a quantum is
-abbrev pub wide_quanta : StorageConstants → ℕ
-wide_quanta c = 2 ^ (wide_format.scale - (format_with c).scale)
+-- how many quanta of the wider format f a quantum is
+abbrev pub wide_quanta : Format → StorageConstants → ℕ
+wide_quanta f c = 2 ^ (f.scale - (format_with c).scale)
 
-abbrev pub widened : StorageConstants → ℕ → Datum
-widened c code = finite (is_negative_code c code) (point c.precision (magnitude_of c code) * wide_quanta c)
+abbrev pub widened : Format → StorageConstants → ℕ → Datum
+widened f c code = finite (is_negative_code c code) (point c.precision (magnitude_of c code) * wide_quanta f c)
 
--- a result that was rounded to odd in the wider format becomes this code; `of_zero` is the sign of a zero
-abbrev pub IsProjected : StorageConstants → ConversionRound → Bool → Datum → ℕ → ℕ → ℕ → Type 0
-IsProjected c mode of_zero (nan b s) flags code status =
-    IsAnswer (finite false 0) flags (datum_of c code) status
-IsProjected c mode of_zero (infinite b) flags code status =
+-- a result that was rounded to odd in f becomes this code; `of_zero` is the sign of a zero
+abbrev pub IsProjected : Format → StorageConstants → ConversionRound → Bool → Datum → ℕ → ℕ → ℕ → Type 0
+IsProjected f c mode of_zero (nan b s) flags code status = IsAnswer (finite false 0) flags (datum_of c code) status
+IsProjected f c mode of_zero (infinite b) flags code status =
     IsAnswer (finite b (largest (format_with c))) flags (datum_of c code) status
-IsProjected c mode of_zero (finite b n) flags code status =
+IsProjected f c mode of_zero (finite b n) flags code status =
     MatchBool (eqb n 0) (IsAnswer (finite of_zero 0) ok_bits (datum_of c code) status)
-    (IsSaturatedBy c mode b (n * 2 ^ (format_with c).scale) (2 ^ wide_format.scale) code status)
+    (IsSaturatedBy c mode b (n * 2 ^ (format_with c).scale) (2 ^ f.scale) code status)
 
 -- the same for a result toward zero
-pub record IsProjection (c : StorageConstants) (mode : ConversionRound) (of_zero : Bool)
+pub record IsProjection (f : Format) (c : StorageConstants) (mode : ConversionRound) (of_zero : Bool)
     (truncated : StatusAnd Datum) (code status : ℕ) : Type 0 where
   pub odd : StatusAnd Datum
-  pub is_odd : IsAnswerMadeOdd wide_format (is_negative truncated.value) truncated odd
-  pub is_projected : IsProjected c mode of_zero odd.value (bits_of odd.status) code status
+  pub is_odd : IsAnswerMadeOdd f (is_negative truncated.value) truncated odd
+  pub is_projected : IsProjected f c mode of_zero odd.value (bits_of odd.status) code status

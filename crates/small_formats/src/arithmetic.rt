@@ -13,8 +13,9 @@ ghost use Rattle.apfloat_model.specs.arithmetic.Quotients.{quotient};
 ghost use Rattle.apfloat_model.specs.arithmetic.Roots.{root};
 ghost use Rattle.apfloat_model.specs.arithmetic.Sums.{difference, sum};
 ghost use Rattle.apfloat_model.specs.rounding.Flags.{Gives, bits_of};
+ghost use Rattle.apfloat_model.specs.rounding.Negation.{negated};
 ghost use Rattle.small_formats.specs.declared.modes.NanResult.TheVariants.{Zero};
-ghost use Rattle.small_formats.specs.Arithmetic.{IsProjected, IsProjection, YieldsBy, widened};
+ghost use Rattle.small_formats.specs.Arithmetic.{IsProjected, IsProjection, YieldsBy, wide_format, widened};
 ghost use Rattle.small_formats.specs.Codes.{datum_of};
 ghost use Rattle.small_formats.specs.ModeConversions.{IsIntoBy};
 ghost use Rattle.small_formats.specs.Storage.{format_with};
@@ -92,7 +93,7 @@ impl Semantics for WideS {
 
 /// The number in the wide format.
 fn widened<F: StorageFormat>(x: StoredFloat<F>) -> IeeeFloat<WideS>
-    ensures { result ≡ widened (constants_of F.StorageFormat) x }
+    ensures { result ≡ widened wide_format (constants_of F.StorageFormat) x }
 {
     let mut loses_info = false;
     x.convert_r(Round::TowardZero, &mut loses_info).value
@@ -104,7 +105,7 @@ fn from_odd<F: StorageFormat>(
     of_zero: bool,
     mode: ConversionRound,
 ) -> StatusAnd<StoredFloat<F>>
-    ensures { Gives (IsProjected (constants_of F.StorageFormat) mode of_zero odd.value
+    ensures { Gives (IsProjected wide_format (constants_of F.StorageFormat) mode of_zero odd.value
         (bits_of odd.status)) result }
 {
     match odd.value.category() {
@@ -124,7 +125,8 @@ fn projected<F: StorageFormat>(
     of_zero: bool,
     mode: ConversionRound,
 ) -> StatusAnd<StoredFloat<F>>
-    ensures { Gives (IsProjection (constants_of F.StorageFormat) mode of_zero truncated) result }
+    ensures { Gives (IsProjection wide_format (constants_of F.StorageFormat) mode of_zero truncated)
+        result }
 {
     let odd = to_odd(truncated, truncated.value.is_negative());
     from_odd(odd, of_zero, mode)
@@ -133,8 +135,8 @@ fn projected<F: StorageFormat>(
 impl<F: StorageFormat> StoredFloat<F> {
     /// The number with the other sign; that of a zero changes too (IEEE 754-2019 5.5.1, negate).
     pub fn negate(self) -> Self
-        ensures { datum_of (constants_of F.StorageFormat) result
-            ≡ opposite (datum_of (constants_of F.StorageFormat) self) }
+        ensures { let c = constants_of F.StorageFormat in
+            datum_of c result ≡ negated (format_with c).nonfinite (datum_of c self) }
     {
         Self::with_sign(!self.is_negative(), self.magnitude())
     }
