@@ -22,5 +22,5 @@ pub mod stochastic_lemmas
 pub mod packing_lemmas
 pub mod blocks_lemmas
 pub mod saturation_lemmas
-mod AlikePicks
-mod ProjectedOnce
+mod WideResults
+mod WideOperands

@@ -1,30 +1,26 @@
 //! Arithmetic of storage formats (IEEE 754-2019 5.4.1).
 //!
-//! An operation is computed toward zero in `WideS`, which has so many more digits and exponents than each storage
-//! format that its result, once it is rounded to odd, tells all that a rounding has to know. That result is rounded by
-//! `StoredFloat::from_value_by`, in each mode of conversions; so the exact result is rounded once.
+//! An operation is computed toward zero in `WideS`, which has more digits than each storage format, and exponents
+//! enough. That result, rounded to odd, tells all that a rounding has to know, and `StoredFloat::from_value` rounds it:
+//! so the exact result is rounded once.
 
 ghost use Rattle.std.specs.Prelude.{◌≡◌, ◌-◌, ◌^◌, false, pos, neg_ℤ, refl};
 ghost use Rattle.apfloat_model.specs.declared.kinds.NonfiniteBehavior.TheVariants.{IEEE754};
 ghost use Rattle.apfloat_model.proofs.formats.LawTest.{lawful_from_test};
-ghost use Rattle.apfloat_model.specs.arithmetic.FusedSums.{fused_sum};
-ghost use Rattle.apfloat_model.specs.arithmetic.Products.{product};
-ghost use Rattle.apfloat_model.specs.arithmetic.Quotients.{quotient};
-ghost use Rattle.apfloat_model.specs.arithmetic.Roots.{root};
-ghost use Rattle.apfloat_model.specs.arithmetic.Sums.{difference, sum};
+ghost use Rattle.apfloat_model.specs.arithmetic.FusedSums.{IsFusedSum};
+ghost use Rattle.apfloat_model.specs.arithmetic.Products.{IsProduct};
+ghost use Rattle.apfloat_model.specs.arithmetic.Quotients.{IsQuotient};
+ghost use Rattle.apfloat_model.specs.arithmetic.Roots.{IsRoot};
+ghost use Rattle.apfloat_model.specs.arithmetic.Sums.{IsDifference, IsSum};
 ghost use Rattle.apfloat_model.specs.rounding.Flags.{Gives, bits_of};
 ghost use Rattle.apfloat_model.specs.rounding.Negation.{negated};
-ghost use Rattle.small_formats.specs.declared.modes.NanResult.TheVariants.{Zero};
-ghost use Rattle.small_formats.specs.Arithmetic.{IsProjected, IsProjection, YieldsBy, wide_format, widened};
+ghost use Rattle.small_formats.specs.Arithmetic.{IsProjected, IsProjection, IsStored, wide_format, widened};
 ghost use Rattle.small_formats.specs.Codes.{datum_of};
-ghost use Rattle.small_formats.specs.ModeConversions.{IsIntoBy};
 ghost use Rattle.small_formats.specs.Storage.{format_with};
 ghost use Rattle.small_formats.specs.Types.{constants_of};
 
 use crate::format::StorageFormat;
 use crate::from_value::largest_of_sign;
-use crate::modes::{ConversionRound, NanResult};
-use crate::picks::ieee_mode;
 use crate::stored::StoredFloat;
 use apfloat_arithmetic::sums::sign_of_zero;
 use apfloat_base::{Category, ExpInt, Float, NonfiniteBehavior, Round, Status, StatusAnd};
@@ -103,9 +99,9 @@ fn widened<F: StorageFormat>(x: StoredFloat<F>) -> IeeeFloat<WideS>
 fn from_odd<F: StorageFormat>(
     odd: StatusAnd<IeeeFloat<WideS>>,
     of_zero: bool,
-    mode: ConversionRound,
+    round: Round,
 ) -> StatusAnd<StoredFloat<F>>
-    ensures { Gives (IsProjected wide_format (constants_of F.StorageFormat) mode of_zero odd.value
+    ensures { Gives (IsProjected wide_format (constants_of F.StorageFormat) round of_zero odd.value
         (bits_of odd.status)) result }
 {
     match odd.value.category() {
@@ -114,26 +110,26 @@ fn from_odd<F: StorageFormat>(
         Category::Zero => Status::OK.and(StoredFloat::with_sign(of_zero, 0)),
         Category::Normal => {
             let mut loses_info = false;
-            StoredFloat::from_value_by(odd.value, mode, NanResult::Zero, &mut loses_info)
+            StoredFloat::from_value(odd.value, round, &mut loses_info)
         }
     }
 }
 
-/// The result of an operation in the storage format, from that toward zero in the wide format.
+/// The result of an operation, from its result toward zero in the wide format.
 fn projected<F: StorageFormat>(
     truncated: StatusAnd<IeeeFloat<WideS>>,
     of_zero: bool,
-    mode: ConversionRound,
+    round: Round,
 ) -> StatusAnd<StoredFloat<F>>
-    ensures { Gives (IsProjection wide_format (constants_of F.StorageFormat) mode of_zero truncated)
-        result }
+    ensures { Gives (IsProjection wide_format (constants_of F.StorageFormat) round of_zero
+        truncated) result }
 {
     let odd = to_odd(truncated, truncated.value.is_negative());
-    from_odd(odd, of_zero, mode)
+    from_odd(odd, of_zero, round)
 }
 
 impl<F: StorageFormat> StoredFloat<F> {
-    /// The number with the other sign; that of a zero changes too (IEEE 754-2019 5.5.1, negate).
+    /// The number with the other sign, a zero too (IEEE 754-2019 5.5.1, negate).
     pub fn negate(self) -> Self
         ensures { let c = constants_of F.StorageFormat in
             datum_of c result ≡ negated (format_with c).nonfinite (datum_of c self) }
@@ -141,90 +137,64 @@ impl<F: StorageFormat> StoredFloat<F> {
         Self::with_sign(!self.is_negative(), self.magnitude())
     }
 
-    /// `self + rhs`, rounded once, with the flags of that rounding.
-    ///
-    /// Past the largest number the result is that number, as in `from_value_by`. The sign of an exact zero that is the
-    /// sum of opposite numbers is minus only where the mode is toward negative (6.3).
-    pub fn add_by(self, rhs: Self, mode: ConversionRound) -> StatusAnd<Self>
-        ensures { let c = constants_of F.StorageFormat in Gives (YieldsBy c mode
-            (sum (format_with c) (datum_of c self) (datum_of c rhs))) result }
+    /// `self + rhs`, rounded once, with the flags of that rounding. Past the largest number the result is that number,
+    /// as in `from_value`. The sum of opposite numbers is -0 only where the mode is toward negative (6.3).
+    pub fn add_r(self, rhs: Self, round: Round) -> StatusAnd<Self>
+        ensures { let c = constants_of F.StorageFormat in Gives (IsStored c
+            (IsSum (format_with c) round (datum_of c self) (datum_of c rhs))) result }
     {
         let truncated = widened(self).add_r(widened(rhs), Round::TowardZero);
-        let left = self.is_negative();
-        projected(truncated, sign_of_zero(ieee_mode(mode), left, rhs.is_negative()), mode)
+        let of_zero = sign_of_zero(round, self.is_negative(), rhs.is_negative());
+        projected(truncated, of_zero, round)
     }
 
     /// `self - rhs`, rounded once, as the sum of `self` and the number opposite to `rhs`.
-    pub fn sub_by(self, rhs: Self, mode: ConversionRound) -> StatusAnd<Self>
-        ensures { let c = constants_of F.StorageFormat in Gives (YieldsBy c mode
-            (difference (format_with c) (datum_of c self) (datum_of c rhs))) result }
+    pub fn sub_r(self, rhs: Self, round: Round) -> StatusAnd<Self>
+        ensures { let c = constants_of F.StorageFormat in Gives (IsStored c
+            (IsDifference (format_with c) round (datum_of c self) (datum_of c rhs))) result }
     {
-        self.add_by(rhs.negate(), mode)
+        self.add_r(rhs.negate(), round)
     }
 
     /// `self * rhs`, rounded once, with the flags of that rounding.
-    pub fn mul_by(self, rhs: Self, mode: ConversionRound) -> StatusAnd<Self>
-        ensures { let c = constants_of F.StorageFormat in Gives (YieldsBy c mode
-            (product (format_with c) (datum_of c self) (datum_of c rhs))) result }
+    pub fn mul_r(self, rhs: Self, round: Round) -> StatusAnd<Self>
+        ensures { let c = constants_of F.StorageFormat in Gives (IsStored c
+            (IsProduct (format_with c) round (datum_of c self) (datum_of c rhs))) result }
     {
         let truncated = widened(self).mul_r(widened(rhs), Round::TowardZero);
-        projected(truncated, truncated.value.is_negative(), mode)
+        projected(truncated, self.is_negative() != rhs.is_negative(), round)
     }
 
-    /// `self / rhs`, rounded once, with the flags of that rounding.
-    ///
-    /// A number divided by zero is the largest number with the sign of the quotient, with DIV_BY_ZERO, and zero divided
-    /// by zero is +0, with INVALID_OP.
-    pub fn div_by(self, rhs: Self, mode: ConversionRound) -> StatusAnd<Self>
-        ensures { let c = constants_of F.StorageFormat in Gives (YieldsBy c mode
-            (quotient (format_with c) (datum_of c self) (datum_of c rhs))) result }
+    /// `self / rhs`, rounded once, with the flags of that rounding. A number divided by zero is the largest number with
+    /// the sign of the quotient, with DIV_BY_ZERO, and zero divided by zero is +0, with INVALID_OP.
+    pub fn div_r(self, rhs: Self, round: Round) -> StatusAnd<Self>
+        ensures { let c = constants_of F.StorageFormat in Gives (IsStored c
+            (IsQuotient (format_with c) round (datum_of c self) (datum_of c rhs))) result }
     {
         let truncated = widened(self).div_r(widened(rhs), Round::TowardZero);
-        projected(truncated, truncated.value.is_negative(), mode)
+        projected(truncated, self.is_negative() != rhs.is_negative(), round)
     }
 
     /// The square root, rounded once, with the flags of that rounding. A zero is its own root, and the root of a number
     /// below zero is +0, with INVALID_OP.
-    pub fn sqrt_by(self, mode: ConversionRound) -> StatusAnd<Self>
-        ensures { let c = constants_of F.StorageFormat in Gives (YieldsBy c mode
-            (root (format_with c) (datum_of c self))) result }
+    pub fn sqrt_r(self, round: Round) -> StatusAnd<Self>
+        ensures { let c = constants_of F.StorageFormat in Gives (IsStored c
+            (IsRoot (format_with c) round (datum_of c self))) result }
     {
-        let truncated = widened(self).sqrt_r(Round::TowardZero);
-        projected(truncated, self.is_negative(), mode)
+        projected(widened(self).sqrt_r(Round::TowardZero), self.is_negative(), round)
     }
 
     /// `self * multiplicand + addend`, rounded once (fusedMultiplyAdd), with the flags of that rounding. The sign of an
     /// exact zero is that of a sum.
-    pub fn mul_add_by(
-        self,
-        multiplicand: Self,
-        addend: Self,
-        mode: ConversionRound,
-    ) -> StatusAnd<Self>
-        ensures { let c = constants_of F.StorageFormat in Gives (YieldsBy c mode
-            (fused_sum (format_with c) (datum_of c self) (datum_of c multiplicand)
+    pub fn mul_add_r(self, multiplicand: Self, addend: Self, round: Round) -> StatusAnd<Self>
+        ensures { let c = constants_of F.StorageFormat in Gives (IsStored c
+            (IsFusedSum (format_with c) round (datum_of c self) (datum_of c multiplicand)
             (datum_of c addend))) result }
     {
-        let truncated = widened(self).mul_add_r(
-            widened(multiplicand),
-            widened(addend),
-            Round::TowardZero,
-        );
+        let (factor, term) = (widened(multiplicand), widened(addend));
+        let truncated = widened(self).mul_add_r(factor, term, Round::TowardZero);
         let left = self.is_negative() != multiplicand.is_negative();
-        projected(truncated, sign_of_zero(ieee_mode(mode), left, addend.is_negative()), mode)
-    }
-
-    /// The number in another storage format, rounded once (5.4.2), with the flags of that rounding. `loses_info` is set
-    /// to whether the result differs.
-    pub fn convert_by<G: StorageFormat>(
-        self,
-        mode: ConversionRound,
-        loses_info: &mut bool,
-    ) -> StatusAnd<StoredFloat<G>>
-        ensures { let c = constants_of F.StorageFormat in IsIntoBy (constants_of G.StorageFormat)
-            (format_with c) mode Zero (datum_of c self) result.value (bits_of result.status)
-            loses_info.new }
-    {
-        StoredFloat::from_value_by(widened(self), mode, NanResult::Zero, loses_info)
+        let of_zero = sign_of_zero(round, left, addend.is_negative());
+        projected(truncated, of_zero, round)
     }
 }
