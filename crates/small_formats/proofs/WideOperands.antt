@@ -1,15 +1,19 @@
 -- The numbers of a storage format in a wider format, and results that are projected.
-use Rattle.std.proofs.Common.{◌≡◌, ℕ, ◌+◌, ◌-◌, ◌*◌, ◌^◌, ◌<◌, ◌≤◌, Bool, eqb, sym, refl, ap, ◌∙◌, subst, arith}
+use Rattle.std.proofs.Common.{◌≡◌, ℕ, ◌+◌, ◌-◌, ◌*◌, ◌^◌, ◌<◌, ◌≤◌, Bool, eqb, not}
+use Rattle.std.proofs.Common.{sym, refl, ap, ◌∙◌, subst, ⊎_elim, arith}
 use Rattle.std.proofs.Math.Nat.{le_of_mul-le-mul_right, mul-le-mul_right, pow-le-pow_right}
+use Rattle.std.proofs.lemmas.Bool.{cases_eq, eq-eqb, ne_eqb}
 use Rattle.std.proofs.lemmas.Int.{ints}
 use Rattle.std.proofs.lemmas.Nat.{mod_below, pow-add, pow_pos}
 use Rattle.apfloat_model.specs.declared.kinds.Category.TheVariants.{Normal}
 use Rattle.apfloat_model.specs.declared.kinds.NonfiniteBehavior.{NonfiniteBehavior}
+use Rattle.apfloat_model.specs.declared.kinds.NonfiniteBehavior.TheVariants.{IEEE754}
 use Rattle.apfloat_model.specs.declared.kinds.Round.{Round}
 use Rattle.apfloat_model.specs.arithmetic.Conversions.{IsExactlyConverted}
 use Rattle.apfloat_model.specs.formats.Datum.{Datum, finite, infinite, nan}
 use Rattle.apfloat_model.specs.formats.Format.{Format, largest}
 use Rattle.apfloat_model.specs.order.Classes.{category_of}
+use Rattle.apfloat_model.specs.rounding.Negation.{negated}
 use Rattle.apfloat_model.specs.rounding.Rounding.{zero_sign}
 use Rattle.apfloat_model.proofs.general.Choices.{match_false}
 use Rattle.apfloat_model.proofs.general.Powers.{two_pos}
@@ -91,6 +95,14 @@ number_projected f c mode of_zero (finite b n) flags code status loses e x =
     let none = number_only (eqb n 0) e in
     let y : IsStoredNumber c f mode b n code status loses = rw none at x in
     match_false (eqb n 0) _ _ none y.is_rounded
+
+-- the negation of a number
+pub opposite_is : (b : Bool) (n : ℕ) → negated IEEE754 (finite b n) ≡ finite (not b) n
+opposite_is b n =
+    ⊎_elim
+    (λ (e : n ≡ 0). rw (eq-eqb n 0 e) (ap (λ (k : ℕ). finite (not b) k) (sym e)))
+    (λ (e : n ≡ 0 → ⊥). rw (ne_eqb n 0 e) refl)
+    (cases_eq n 0)
 
 pub stored_once : IsStoredOnce
 stored_once c Says code other status flags law l k once x y =

@@ -14,8 +14,10 @@ use Rattle.apfloat_model.specs.declared.kinds.Round.TheVariants.{TowardZero}
 use Rattle.apfloat_model.specs.declared.status.StatusAnd.{StatusAnd}
 use Rattle.apfloat_model.specs.arithmetic.Exact.{IsRounded, magnitude, product_sign, sign_of, signed, zero_sum_sign}
 use Rattle.apfloat_model.specs.arithmetic.FusedSums.{IsFusedSum}
+use Rattle.apfloat_model.specs.arithmetic.Products.{IsProduct}
 use Rattle.apfloat_model.specs.arithmetic.Quotients.{IsQuotient}
 use Rattle.apfloat_model.specs.arithmetic.Roots.{IsDeliveredRoot, IsRoot}
+use Rattle.apfloat_model.specs.arithmetic.Sums.{IsSum}
 use Rattle.apfloat_model.specs.formats.Datum.{Datum, finite, infinite}
 use Rattle.apfloat_model.specs.formats.Format.{Format, greatest_significand, largest, nan_base}
 use Rattle.apfloat_model.specs.formats.Nan.{qnan}
@@ -265,7 +267,7 @@ module _ (c : StorageConstants) (f : Format) (times : ℕ) (w : IsWider c f time
       })
       (cases_lt 0 amount)
 
-  pub total : (b d : Bool) (m n k parts y : ℕ) → 0 < k → 0 < parts → 0 < y
+  total : (b d : Bool) (m n k parts y : ℕ) → 0 < k → 0 < parts → 0 < y
       → parts * 2 ^ f.scale ≡ k * 2 ^ (format_with c).scale * y → of_zero ≡ zero_sum_sign mode b d
       → IsRounded f TowardZero (zero_sum_sign TowardZero b d) (signed b (m * k) +ℤ signed d (n * k)) parts
       truncated.value (bits_of truncated.status)
@@ -293,12 +295,18 @@ module _ (c : StorageConstants) (f : Format) (times : ℕ) (w : IsWider c f time
       z ∙ sym (ap (λ (i : ℕ). sign_of own (signed s.sign i)) none ∙ ap (λ (i : ℤ). sign_of own i) (no_sign s.sign)))
       (subst (λ (i : ℤ). IsRounded f TowardZero toward i parts truncated.value (bits_of truncated.status)) s.scaled h))
 
-  pub product : (negative : Bool) (m n : ℕ) → of_zero ≡ negative
-      → IsDelivered f TowardZero negative (m * times * (n * times)) (2 ^ f.scale) truncated.value
-      (bits_of truncated.status)
-      → IsStored c (IsDelivered (format_with c) mode negative (m * n) (2 ^ (format_with c).scale)) code status
-  product negative m n z h =
-      number negative negative (m * times * (n * times)) (2 ^ f.scale) (m * n) (2 ^ (format_with c).scale)
+  pub sum : (b d : Bool) (m n : ℕ) → of_zero ≡ zero_sum_sign mode b d
+      → IsSum f TowardZero (finite b (m * times)) (finite d (n * times)) truncated.value (bits_of truncated.status)
+      → IsStored c (IsSum (format_with c) mode (finite b m) (finite d n)) code status
+  sum b d m n z h =
+      total b d m n times 1 1 w.some (lit< tt) (lit< tt) (let e = w.scale in omega (arith, e)) z h
+
+  pub product : (b d : Bool) (m n : ℕ) → of_zero ≡ product_sign b d
+      → IsProduct f TowardZero (finite b (m * times)) (finite d (n * times)) truncated.value (bits_of truncated.status)
+      → IsStored c (IsProduct (format_with c) mode (finite b m) (finite d n)) code status
+  product b d m n z h =
+      number (product_sign b d) (product_sign b d) (m * times * (n * times)) (2 ^ f.scale) (m * n)
+      (2 ^ (format_with c).scale)
       (pow_pos f.scale) (pow_pos (format_with c).scale)
       (ap (λ (i : ℕ). m * n * (i * i)) w.scale ∙ omega arith) (λ _. refl) (λ _. z) h
 

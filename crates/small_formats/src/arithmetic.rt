@@ -22,6 +22,7 @@ ghost use Rattle.small_formats.specs.Types.{constants_of};
 use crate::format::StorageFormat;
 use crate::from_value::largest_of_sign;
 use crate::stored::StoredFloat;
+use apfloat_arithmetic::products::product_sign;
 use apfloat_arithmetic::sums::sign_of_zero;
 use apfloat_base::{Category, ExpInt, Float, NonfiniteBehavior, Round, Status, StatusAnd};
 use apfloat_ieee::{IeeeFloat, Semantics};
@@ -162,7 +163,8 @@ impl<F: StorageFormat> StoredFloat<F> {
             (IsProduct (format_with c) round (datum_of c self) (datum_of c rhs))) result }
     {
         let truncated = widened(self).mul_r(widened(rhs), Round::TowardZero);
-        projected(truncated, self.is_negative() != rhs.is_negative(), round)
+        let of_zero = product_sign(self.is_negative(), rhs.is_negative());
+        projected(truncated, of_zero, round)
     }
 
     /// `self / rhs`, rounded once, with the flags of that rounding. A number divided by zero is the largest number with
@@ -172,7 +174,8 @@ impl<F: StorageFormat> StoredFloat<F> {
             (IsQuotient (format_with c) round (datum_of c self) (datum_of c rhs))) result }
     {
         let truncated = widened(self).div_r(widened(rhs), Round::TowardZero);
-        projected(truncated, self.is_negative() != rhs.is_negative(), round)
+        let of_zero = product_sign(self.is_negative(), rhs.is_negative());
+        projected(truncated, of_zero, round)
     }
 
     /// The square root, rounded once, with the flags of that rounding. A zero is its own root, and the root of a number
@@ -193,7 +196,7 @@ impl<F: StorageFormat> StoredFloat<F> {
     {
         let (factor, term) = (widened(multiplicand), widened(addend));
         let truncated = widened(self).mul_add_r(factor, term, Round::TowardZero);
-        let left = self.is_negative() != multiplicand.is_negative();
+        let left = product_sign(self.is_negative(), multiplicand.is_negative());
         let of_zero = sign_of_zero(round, left, addend.is_negative());
         projected(truncated, of_zero, round)
     }
