@@ -15,6 +15,7 @@ use Rattle.apfloat_model.specs.formats.Format.{Format, largest}
 use Rattle.apfloat_model.specs.order.Classes.{category_of}
 use Rattle.apfloat_model.specs.rounding.Negation.{negated}
 use Rattle.apfloat_model.specs.rounding.Rounding.{zero_sign}
+use Rattle.apfloat_model.proofs.Outcomes.{yields_once}
 use Rattle.apfloat_model.proofs.general.Choices.{match_false}
 use Rattle.apfloat_model.proofs.general.Powers.{two_pos}
 use Rattle.apfloat_model.proofs.order.Categories.{number_only}
@@ -105,9 +106,9 @@ opposite_is b n =
     (cases_eq n 0)
 
 pub stored_once : IsStoredOnce
-stored_once c Says code other status flags law l k once x y =
-    let same = once x.value y.value status flags x.says y.says in (
-      code_once c code other _ law l k x.value_is
-          (y.value_is ∙ sym (ap (λ (d : Datum). stored_datum (format_with c) d) same.0)),
+stored_once c mode outcome code other status flags law l k x y =
+    let same = yields_once (format_with c) mode outcome x.value y.value status flags x.yields y.yields in (
+      code_once c code other (stored_datum (format_with c) y.value) law l k
+          (x.value_is ∙ ap (λ (d : Datum). stored_datum (format_with c) d) same.0) y.value_is,
       same.1,
     )

@@ -13,18 +13,18 @@ use Rattle.apfloat_model.specs.declared.kinds.Round.{Round}
 use Rattle.apfloat_model.specs.declared.kinds.Round.TheVariants.{TowardZero}
 use Rattle.apfloat_model.specs.declared.status.StatusAnd.{StatusAnd}
 use Rattle.apfloat_model.specs.arithmetic.Exact.{IsRounded, magnitude, product_sign, sign_of, signed, zero_sum_sign}
-use Rattle.apfloat_model.specs.arithmetic.FusedSums.{IsFusedSum}
-use Rattle.apfloat_model.specs.arithmetic.Products.{IsProduct}
-use Rattle.apfloat_model.specs.arithmetic.Quotients.{IsQuotient}
-use Rattle.apfloat_model.specs.arithmetic.Roots.{IsDeliveredRoot, IsRoot}
-use Rattle.apfloat_model.specs.arithmetic.Sums.{IsSum}
+use Rattle.apfloat_model.specs.arithmetic.FusedSums.{IsFusedSum, fused_sum}
+use Rattle.apfloat_model.specs.arithmetic.Products.{IsProduct, product as product_of}
+use Rattle.apfloat_model.specs.arithmetic.Quotients.{IsQuotient, quotient as quotient_of}
+use Rattle.apfloat_model.specs.arithmetic.Roots.{IsDeliveredRoot, IsRoot, root as root_of}
+use Rattle.apfloat_model.specs.arithmetic.Sums.{IsSum, sum as sum_of}
 use Rattle.apfloat_model.specs.formats.Datum.{Datum, finite, infinite}
 use Rattle.apfloat_model.specs.formats.Format.{Format, greatest_significand, largest, nan_base}
 use Rattle.apfloat_model.specs.formats.Nan.{qnan}
 use Rattle.apfloat_model.specs.order.Classes.{is_negative}
 use Rattle.apfloat_model.specs.rounding.Flags.{bits_of}
 use Rattle.apfloat_model.specs.rounding.Grid.{IsBelow, IsAbove}
-use Rattle.apfloat_model.specs.rounding.Outcome.{Yields, invalid, rooted}
+use Rattle.apfloat_model.specs.rounding.Outcome.{Yields, invalid, rooted, rounded, totalled}
 use Rattle.apfloat_model.specs.rounding.Rounding.{IsDelivered, delivered_value, inexact_bit, leads_out, past_largest}
 use Rattle.apfloat_model.specs.rounding.Rounding.{signed_quanta, zero_sign}
 use Rattle.apfloat_model.proofs.general.Choices.{not_zero}
@@ -172,10 +172,10 @@ module _ (c : StorageConstants) (f : Format) (times : ℕ) (w : IsWider c f time
   stored : (negative : Bool) (a b x y : ℕ) → IsSaturated c mode negative a b code status
       → ((value : Datum) → IsDelivered (format_with c) mode negative a b value status
       → IsDelivered (format_with c) mode negative x y value status)
-      → IsStored c (IsDelivered (format_with c) mode negative x y) code status
+      → IsStored c mode (rounded negative x y) code status
   stored negative a b x y s same = record {
     value = delivered_value (format_with c) mode negative s.pick;
-    says = same (delivered_value (format_with c) mode negative s.pick)
+    yields = same (delivered_value (format_with c) mode negative s.pick)
         (record { pick = s.pick; is_pick = s.is_pick; value_is = refl; status_is = s.status_is });
     value_is = s.value_is
         ∙ settled (largest (format_with c)) s.pick (format_with c) negative (ltb (largest (format_with c)) s.pick)
@@ -186,7 +186,7 @@ module _ (c : StorageConstants) (f : Format) (times : ℕ) (w : IsWider c f time
   rounded_once : (negative : Bool) (amount parts x y : ℕ) → 0 < amount → 0 < parts → 0 < y
       → x * (parts * 2 ^ f.scale) ≡ amount * 2 ^ (format_with c).scale * y
       → IsDelivered f TowardZero negative amount parts truncated.value (bits_of truncated.status)
-      → IsStored c (IsDelivered (format_with c) mode negative x y) code status
+      → IsStored c mode (rounded negative x y) code status
   rounded_once negative amount parts x y positive some apart e d =
       let low = w.law.precision_low in
       let digits = w.digits in
@@ -244,11 +244,11 @@ module _ (c : StorageConstants) (f : Format) (times : ℕ) (w : IsWider c f time
       → x * (parts * 2 ^ f.scale) ≡ amount * 2 ^ (format_with c).scale * y → (0 < amount → negative ≡ sign)
       → (amount ≡ 0 → of_zero ≡ sign)
       → IsDelivered f TowardZero negative amount parts truncated.value (bits_of truncated.status)
-      → IsStored c (IsDelivered (format_with c) mode sign x y) code status
+      → IsStored c mode (rounded sign x y) code status
   number negative sign amount parts x y some apart e alike zero d =
       ⊎_elim
       (λ (p : 0 < amount).
-      subst (λ (b : Bool). IsStored c (IsDelivered (format_with c) mode b x y) code status) (alike p)
+      subst (λ (b : Bool). IsStored c mode (rounded b x y) code status) (alike p)
       (rounded_once negative amount parts x y p some apart e d))
       (λ (h : amount ≤ 0).
       let none : amount ≡ 0 = omega (arith, h) in
@@ -261,7 +261,7 @@ module _ (c : StorageConstants) (f : Format) (times : ℕ) (w : IsWider c f time
       let nothing : x ≡ 0 = eq_of_mul-eq-mul_right (parts * 2 ^ f.scale) pieces x 0 k in
       record {
         value = finite sign 0;
-        says = subst (λ (n : ℕ). IsDelivered (format_with c) mode sign x y (finite sign 0) n) (sym r.status_is)
+        yields = subst (λ (n : ℕ). IsDelivered (format_with c) mode sign x y (finite sign 0) n) (sym r.status_is)
             (zero_delivered (format_with c) mode sign y x apart nothing);
         value_is = r.value_is ∙ ap (λ (b : Bool). finite b 0) (zero none);
       })
@@ -271,7 +271,7 @@ module _ (c : StorageConstants) (f : Format) (times : ℕ) (w : IsWider c f time
       → parts * 2 ^ f.scale ≡ k * 2 ^ (format_with c).scale * y → of_zero ≡ zero_sum_sign mode b d
       → IsRounded f TowardZero (zero_sum_sign TowardZero b d) (signed b (m * k) +ℤ signed d (n * k)) parts
       truncated.value (bits_of truncated.status)
-      → IsStored c (IsRounded (format_with c) mode (zero_sum_sign mode b d) (signed b m +ℤ signed d n) y) code status
+      → IsStored c mode (totalled b d (signed b m +ℤ signed d n) y) code status
   total b d m n k parts y p some apart e z h =
       let s = total_of b d m n k in
       let u : ℕ = s.size in
@@ -279,8 +279,7 @@ module _ (c : StorageConstants) (f : Format) (times : ℕ) (w : IsWider c f time
       let own : Bool = zero_sum_sign mode b d in
       let wide = magnitude_signed s.sign (u * k) in
       let narrow = magnitude_signed s.sign u in
-      subst (λ (i : ℤ). IsStored c (IsRounded (format_with c) mode own i y) code status) (sym s.is)
-      (number (sign_of toward (signed s.sign (u * k))) (sign_of own (signed s.sign u))
+      let r = number (sign_of toward (signed s.sign (u * k))) (sign_of own (signed s.sign u))
       (magnitude (signed s.sign (u * k))) parts (magnitude (signed s.sign u)) y some apart
       (ap (λ (i : ℕ). i * (parts * 2 ^ f.scale)) narrow
       ∙ (let v : u * (parts * 2 ^ f.scale) ≡ u * k * 2 ^ (format_with c).scale * y =
@@ -293,17 +292,22 @@ module _ (c : StorageConstants) (f : Format) (times : ℕ) (w : IsWider c f time
       (λ a.
       let none : u ≡ 0 = eq_of_mul-eq-mul_right k p u 0 (omega (arith, a, wide)) in
       z ∙ sym (ap (λ (i : ℕ). sign_of own (signed s.sign i)) none ∙ ap (λ (i : ℤ). sign_of own i) (no_sign s.sign)))
-      (subst (λ (i : ℤ). IsRounded f TowardZero toward i parts truncated.value (bits_of truncated.status)) s.scaled h))
+      (subst (λ (i : ℤ). IsRounded f TowardZero toward i parts truncated.value (bits_of truncated.status)) s.scaled h) in
+      record {
+        value = r.value;
+        yields = subst (λ (i : ℤ). IsRounded (format_with c) mode own i y r.value status) (sym s.is) r.yields;
+        value_is = r.value_is;
+      }
 
   pub sum : (b d : Bool) (m n : ℕ) → of_zero ≡ zero_sum_sign mode b d
       → IsSum f TowardZero (finite b (m * times)) (finite d (n * times)) truncated.value (bits_of truncated.status)
-      → IsStored c (IsSum (format_with c) mode (finite b m) (finite d n)) code status
+      → IsStored c mode (sum_of (format_with c) (finite b m) (finite d n)) code status
   sum b d m n z h =
       total b d m n times 1 1 w.some (lit< tt) (lit< tt) (let e = w.scale in omega (arith, e)) z h
 
   pub product : (b d : Bool) (m n : ℕ) → of_zero ≡ product_sign b d
       → IsProduct f TowardZero (finite b (m * times)) (finite d (n * times)) truncated.value (bits_of truncated.status)
-      → IsStored c (IsProduct (format_with c) mode (finite b m) (finite d n)) code status
+      → IsStored c mode (product_of (format_with c) (finite b m) (finite d n)) code status
   product b d m n z h =
       number (product_sign b d) (product_sign b d) (m * times * (n * times)) (2 ^ f.scale) (m * n)
       (2 ^ (format_with c).scale)
@@ -313,7 +317,7 @@ module _ (c : StorageConstants) (f : Format) (times : ℕ) (w : IsWider c f time
   pub fused : (a b d : Bool) (l m n : ℕ) → of_zero ≡ zero_sum_sign mode (product_sign a b) d
       → IsFusedSum f TowardZero (finite a (l * times)) (finite b (m * times)) (finite d (n * times)) truncated.value
       (bits_of truncated.status)
-      → IsStored c (IsFusedSum (format_with c) mode (finite a l) (finite b m) (finite d n)) code status
+      → IsStored c mode (fused_sum (format_with c) (finite a l) (finite b m) (finite d n)) code status
   fused a b d l m n z h =
       let s : Bool = product_sign a b in
       let gs : ℕ = 2 ^ (format_with c).scale in
@@ -329,19 +333,19 @@ module _ (c : StorageConstants) (f : Format) (times : ℕ) (w : IsWider c f time
       fs truncated.value (bits_of truncated.status)) left h))
 
   -- without a number: what stands for the NaN
-  invalid_result : truncated.value ≡ qnan f 0 → bits_of truncated.status ≡ 1
-      → (Says : Datum → ℕ → Type 0) → Says (qnan (format_with c) 0) 1 → IsStored c Says code status
-  invalid_result v s Says h =
+  not_a_number : truncated.value ≡ qnan f 0 → bits_of truncated.status ≡ 1
+      → IsStored c mode (invalid (format_with c)) code status
+  not_a_number v s =
       let r = special (qnan f 0) 1 refl v s in
       record {
         value = qnan (format_with c) 0;
-        says = subst (λ (n : ℕ). Says (qnan (format_with c) 0) n) (sym r.status_is) h;
+        yields = record { value_is = refl; status_is = r.status_is };
         value_is = r.value_is;
       }
 
   pub quotient : (b d : Bool) (m n : ℕ) → of_zero ≡ product_sign b d
       → IsQuotient f TowardZero (finite b (m * times)) (finite d (n * times)) truncated.value (bits_of truncated.status)
-      → IsStored c (IsQuotient (format_with c) mode (finite b m) (finite d n)) code status
+      → IsStored c mode (quotient_of (format_with c) (finite b m) (finite d n)) code status
   quotient b d m n z h =
       let s : Bool = product_sign b d in
       ⊎_elim
@@ -351,19 +355,19 @@ module _ (c : StorageConstants) (f : Format) (times : ℕ) (w : IsWider c f time
       ⊎_elim
       (λ (e' : m ≡ 0).
       let y = rw (none_too, eq-eqb (m * times) 0 (ap (λ (i : ℕ). i * times) e' ∙ omega arith)) at h in
-      invalid_result y.value_is y.status_is (IsQuotient (format_with c) mode (finite b m) (finite d n))
-      (rw (none, eq-eqb m 0 e') (record { value_is = refl; status_is = refl })))
+      rw (none, eq-eqb m 0 e') (not_a_number y.value_is y.status_is))
       (λ (p : m ≡ 0 → ⊥).
       let more : eqb (m * times) 0 ≡ false =
       ne_eqb (m * times) 0 (λ k. p (eq_of_mul-eq-mul_right times w.some m 0 (omega (arith, k)))) in
       let y = rw (none_too, more) at h in
       let r = special (infinite s) 2 refl
       (y.value_is ∙ ap (λ (k : NonfiniteBehavior). past_largest k (nan_base f) s) w.kind) y.status_is in
-      record {
+      rw (none, ne_eqb m 0 p)
+      (record {
         value = infinite s;
-        says = rw (none, ne_eqb m 0 p) (record { value_is = refl; status_is = r.status_is });
+        yields = record { value_is = refl; status_is = r.status_is };
         value_is = r.value_is;
-      })
+      }))
       (cases_eq m 0))
       (λ (p : n ≡ 0 → ⊥).
       let above : 0 < n = omega (arith, p) in
@@ -376,7 +380,7 @@ module _ (c : StorageConstants) (f : Format) (times : ℕ) (w : IsWider c f time
   -- the root of a positive number
   root_once : (square : ℕ) → 0 < square
       → IsDeliveredRoot f TowardZero (square * (times * times)) 1 truncated.value (bits_of truncated.status)
-      → IsStored c (IsDeliveredRoot (format_with c) mode square 1) code status
+      → IsStored c mode (rooted square 1) code status
   root_once square positive root =
       let digits = w.digits in
       let r = agreeing square (4 * times) (mul-pos (lit< tt) w.some) in
@@ -391,23 +395,24 @@ module _ (c : StorageConstants) (f : Format) (times : ℕ) (w : IsWider c f time
       (ap (λ (i : ℕ). r.amount * (r.parts * 1 * i)) w.scale ∙ omega arith) d in
       record {
         value = s.value;
-        says = root_delivered square 1 r.amount r.parts own (format_with c) mode s.value status s.says;
+        yields = root_delivered square 1 r.amount r.parts own (format_with c) mode s.value status s.yields;
         value_is = s.value_is;
       }
 
   pub root : (b : Bool) (n : ℕ) → of_zero ≡ b
       → IsRoot f TowardZero (finite b (n * times)) truncated.value (bits_of truncated.status)
-      → IsStored c (IsRoot (format_with c) mode (finite b n)) code status
+      → IsStored c mode (root_of (format_with c) (finite b n)) code status
   root b n z h =
       ⊎_elim
       (λ (e : n ≡ 0).
       let y = rw (eq-eqb (n * times) 0 (ap (λ (i : ℕ). i * times) e ∙ omega arith)) at h in
       let r = special (finite b 0) 0 refl y.value_is y.status_is in
-      record {
+      rw (eq-eqb n 0 e)
+      (record {
         value = finite b 0;
-        says = rw (eq-eqb n 0 e) (record { value_is = refl; status_is = r.status_is });
+        yields = record { value_is = refl; status_is = r.status_is };
         value_is = r.value_is ∙ ap (λ (k : Bool). finite k 0) z;
-      })
+      }))
       (λ (p : n ≡ 0 → ⊥).
       let above : 0 < n = omega (arith, p) in
       let y = rw (not_zero (n * times) (mul-pos above w.some)) at h in
@@ -417,11 +422,9 @@ module _ (c : StorageConstants) (f : Format) (times : ℕ) (w : IsWider c f time
       nonzero : (b : Bool) → 0 < n
           → Yields f TowardZero (if b then invalid f else rooted (n * times * 2 ^ f.scale) 1) truncated.value
           (bits_of truncated.status)
-          → IsStored c (Yields (format_with c) mode (if b then invalid (format_with c)
-          else rooted (n * 2 ^ (format_with c).scale) 1)) code status
-      nonzero true above y =
-          invalid_result y.value_is y.status_is (Yields (format_with c) mode (invalid (format_with c)))
-          (record { value_is = refl; status_is = refl })
+          → IsStored c mode (if b then invalid (format_with c) else rooted (n * 2 ^ (format_with c).scale) 1) code
+          status
+      nonzero true above y = not_a_number y.value_is y.status_is
       nonzero false above y =
           let e : n * times * 2 ^ f.scale ≡ n * 2 ^ (format_with c).scale * (times * times) =
           ap (λ (i : ℕ). n * times * i) w.scale ∙ omega arith in

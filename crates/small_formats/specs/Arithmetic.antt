@@ -2,7 +2,6 @@
 -- and where that is no number, one stands for it.
 use Rattle.std.specs.Prelude.{◌≡◌, ℕ, ◌+◌, ◌-◌, ◌*◌, ◌^◌, ◌<◌, Bool, false, eqb}
 use Rattle.std.specs.Bool.{MatchBool}
-use Rattle.apfloat_model.specs.Determined.{DeterminesBoth}
 use Rattle.apfloat_model.specs.declared.kinds.NonfiniteBehavior.TheVariants.{IEEE754}
 use Rattle.apfloat_model.specs.declared.kinds.Round.{Round}
 use Rattle.apfloat_model.specs.declared.status.StatusAnd.{StatusAnd}
@@ -11,6 +10,7 @@ use Rattle.apfloat_model.specs.formats.Format.{Format, largest}
 use Rattle.apfloat_model.specs.order.Classes.{is_negative}
 use Rattle.apfloat_model.specs.rounding.Answer.{IsAnswer}
 use Rattle.apfloat_model.specs.rounding.Flags.{bits_of}
+use Rattle.apfloat_model.specs.rounding.Outcome.{Outcome, Yields}
 use Rattle.apfloat_model.specs.rounding.Rounding.{ok_bits}
 use Rattle.round_to_odd.specs.Odd.{IsAnswerMadeOdd}
 use Rattle.small_formats.specs.Codes.{datum_of, is_negative_code, magnitude_of, point}
@@ -23,18 +23,18 @@ stored_datum f (nan b s) = finite false 0
 stored_datum f (infinite b) = finite b (largest f)
 stored_datum f (finite b n) = finite b n
 
--- the code stands for a value that the relation gives, with its flags
-pub record IsStored (c : StorageConstants) (Says : Datum → ℕ → Type 0) (code status : ℕ) : Type 0 where
+-- the code stands for what the exact result of an operation is delivered as, and has its flags
+pub record IsStored (c : StorageConstants) (mode : Round) (outcome : Outcome) (code status : ℕ) : Type 0 where
   pub value : Datum
-  pub says : Says value status
+  pub yields : Yields (format_with c) mode outcome value status
   pub value_is : datum_of c code ≡ stored_datum (format_with c) value
 
--- if the relation determines the value and the flags, so are the code and the flags
+-- the code and the flags are determined
 abbrev pub IsStoredOnce : Type 0
 IsStoredOnce =
-    (c : StorageConstants) (Says : Datum → ℕ → Type 0) (code other status flags : ℕ) → IsLawfulStorage c
-    → code < 2 ^ c.bits → other < 2 ^ c.bits → DeterminesBoth Says → IsStored c Says code status
-    → IsStored c Says other flags → (code ≡ other) × (status ≡ flags)
+    (c : StorageConstants) (mode : Round) (outcome : Outcome) (code other status flags : ℕ) → IsLawfulStorage c
+    → code < 2 ^ c.bits → other < 2 ^ c.bits → IsStored c mode outcome code status
+    → IsStored c mode outcome other flags → (code ≡ other) × (status ≡ flags)
 
 -- ---- by way of a wider format f
 

@@ -7,11 +7,11 @@
 ghost use Rattle.std.specs.Prelude.{◌≡◌, ◌-◌, ◌^◌, false, pos, neg_ℤ, refl};
 ghost use Rattle.apfloat_model.specs.declared.kinds.NonfiniteBehavior.TheVariants.{IEEE754};
 ghost use Rattle.apfloat_model.proofs.formats.LawTest.{lawful_from_test};
-ghost use Rattle.apfloat_model.specs.arithmetic.FusedSums.{IsFusedSum};
-ghost use Rattle.apfloat_model.specs.arithmetic.Products.{IsProduct};
-ghost use Rattle.apfloat_model.specs.arithmetic.Quotients.{IsQuotient};
-ghost use Rattle.apfloat_model.specs.arithmetic.Roots.{IsRoot};
-ghost use Rattle.apfloat_model.specs.arithmetic.Sums.{IsDifference, IsSum};
+ghost use Rattle.apfloat_model.specs.arithmetic.FusedSums.{fused_sum};
+ghost use Rattle.apfloat_model.specs.arithmetic.Products.{product};
+ghost use Rattle.apfloat_model.specs.arithmetic.Quotients.{quotient};
+ghost use Rattle.apfloat_model.specs.arithmetic.Roots.{root};
+ghost use Rattle.apfloat_model.specs.arithmetic.Sums.{difference, sum};
 ghost use Rattle.apfloat_model.specs.rounding.Flags.{Gives, bits_of};
 ghost use Rattle.apfloat_model.specs.rounding.Negation.{negated};
 ghost use Rattle.small_formats.specs.Arithmetic.{IsProjected, IsProjection, IsStored, wide_format, widened};
@@ -141,8 +141,8 @@ impl<F: StorageFormat> StoredFloat<F> {
     /// `self + rhs`, rounded once, with the flags of that rounding. Past the largest number the result is that number,
     /// as in `from_value`. The sum of opposite numbers is -0 only where the mode is toward negative (6.3).
     pub fn add_r(self, rhs: Self, round: Round) -> StatusAnd<Self>
-        ensures { let c = constants_of F.StorageFormat in Gives (IsStored c
-            (IsSum (format_with c) round (datum_of c self) (datum_of c rhs))) result }
+        ensures { let c = constants_of F.StorageFormat in Gives (IsStored c round
+            (sum (format_with c) (datum_of c self) (datum_of c rhs))) result }
     {
         let truncated = widened(self).add_r(widened(rhs), Round::TowardZero);
         let of_zero = sign_of_zero(round, self.is_negative(), rhs.is_negative());
@@ -151,16 +151,16 @@ impl<F: StorageFormat> StoredFloat<F> {
 
     /// `self - rhs`, rounded once, as the sum of `self` and the number opposite to `rhs`.
     pub fn sub_r(self, rhs: Self, round: Round) -> StatusAnd<Self>
-        ensures { let c = constants_of F.StorageFormat in Gives (IsStored c
-            (IsDifference (format_with c) round (datum_of c self) (datum_of c rhs))) result }
+        ensures { let c = constants_of F.StorageFormat in Gives (IsStored c round
+            (difference (format_with c) (datum_of c self) (datum_of c rhs))) result }
     {
         self.add_r(rhs.negate(), round)
     }
 
     /// `self * rhs`, rounded once, with the flags of that rounding.
     pub fn mul_r(self, rhs: Self, round: Round) -> StatusAnd<Self>
-        ensures { let c = constants_of F.StorageFormat in Gives (IsStored c
-            (IsProduct (format_with c) round (datum_of c self) (datum_of c rhs))) result }
+        ensures { let c = constants_of F.StorageFormat in Gives (IsStored c round
+            (product (format_with c) (datum_of c self) (datum_of c rhs))) result }
     {
         let truncated = widened(self).mul_r(widened(rhs), Round::TowardZero);
         let of_zero = product_sign(self.is_negative(), rhs.is_negative());
@@ -170,8 +170,8 @@ impl<F: StorageFormat> StoredFloat<F> {
     /// `self / rhs`, rounded once, with the flags of that rounding. A number divided by zero is the largest number with
     /// the sign of the quotient, with DIV_BY_ZERO, and zero divided by zero is +0, with INVALID_OP.
     pub fn div_r(self, rhs: Self, round: Round) -> StatusAnd<Self>
-        ensures { let c = constants_of F.StorageFormat in Gives (IsStored c
-            (IsQuotient (format_with c) round (datum_of c self) (datum_of c rhs))) result }
+        ensures { let c = constants_of F.StorageFormat in Gives (IsStored c round
+            (quotient (format_with c) (datum_of c self) (datum_of c rhs))) result }
     {
         let truncated = widened(self).div_r(widened(rhs), Round::TowardZero);
         let of_zero = product_sign(self.is_negative(), rhs.is_negative());
@@ -181,8 +181,8 @@ impl<F: StorageFormat> StoredFloat<F> {
     /// The square root, rounded once, with the flags of that rounding. A zero is its own root, and the root of a number
     /// below zero is +0, with INVALID_OP.
     pub fn sqrt_r(self, round: Round) -> StatusAnd<Self>
-        ensures { let c = constants_of F.StorageFormat in Gives (IsStored c
-            (IsRoot (format_with c) round (datum_of c self))) result }
+        ensures { let c = constants_of F.StorageFormat in Gives (IsStored c round
+            (root (format_with c) (datum_of c self))) result }
     {
         projected(widened(self).sqrt_r(Round::TowardZero), self.is_negative(), round)
     }
@@ -190,8 +190,8 @@ impl<F: StorageFormat> StoredFloat<F> {
     /// `self * multiplicand + addend`, rounded once (fusedMultiplyAdd), with the flags of that rounding. The sign of an
     /// exact zero is that of a sum.
     pub fn mul_add_r(self, multiplicand: Self, addend: Self, round: Round) -> StatusAnd<Self>
-        ensures { let c = constants_of F.StorageFormat in Gives (IsStored c
-            (IsFusedSum (format_with c) round (datum_of c self) (datum_of c multiplicand)
+        ensures { let c = constants_of F.StorageFormat in Gives (IsStored c round
+            (fused_sum (format_with c) (datum_of c self) (datum_of c multiplicand)
             (datum_of c addend))) result }
     {
         let (factor, term) = (widened(multiplicand), widened(addend));
