@@ -1,29 +1,29 @@
 -- The numbers of a storage format in a wider format, and results that are projected.
-use Rattle.std.proofs.Common.{◌≡◌, ℕ, ◌+◌, ◌-◌, ◌*◌, ◌^◌, ◌<◌, ◌≤◌, Bool, eqb, not}
+use Rattle.std.proofs.Common.{◌≡◌, ℕ, ◌+◌, ◌-◌, ◌*◌, ◌^◌, ◌<◌, ◌≤◌, Bool, false, eqb, not}
 use Rattle.std.proofs.Common.{sym, refl, ap, ◌∙◌, subst, ⊎_elim, arith}
 use Rattle.std.proofs.Math.Nat.{le_of_mul-le-mul_right, mul-le-mul_right, pow-le-pow_right}
-use Rattle.std.proofs.lemmas.Bool.{cases_eq, eq-eqb, ne_eqb}
+use Rattle.std.proofs.lemmas.Bool.{cases_eq, eq-eqb, ne_eqb, MatchBool-at_false}
 use Rattle.std.proofs.lemmas.Int.{ints}
 use Rattle.std.proofs.lemmas.Nat.{mod_below, pow-add, pow_pos}
-use Rattle.apfloat_model.specs.declared.kinds.Category.TheVariants.{Normal}
+use Rattle.apfloat_model.specs.declared.kinds.Category.TheVariants.{Infinity, NaN, Normal, Zero}
 use Rattle.apfloat_model.specs.declared.kinds.NonfiniteBehavior.{NonfiniteBehavior}
 use Rattle.apfloat_model.specs.declared.kinds.NonfiniteBehavior.TheVariants.{IEEE754}
 use Rattle.apfloat_model.specs.declared.kinds.Round.{Round}
 use Rattle.apfloat_model.specs.arithmetic.Conversions.{IsExactlyConverted}
 use Rattle.apfloat_model.specs.formats.Datum.{Datum, finite, infinite, nan}
 use Rattle.apfloat_model.specs.formats.Format.{Format, largest}
-use Rattle.apfloat_model.specs.order.Classes.{category_of}
+use Rattle.apfloat_model.specs.order.Classes.{category_of, is_negative}
 use Rattle.apfloat_model.specs.rounding.Negation.{negated}
 use Rattle.apfloat_model.specs.rounding.Rounding.{zero_sign}
 use Rattle.apfloat_model.proofs.Outcomes.{yields_once}
-use Rattle.apfloat_model.proofs.general.Choices.{match_false}
+use Rattle.apfloat_model.proofs.general.Choices.{match_false, match_true}
 use Rattle.apfloat_model.proofs.general.Powers.{two_pos}
-use Rattle.apfloat_model.proofs.order.Categories.{number_only}
+use Rattle.apfloat_model.proofs.order.Categories.{no_infinity, no_nan, number_only, zero_only}
 use Rattle.apfloat_model.proofs.rounding.FarMagnitudes.{largest_below}
 use Rattle.round_to_odd.proofs.OddPoints.{moved_on_grid, wider_grid}
 use Rattle.small_formats.specs.Arithmetic.{IsProjected, IsStoredOnce, stored_datum, wide_format}
 use Rattle.small_formats.specs.Arithmetic.{wide_quanta, widened}
-use Rattle.small_formats.specs.Codes.{datum_of, largest_index, magnitude_of, point}
+use Rattle.small_formats.specs.Codes.{datum_of, is_negative_code, largest_index, magnitude_of, point}
 use Rattle.small_formats.specs.Conversions.{IsInto, IsStoredNumber}
 use Rattle.small_formats.specs.Storage.{StorageConstants, IsLawfulStorage, format_with}
 use Rattle.small_formats.proofs.OneAnswer.{code_once}
@@ -45,7 +45,8 @@ wide c law =
     let few = law.bits_high in
     let least = law.min_exp_low in
     let most = law.min_exp_high in
-    let power : 2 ^ (c.bits - c.precision) ≤ 2 ^ 6 = pow-le-pow_right two_pos (omega (arith, low, above, few)) in
+    let wide : c.bits - c.precision ≤ 6 = omega (arith, low, above, few) in
+    let power : 2 ^ (c.bits - c.precision) ≤ 2 ^ 6 = pow-le-pow_right two_pos wide in
     let quantum : (format_with c).scale + 3 ≤ wide_format.scale = omega (arith, ints, low, above, few, least, most) in
     record {
       law = law;
@@ -83,19 +84,39 @@ widened_is c f w code value status loses x =
       on_grid = wider_grid c.precision f.precision (m * k) (omega (arith, digits))
           (moved_on_grid c.precision m (f.scale - g.scale) (point_on_grid c.precision i (omega (arith, low))));
       within = within;
-      zero_has = λ _. sym (ap (λ (n : NonfiniteBehavior). zero_sign n _) w.kind);
+      zero_has = λ _. sym (ap (λ (n : NonfiniteBehavior). zero_sign n (is_negative_code c code)) w.kind);
     })).value_is
 
--- a number that is rounded to the storage format is projected
-pub number_projected : (f : Format) (c : StorageConstants) (mode : Round) (of_zero : Bool) (x : Datum)
-    (flags code status : ℕ) (loses : Bool) → category_of x ≡ Normal → IsInto c f mode x code status loses
-    → IsProjected f c mode of_zero x flags code status
-number_projected f c mode of_zero (nan b s) flags code status loses e x = cc
-number_projected f c mode of_zero (infinite b) flags code status loses e x = cc
-number_projected f c mode of_zero (finite b n) flags code status loses e x =
-    let none = number_only (eqb n 0) e in
-    let y : IsStoredNumber c f mode b n code status loses = rw none at x in
-    match_false (eqb n 0) _ _ none y.is_rounded
+-- results by their categories
+module _ (f : Format) (c : StorageConstants) (mode : Round) (of_zero : Bool) (flags code status : ℕ) where
+  pub nan_projected : (x : Datum) → category_of x ≡ NaN → datum_of c code ≡ finite false 0 → status ≡ flags
+      → IsProjected f c mode of_zero x flags code status
+  nan_projected (nan b s) e v t = record { value_is = v; status_is = t }
+  nan_projected (infinite b) e v t = cc
+  nan_projected (finite b n) e v t = absurd (no_nan (eqb n 0) e)
+
+  pub infinity_projected : (x : Datum) → category_of x ≡ Infinity
+      → datum_of c code ≡ finite (is_negative x) (largest (format_with c)) → status ≡ flags
+      → IsProjected f c mode of_zero x flags code status
+  infinity_projected (infinite b) e v t = record { value_is = v; status_is = t }
+  infinity_projected (nan b s) e v t = cc
+  infinity_projected (finite b n) e v t = absurd (no_infinity (eqb n 0) e)
+
+  pub zero_projected : (x : Datum) → category_of x ≡ Zero → datum_of c code ≡ finite of_zero 0 → status ≡ 0
+      → IsProjected f c mode of_zero x flags code status
+  zero_projected (finite b n) e v t =
+      match_true (eqb n 0) _ _ (zero_only (eqb n 0) e) (record { value_is = v; status_is = t })
+  zero_projected (nan b s) e v t = cc
+  zero_projected (infinite b) e v t = cc
+
+  pub number_projected : (x : Datum) (loses : Bool) → category_of x ≡ Normal → IsInto c f mode x code status loses
+      → IsProjected f c mode of_zero x flags code status
+  number_projected (finite b n) loses e x =
+      let none = number_only (eqb n 0) e in
+      let y : IsStoredNumber c f mode b n code status loses = MatchBool-at_false _ _ none x in
+      match_false (eqb n 0) _ _ none y.is_rounded
+  number_projected (nan b s) loses e x = cc
+  number_projected (infinite b) loses e x = cc
 
 -- the negation of a number
 pub opposite_is : (b : Bool) (n : ℕ) → negated IEEE754 (finite b n) ≡ finite (not b) n

@@ -5,7 +5,7 @@ use Rattle.small_formats.specs.Codes.{is_negative_code, magnitude_of, point}
 use Rattle.small_formats.specs.Types.{constants_of}
 use Rattle.small_formats.proofs.WideOperands.{wide}
 use Rattle.small_formats.proofs.WideResults.{root}
-use Rattle.small_formats.proofs.arithmetic.StoredFloat.sqrt_r.Goals as goal
+use Rattle.small_formats.proofs.stored.StoredFloat.sqrt_r.Goals as goal
 
 pub returns : goal.returns
 returns g c =
