@@ -1,4 +1,4 @@
-use Rattle.std.proofs.Common.{Bool, sym, ap, ◌∙◌}
+use Rattle.std.proofs.Common.{ℕ, Bool, false, sym, ap, ◌∙◌}
 use Rattle.apfloat_model.specs.formats.Datum.{finite}
 use Rattle.apfloat_model.specs.formats.Format.{largest}
 use Rattle.apfloat_model.specs.rounding.Flags.{bits_of}
@@ -6,6 +6,7 @@ use Rattle.small_formats.specs.Arithmetic.{wide_format}
 use Rattle.small_formats.specs.Codes.{datum_of}
 use Rattle.small_formats.specs.Storage.{format_with}
 use Rattle.small_formats.specs.Types.{constants_of}
+use Rattle.small_formats.proofs.CodesCompared.{zero_point}
 use Rattle.small_formats.proofs.WideOperands.{infinity_projected, nan_projected, number_projected, zero_projected}
 use Rattle.small_formats.proofs.arithmetic.from_odd.Goals as goal
 
@@ -13,7 +14,8 @@ pub returns-in-NaN : goal.returns-in-NaN
 returns-in-NaN g c =
     let d = constants_of g.F.StorageFormat in
     nan_projected wide_format d c.args.round c.args.of_zero (bits_of c.args.odd.status) _ _ c.args.odd.value
-    (sym c.category.ensures.category ∙ c.in-NaN.is) (ap (datum_of d) c.and.ensures.value ∙ c.with_sign.ensures)
+    (sym c.category.ensures.category ∙ c.in-NaN.is) (ap (datum_of d) c.and.ensures.value ∙ c.with_sign.ensures
+    ∙ ap (λ (n : ℕ). finite false n) (zero_point d.precision))
     (ap bits_of c.and.ensures.status)
 
 pub returns-in-Infinity : goal.returns-in-Infinity
@@ -30,7 +32,9 @@ returns-in-Zero g c =
     let d = constants_of g.F.StorageFormat in
     zero_projected wide_format d c.args.round c.args.of_zero (bits_of c.args.odd.status) _ _ c.args.odd.value
     (sym c.category.ensures.category ∙ c.in-Zero.is)
-    (ap (datum_of d) c.and-in-Zero.ensures.value ∙ c.with_sign-in-Zero.ensures) (ap bits_of c.and-in-Zero.ensures.status)
+    (ap (datum_of d) c.and-in-Zero.ensures.value ∙ c.with_sign-in-Zero.ensures
+    ∙ ap (λ (n : ℕ). finite c.args.of_zero n) (zero_point d.precision))
+    (ap bits_of c.and-in-Zero.ensures.status)
 
 pub returns-in-Normal : goal.returns-in-Normal
 returns-in-Normal g c =

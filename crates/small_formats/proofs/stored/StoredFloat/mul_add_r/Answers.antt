@@ -15,4 +15,4 @@ returns g c =
     (is_negative_code d c.args.multiplicand) (is_negative_code d c.args.addend) (point d.precision (magnitude_of d c.args.self))
     (point d.precision (magnitude_of d c.args.multiplicand)) (point d.precision (magnitude_of d c.args.addend))
     (rw (c.product_sign-left.ensures, c.is_negative.ensures, c.is_negative-2.ensures, c.is_negative-3.ensures)
-    at c.sign_of_zero-of_zero.ensures) (rw (c.widened-3.ensures, c.widened-factor.ensures, c.widened-term.ensures) at c.mul_add_r-truncated.ensures)
+    at c.sign_of_zero-of_zero.ensures) (rw (c.widened.ensures, c.widened-factor.ensures, c.widened-term.ensures) at c.mul_add_r-truncated.ensures)
