@@ -23,4 +23,3 @@ pub mod packing_lemmas
 pub mod blocks_lemmas
 pub mod saturation_lemmas
 mod WideResults
-mod WideOperands

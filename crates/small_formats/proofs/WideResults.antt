@@ -1,51 +1,60 @@
 -- A result toward zero in a wider format, made odd and then rounded to the storage format, is the exact result rounded
 -- once.
-use Rattle.std.proofs.Common.{◌≡◌, ℕ, ◌+◌, ◌-◌, ◌*◌, ◌^◌, ◌<◌, ◌≤◌, Bool, true, false, cond, eqb, ltb, ℤ, ◌+ℤ◌, if◌then◌else◌}
-use Rattle.std.proofs.Common.{sym, refl, ap, ◌∙◌, subst, ⊎_elim, lit<, arith}
-use Rattle.std.proofs.Math.Nat.{eq_of_mul-eq-mul_right, lt_of_mul-lt-mul_right, mul-le-mul_right, mul-pos}
-use Rattle.std.proofs.Math.Nat.{pow-le-pow_right}
-use Rattle.std.proofs.lemmas.Bool.{cases_eq, cases_lt, eq-eqb, le-ltb, lt-ltb, ne_eqb, MatchBool-at_false}
+use Rattle.std.proofs.Common.{◌≡◌, ℕ, ◌+◌, ◌-◌, ◌*◌, ◌^◌, ◌<◌, ◌≤◌, Bool, true, false, cond, eqb, ltb, not, ℤ, ◌+ℤ◌}
+use Rattle.std.proofs.Common.{if◌then◌else◌, sym, refl, ap, ◌∙◌, subst, ⊎_elim, lit<, arith}
+use Rattle.std.proofs.Math.Nat.{eq_of_mul-eq-mul_right, le_of_mul-le-mul_right, lt_of_mul-lt-mul_right, mul-pos}
+use Rattle.std.proofs.Math.Nat.{mul-le-mul_right, pow-le-pow_right}
+use Rattle.std.proofs.lemmas.Bool.{cases_eq, cases_lt, eq-eqb, eqb-true, le-ltb, lt-ltb, ne_eqb, MatchBool-at_false}
+use Rattle.std.proofs.lemmas.Bool.{MatchBool-at_true}
 use Rattle.std.proofs.lemmas.Int.{ints}
-use Rattle.std.proofs.lemmas.Nat.{pow-add, pow_pos}
+use Rattle.std.proofs.lemmas.Nat.{mod_below, pow-add, pow_pos}
 use Rattle.apfloat_model.specs.declared.kinds.NonfiniteBehavior.{NonfiniteBehavior}
 use Rattle.apfloat_model.specs.declared.kinds.NonfiniteBehavior.TheVariants.{IEEE754}
 use Rattle.apfloat_model.specs.declared.kinds.Round.{Round}
 use Rattle.apfloat_model.specs.declared.kinds.Round.TheVariants.{TowardZero}
 use Rattle.apfloat_model.specs.declared.status.StatusAnd.{StatusAnd}
+use Rattle.apfloat_model.specs.arithmetic.Conversions.{IsExactlyConverted}
 use Rattle.apfloat_model.specs.arithmetic.Exact.{IsRounded, magnitude, product_sign, sign_of, signed, zero_sum_sign}
 use Rattle.apfloat_model.specs.arithmetic.FusedSums.{IsFusedSum, fused_sum}
 use Rattle.apfloat_model.specs.arithmetic.Products.{IsProduct, product as product_of}
 use Rattle.apfloat_model.specs.arithmetic.Quotients.{IsQuotient, quotient as quotient_of}
 use Rattle.apfloat_model.specs.arithmetic.Roots.{IsDeliveredRoot, IsRoot, root as root_of}
 use Rattle.apfloat_model.specs.arithmetic.Sums.{IsSum, sum as sum_of}
-use Rattle.apfloat_model.specs.formats.Datum.{Datum, finite, infinite}
+use Rattle.apfloat_model.specs.formats.Datum.{Datum, finite, infinite, nan}
 use Rattle.apfloat_model.specs.formats.Format.{Format, greatest_significand, largest, nan_base}
 use Rattle.apfloat_model.specs.formats.Nan.{qnan}
-use Rattle.apfloat_model.specs.order.Classes.{is_negative}
+use Rattle.apfloat_model.specs.order.Classes.{category_of, is_negative}
+use Rattle.apfloat_model.specs.order.Predicates.{is_finite_category, is_zero_category}
 use Rattle.apfloat_model.specs.rounding.Flags.{bits_of}
 use Rattle.apfloat_model.specs.rounding.Grid.{IsBelow, IsAbove}
-use Rattle.apfloat_model.specs.rounding.Outcome.{Yields, invalid, rooted, rounded, totalled}
+use Rattle.apfloat_model.specs.rounding.Negation.{negated}
+use Rattle.apfloat_model.specs.rounding.Outcome.{Yields, exactly, invalid, rooted, rounded, totalled}
 use Rattle.apfloat_model.specs.rounding.Rounding.{IsDelivered, delivered_value, inexact_bit, leads_out, past_largest}
 use Rattle.apfloat_model.specs.rounding.Rounding.{signed_quanta, zero_sign}
+use Rattle.apfloat_model.proofs.Outcomes.{yields_once}
 use Rattle.apfloat_model.proofs.general.Choices.{not_zero}
 use Rattle.apfloat_model.proofs.general.Powers.{two_pos, half_at_most}
 use Rattle.apfloat_model.proofs.arithmetic.RootDeliveries.{root_delivered}
 use Rattle.apfloat_model.proofs.arithmetic.RootSides.{AgreesWithRoot, agreeing, coarser}
 use Rattle.apfloat_model.proofs.arithmetic.Signs.{magnitude_signed, no_sign, sign_signed}
-use Rattle.apfloat_model.proofs.rounding.Deliveries.{quanta_are, signed_some}
-use Rattle.apfloat_model.proofs.rounding.FarMagnitudes.{far_above, largest_on_grid}
+use Rattle.apfloat_model.proofs.rounding.Deliveries.{signed_some}
+use Rattle.apfloat_model.proofs.rounding.FarMagnitudes.{far_above, largest_below, largest_on_grid}
 use Rattle.apfloat_model.proofs.rounding.Laws.{below_le_above, delivered_once, zero_delivered, zero_on_grid}
 use Rattle.apfloat_model.proofs.whole_numbers.SignedNumbers.{largest_some}
 use Rattle.round_to_odd.specs.Odd.{IsAnswerMadeOdd, IsToOdd, has_flag, is_odd_below, odd_between}
 use Rattle.round_to_odd.proofs.MadeOdd.{odd_of_truncated}
-use Rattle.round_to_odd.proofs.OddPoints.{AgreesAtEven, odd_agrees}
+use Rattle.round_to_odd.proofs.OddPoints.{AgreesAtEven, moved_on_grid, odd_agrees, wider_grid}
 use Rattle.round_to_odd.proofs.RootFractions.{fraction_delivered, moved_agrees, root_some}
 use Rattle.round_to_odd.proofs.SameDeliveries.{same_delivered}
 use Rattle.round_to_odd.proofs.Sides.{same_sides}
-use Rattle.small_formats.specs.Arithmetic.{IsProjected, IsProjection, IsStored, stored_datum}
-use Rattle.small_formats.specs.Codes.{datum_of}
-use Rattle.small_formats.specs.Conversions.{IsSaturated}
+use Rattle.small_formats.specs.Arithmetic.{IsProjection, IsStored, IsStoredOnce, stored_datum, wide_format, wide_quanta}
+use Rattle.small_formats.specs.Arithmetic.{widened}
+use Rattle.small_formats.specs.Codes.{datum_of, is_negative_code, largest_index, magnitude_of, point}
+use Rattle.small_formats.specs.Conversions.{IsInto, IsSaturated, IsStoredNumber}
 use Rattle.small_formats.specs.Storage.{StorageConstants, IsLawfulStorage, format_with}
+use Rattle.small_formats.proofs.OneAnswer.{code_once}
+use Rattle.small_formats.proofs.Points.{point_on_grid}
+use Rattle.small_formats.proofs.StoredPicks.{largest_point, not_greater}
 use Rattle.small_formats.proofs.blocks_lemmas.SameFractions.{delivered_across}
 
 -- a format with more digits and exponents, and how many of its quanta a quantum of the storage format is
@@ -59,7 +68,7 @@ pub record IsWider (c : StorageConstants) (f : Format) (times : ℕ) : Type 0 wh
   pub scale : 2 ^ f.scale ≡ times * 2 ^ (format_with c).scale
 
 -- the greatest value of the wider format is past the numbers of the storage format
-pub largest_far : (c : StorageConstants) (f : Format) (times : ℕ) → IsWider c f times
+largest_far : (c : StorageConstants) (f : Format) (times : ℕ) → IsWider c f times
     → 2 ^ (c.precision + (format_with c).span) * 2 ^ f.scale ≤ largest f * 2 ^ (format_with c).scale
 largest_far c f times w =
     let g : Format = format_with c in
@@ -80,6 +89,62 @@ largest_far c f times w =
     let v = pow-add 2 (p + f.span) g.scale ∙ ap (λ (n : ℕ). n * 2 ^ g.scale) (pow-add 2 p f.span) in
     omega (arith, b, d, u, v)
 
+-- the quantum of a format whose scale is at least that of the storage format
+scaled : (f : Format) (c : StorageConstants) → (format_with c).scale ≤ f.scale
+    → 2 ^ f.scale ≡ wide_quanta f c * 2 ^ (format_with c).scale
+scaled f c l =
+    let e : f.scale ≡ f.scale - (format_with c).scale + (format_with c).scale = omega (arith, l) in
+    ap (λ (n : ℕ). 2 ^ n) e ∙ pow-add 2 (f.scale - (format_with c).scale) (format_with c).scale
+
+pub wide : (c : StorageConstants) → IsLawfulStorage c → IsWider c wide_format (wide_quanta wide_format c)
+wide c law =
+    let low = law.precision_low in
+    let above = law.exponent in
+    let few = law.bits_high in
+    let least = law.min_exp_low in
+    let most = law.min_exp_high in
+    let wide : c.bits - c.precision ≤ 6 = omega (arith, low, above, few) in
+    let power : 2 ^ (c.bits - c.precision) ≤ 2 ^ 6 = pow-le-pow_right two_pos wide in
+    let quantum : (format_with c).scale + 3 ≤ wide_format.scale = omega (arith, ints, low, above, few, least, most) in
+    record {
+      law = law;
+      kind = refl;
+      digits = omega (arith, above, few);
+      quantum = quantum;
+      exponents = omega (arith, ints, power, low, above, few, least, most);
+      some = pow_pos (wide_format.scale - (format_with c).scale);
+      scale = scaled wide_format c (omega (arith, quantum));
+    }
+
+-- a number that is converted exactly
+pub widened_is : (c : StorageConstants) (f : Format) → IsWider c f (wide_quanta f c) → (code : ℕ) (value : Datum)
+    (status : ℕ) (loses : Bool) → IsExactlyConverted (format_with c) f (datum_of c code) value status loses
+    → value ≡ widened f c code
+widened_is c f w code value status loses x =
+    let g : Format = format_with c in
+    let low = w.law.precision_low in
+    let digits = w.digits in
+    let i : ℕ = magnitude_of c code in
+    let m : ℕ = point c.precision i in
+    let k : ℕ = wide_quanta f c in
+    let top : ℕ = 2 ^ (c.precision + g.span) in
+    let below = mod_below code (2 ^ (c.bits - 1)) (pow_pos (c.bits - 1)) in
+    let most : m ≤ largest g =
+    subst (λ (n : ℕ). m ≤ n) (largest_point c w.law)
+    (not_greater c.precision i (largest_index c) (omega (arith, low)) (omega (arith, below))) in
+    let under = largest_below g in
+    let far = largest_far c f k w in
+    let a : m * (k * 2 ^ g.scale) ≤ top * (k * 2 ^ g.scale) =
+    mul-le-mul_right (k * 2 ^ g.scale) (omega (arith, most, under)) in
+    let e = ap (λ (n : ℕ). top * n) w.scale in
+    let within : m * k ≤ largest f = le_of_mul-le-mul_right (omega (arith, a, e, far)) (pow_pos g.scale) in
+    (x (m * k) (let n = ap (λ (n : ℕ). m * n) w.scale in omega (arith, n)) (record {
+      on_grid = wider_grid c.precision f.precision (m * k) (omega (arith, digits))
+          (moved_on_grid c.precision m (f.scale - g.scale) (point_on_grid c.precision i (omega (arith, low))));
+      within = within;
+      zero_has = λ _. sym (ap (λ (n : NonfiniteBehavior). zero_sign n (is_negative_code c code)) w.kind);
+    })).value_is
+
 -- a magnitude whose odd neighbour is past the largest value is not below that value
 past : (f : Format) (below above amount parts : ℕ) → 0 < parts → IsBelow f.precision below amount parts
     → IsAbove f.precision above amount parts → largest f < odd_between below above → largest f * parts ≤ amount
@@ -96,34 +161,28 @@ past f below above amount parts some x y h =
     neither true l k h = omega (arith, l, h)
     neither false l k h = omega (arith, k, h)
 
-same_either : (test sign : Bool) → cond test sign sign ≡ sign
-same_either true sign = refl
-same_either false sign = refl
-
 -- a number that is delivered toward zero has the sign of the magnitude
-pub truncated_sign : (f : Format) (negative : Bool) (amount parts : ℕ) (value : Datum) (status : ℕ)
+truncated_sign : (f : Format) (negative : Bool) (amount parts : ℕ) (value : Datum) (status : ℕ)
     → f.nonfinite ≡ IEEE754 → IsDelivered f TowardZero negative amount parts value status
     → is_negative value ≡ negative
 truncated_sign f negative amount parts value status kind d =
-    ap is_negative d.value_is ∙ either (ltb (largest f) d.pick)
+    ap is_negative d.value_is ∙ either (ltb (largest f) d.pick) (eqb d.pick 0)
   where
-    either : (test : Bool)
-        → is_negative (cond test (finite negative (largest f)) (signed_quanta f.nonfinite negative d.pick)) ≡ negative
-    either true = refl
-    either false =
-        ap is_negative (quanta_are f.nonfinite negative d.pick)
-        ∙ ap (λ (k : NonfiniteBehavior). cond (eqb d.pick 0) (zero_sign k negative) negative) kind
-        ∙ same_either (eqb d.pick 0) negative
+    either : (past none : Bool) → is_negative (cond past (finite negative (largest f))
+        (cond none (finite (zero_sign f.nonfinite negative) 0) (finite negative d.pick))) ≡ negative
+    either true none = refl
+    either false true = ap (λ (k : NonfiniteBehavior). zero_sign k negative) kind
+    either false false = refl
 
 -- what stands for a value that is delivered
-settled : (top n : ℕ) (f : Format) (negative past leads : Bool) → top ≡ largest f
-    → cond past (finite negative top) (finite negative n)
-    ≡ stored_datum f (cond past (cond leads (infinite negative) (finite negative top)) (signed_quanta IEEE754 negative n))
-settled top n f negative true true e = ap (λ (k : ℕ). finite negative k) e
-settled top n f negative true false e = refl
-settled top n f negative false leads e =
-    ap (λ (b : Bool). finite b n) (sym (same_either (eqb n 0) negative))
-    ∙ sym (ap (λ (d : Datum). stored_datum f d) (quanta_are IEEE754 negative n))
+settled : (f : Format) (n : ℕ) (negative past leads none : Bool) → (none ≡ true → n ≡ 0)
+    → cond past (finite negative (largest f)) (finite negative n)
+    ≡ stored_datum f (cond past (cond leads (infinite negative) (finite negative (largest f)))
+    (cond none (finite negative 0) (finite negative n)))
+settled f n negative true true none e = refl
+settled f n negative true false none e = refl
+settled f n negative false leads true e = ap (λ (k : ℕ). finite negative k) (e refl)
+settled f n negative false leads false e = refl
 
 -- a total as a sign and a magnitude, and the total of the terms times a number
 record IsTotal (b d : Bool) (m n k : ℕ) : Type 0 where
@@ -159,28 +218,42 @@ total_of false true m n k =
 -- of a result toward zero in f, which is projected
 module _ (c : StorageConstants) (f : Format) (times : ℕ) (w : IsWider c f times) (mode : Round) (of_zero : Bool)
     (truncated : StatusAnd Datum) (code status : ℕ) (t : IsProjection f c mode of_zero truncated code status) where
-  -- what is not inexact is projected as it is
-  special : (given : Datum) (flags : ℕ) → has_flag flags inexact_bit ≡ false → truncated.value ≡ given
-      → bits_of truncated.status ≡ flags → IsProjected f c mode of_zero given flags code status
-  special given flags exact v s =
-      let none : has_flag (bits_of truncated.status) inexact_bit ≡ false =
-      ap (λ (n : ℕ). has_flag n inexact_bit) s ∙ exact in
-      subst (λ (n : ℕ). IsProjected f c mode of_zero given n code status) (t.is_odd.status_is ∙ s)
-      (subst (λ (d : Datum). IsProjected f c mode of_zero d (bits_of t.odd.status) code status)
-      (MatchBool-at_false _ _ none t.is_odd.value_is ∙ v) t.is_projected)
+  -- what is not inexact stays as it is
+  exact : (given : Datum) → has_flag (bits_of truncated.status) inexact_bit ≡ false → truncated.value ≡ given
+      → t.odd.value ≡ given
+  exact given none v = MatchBool-at_false _ _ none t.is_odd.value_is ∙ v
 
-  stored : (negative : Bool) (a b x y : ℕ) → IsSaturated c mode negative a b code status
-      → ((value : Datum) → IsDelivered (format_with c) mode negative a b value status
-      → IsDelivered (format_with c) mode negative x y value status)
+  -- what is not a zero becomes a code with these flags
+  into : (x : Datum) → is_zero_category (category_of x) ≡ false → t.odd.value ≡ x
+      → IsInto c f mode x code t.flags t.loses
+      × (status ≡ (if is_finite_category (category_of x) then t.flags else bits_of t.odd.status))
+  into x some e =
+      let none = ap (λ (v : Datum). is_zero_category (category_of v)) e ∙ some in (
+        subst (λ (v : Datum). IsInto c f mode v code t.flags t.loses) e (MatchBool-at_false _ _ none t.is),
+        t.status_is none
+            ∙ ap (λ (v : Datum). if is_finite_category (category_of v) then t.flags else bits_of t.odd.status) e,
+      )
+
+  stored : (negative : Bool) (n x y : ℕ) → 0 < n → t.odd.value ≡ finite negative n
+      → ((value : Datum) → IsDelivered (format_with c) mode negative (n * 2 ^ (format_with c).scale) (2 ^ f.scale) value
+      status → IsDelivered (format_with c) mode negative x y value status)
       → IsStored c mode (rounded negative x y) code status
-  stored negative a b x y s same = record {
-    value = delivered_value (format_with c) mode negative s.pick;
-    yields = same (delivered_value (format_with c) mode negative s.pick)
-        (record { pick = s.pick; is_pick = s.is_pick; value_is = refl; status_is = s.status_is });
-    value_is = s.value_is
-        ∙ settled (largest (format_with c)) s.pick (format_with c) negative (ltb (largest (format_with c)) s.pick)
-        (leads_out mode negative) refl;
-  }
+  stored negative n x y p e same =
+      let some = not_zero n p in
+      let z = into (finite negative n) (rw some refl) e in
+      let y' : IsStoredNumber c f mode negative n code t.flags t.loses = MatchBool-at_false _ _ some z.0 in
+      let told : status ≡ t.flags = z.1 ∙ rw some refl in
+      let s : IsSaturated c mode negative (n * 2 ^ (format_with c).scale) (2 ^ f.scale) code status =
+      subst (λ (k : ℕ). IsSaturated c mode negative (n * 2 ^ (format_with c).scale) (2 ^ f.scale) code k) (sym told)
+      y'.is_rounded in
+      record {
+        value = delivered_value (format_with c) mode negative s.pick;
+        yields = same (delivered_value (format_with c) mode negative s.pick)
+            (record { pick = s.pick; is_pick = s.is_pick; value_is = refl; status_is = s.status_is });
+        value_is = s.value_is
+            ∙ settled (format_with c) s.pick negative (ltb (largest (format_with c)) s.pick) (leads_out mode negative)
+            (eqb s.pick 0) (eqb-true s.pick 0);
+      }
 
   -- a nonzero magnitude, which is x / y quanta of the storage format
   rounded_once : (negative : Bool) (amount parts x y : ℕ) → 0 < amount → 0 < parts → 0 < y
@@ -191,6 +264,7 @@ module _ (c : StorageConstants) (f : Format) (times : ℕ) (w : IsWider c f time
       let low = w.law.precision_low in
       let digits = w.digits in
       let quantum = w.quantum in
+      let g : Format = format_with c in
       let gs : ℕ = 2 ^ (format_with c).scale in
       let fs : ℕ = 2 ^ f.scale in
       let q : 0 < fs = pow_pos f.scale in
@@ -203,17 +277,12 @@ module _ (c : StorageConstants) (f : Format) (times : ℕ) (w : IsWider c f time
       let agrees : AgreesAtEven (f.precision - 1) amount parts o =
       odd_agrees f.precision odd.below odd.above amount parts (omega (arith, digits)) some odd.is_below odd.is_above in
       let above : 0 < o = agrees.less 0 (zero_on_grid (f.precision - 1)) (omega (arith, positive)) in
-      let projected : (n : ℕ) → 0 < n → t.odd.value ≡ finite negative n
-          → IsSaturated c mode negative (n * gs) fs code status =
-      λ n p is. MatchBool-at_false _ _ (not_zero n p)
-      (subst (λ (v : Datum). IsProjected f c mode of_zero v (bits_of t.odd.status) code status) is t.is_projected) in
       let across : (value : Datum) → IsDelivered (format_with c) mode negative (amount * gs) (parts * fs) value status
-          → IsDelivered (format_with c) mode negative x y value status =
-      λ value z. delivered_across (format_with c) mode negative x y (amount * gs) (parts * fs) value status
-      (omega (arith, low)) apart pieces e z in
+      → IsDelivered (format_with c) mode negative x y value status =
+      λ value z. delivered_across g mode negative x y (amount * gs) (parts * fs) value status (omega (arith, low)) apart
+      pieces e z in
       ⊎_elim
       (λ (h : largest f < o).
-      let is : t.odd.value ≡ finite negative (largest f) = odd.value_is ∙ rw (lt-ltb (largest f) o h) refl in
       let far = largest_far c f times w in
       let most = past f odd.below odd.above amount parts some odd.is_below odd.is_above h in
       let far_too : 2 ^ (c.precision + (format_with c).span) * (parts * fs) ≤ amount * gs =
@@ -221,23 +290,33 @@ module _ (c : StorageConstants) (f : Format) (times : ℕ) (w : IsWider c f time
       mul-le-mul_right parts far in
       let l : largest f * parts * gs ≤ amount * gs = mul-le-mul_right gs most in
       omega (arith, k, l) in
-      stored negative (largest f * gs) fs x y
-      (projected (largest f) (largest_some f (omega (arith, digits, low))) is)
+      stored negative (largest f) x y (largest_some f (omega (arith, digits, low)))
+      (odd.value_is ∙ rw (lt-ltb (largest f) o h) refl)
       (λ value z. across value
-      (far_above (format_with c) mode negative (largest f * gs) fs (amount * gs) (parts * fs) value status
-      (omega (arith, low)) (record { some = q; from = far }) (record { some = pieces; from = far_too }) z)))
+      (far_above g mode negative (largest f * gs) fs (amount * gs) (parts * fs) value status (omega (arith, low))
+      (record { some = q; from = far }) (record { some = pieces; from = far_too }) z)))
       (λ (h : o ≤ largest f).
-      let is : t.odd.value ≡ finite negative o =
-      odd.value_is ∙ rw (le-ltb (largest f) o h) (signed_some f.nonfinite negative o above) in
-      stored negative (o * gs) fs x y (projected o above is)
+      stored negative o x y above
+      (odd.value_is ∙ rw (le-ltb (largest f) o h) (signed_some f.nonfinite negative o above))
       (λ value z. across value
-      (same_delivered (format_with c) (amount * gs) (parts * fs) (o * gs) fs
+      (same_delivered g (amount * gs) (parts * fs) (o * gs) fs
       (same_sides (c.precision + 1) (f.precision - 1) (format_with c).scale f.scale 1 amount parts o
       (omega (arith, digits)) (omega (arith, quantum)) agrees)
       (λ _. same_sides (c.precision + 1) (f.precision - 1) (format_with c).scale f.scale 2 amount parts o
       (omega (arith, digits)) (omega (arith, quantum)) agrees)
       (omega (arith, low)) mode negative value status q z)))
       (cases_lt (largest f) o)
+
+  -- an exact zero
+  zero_stored : (sign : Bool) → of_zero ≡ sign → is_zero_category (category_of t.odd.value) ≡ true
+      → IsStored c mode (exactly (finite sign 0)) code status
+  zero_stored sign z e =
+      let r = MatchBool-at_true _ _ e t.is in
+      record {
+        value = finite sign 0;
+        yields = record { value_is = refl; status_is = r.status_is };
+        value_is = r.value_is ∙ ap (λ (b : Bool). finite b 0) z;
+      }
 
   -- any number; `sign` is the sign of the exact result, also where that is zero
   number : (negative sign : Bool) (amount parts x y : ℕ) → 0 < parts → 0 < y
@@ -253,17 +332,18 @@ module _ (c : StorageConstants) (f : Format) (times : ℕ) (w : IsWider c f time
       (λ (h : amount ≤ 0).
       let none : amount ≡ 0 = omega (arith, h) in
       let pieces : 0 < parts * 2 ^ f.scale = mul-pos some (pow_pos f.scale) in
-      let exact = delivered_once f TowardZero negative amount parts _ _ _ _ d
+      let of_none = delivered_once f TowardZero negative amount parts _ _ _ _ d
       (zero_delivered f TowardZero negative parts amount some none) in
-      let r = special (finite (zero_sign f.nonfinite negative) 0) 0 refl exact.0 exact.1 in
       let k : x * (parts * 2 ^ f.scale) ≡ 0 * (parts * 2 ^ f.scale) =
       e ∙ ap (λ (n : ℕ). n * 2 ^ (format_with c).scale * y) none ∙ omega arith in
       let nothing : x ≡ 0 = eq_of_mul-eq-mul_right (parts * 2 ^ f.scale) pieces x 0 k in
+      let r = zero_stored sign (zero none) (ap (λ (v : Datum). is_zero_category (category_of v))
+      (exact (finite (zero_sign f.nonfinite negative) 0) (ap (λ (n : ℕ). has_flag n inexact_bit) of_none.1) of_none.0)) in
       record {
         value = finite sign 0;
-        yields = subst (λ (n : ℕ). IsDelivered (format_with c) mode sign x y (finite sign 0) n) (sym r.status_is)
+        yields = subst (λ (n : ℕ). IsDelivered (format_with c) mode sign x y (finite sign 0) n) (sym r.yields.status_is)
             (zero_delivered (format_with c) mode sign y x apart nothing);
-        value_is = r.value_is ∙ ap (λ (b : Bool). finite b 0) (zero none);
+        value_is = r.value_is ∙ ap (λ (v : Datum). stored_datum (format_with c) v) r.yields.value_is;
       })
       (cases_lt 0 amount)
 
@@ -336,12 +416,18 @@ module _ (c : StorageConstants) (f : Format) (times : ℕ) (w : IsWider c f time
   not_a_number : truncated.value ≡ qnan f 0 → bits_of truncated.status ≡ 1
       → IsStored c mode (invalid (format_with c)) code status
   not_a_number v s =
-      let r = special (qnan f 0) 1 refl v s in
+      let z = into (qnan f 0) refl (exact (qnan f 0) (ap (λ (n : ℕ). has_flag n inexact_bit) s) v) in
       record {
         value = qnan (format_with c) 0;
-        yields = record { value_is = refl; status_is = r.status_is };
-        value_is = r.value_is;
+        yields = record { value_is = refl; status_is = z.1 ∙ t.is_odd.status_is ∙ s };
+        value_is = z.0.value_is;
       }
+
+  none : (n : ℕ) → n ≡ 0 → eqb (n * times) 0 ≡ true
+  none n e = eq-eqb (n * times) 0 (ap (λ (i : ℕ). i * times) e ∙ omega arith)
+
+  more : (n : ℕ) → (n ≡ 0 → ⊥) → 0 < n * times
+  more n p = mul-pos (let k : 0 < n = omega (arith, p) in k) w.some
 
   pub quotient : (b d : Bool) (m n : ℕ) → of_zero ≡ product_sign b d
       → IsQuotient f TowardZero (finite b (m * times)) (finite d (n * times)) truncated.value (bits_of truncated.status)
@@ -350,32 +436,28 @@ module _ (c : StorageConstants) (f : Format) (times : ℕ) (w : IsWider c f time
       let s : Bool = product_sign b d in
       ⊎_elim
       (λ (e : n ≡ 0).
-      let none : eqb n 0 ≡ true = eq-eqb n 0 e in
-      let none_too : eqb (n * times) 0 ≡ true = eq-eqb (n * times) 0 (ap (λ (i : ℕ). i * times) e ∙ omega arith) in
       ⊎_elim
       (λ (e' : m ≡ 0).
-      let y = rw (none_too, eq-eqb (m * times) 0 (ap (λ (i : ℕ). i * times) e' ∙ omega arith)) at h in
-      rw (none, eq-eqb m 0 e') (not_a_number y.value_is y.status_is))
+      let y = rw (none n e, none m e') at h in
+      rw (eq-eqb n 0 e, eq-eqb m 0 e') (not_a_number y.value_is y.status_is))
       (λ (p : m ≡ 0 → ⊥).
-      let more : eqb (m * times) 0 ≡ false =
-      ne_eqb (m * times) 0 (λ k. p (eq_of_mul-eq-mul_right times w.some m 0 (omega (arith, k)))) in
-      let y = rw (none_too, more) at h in
-      let r = special (infinite s) 2 refl
-      (y.value_is ∙ ap (λ (k : NonfiniteBehavior). past_largest k (nan_base f) s) w.kind) y.status_is in
-      rw (none, ne_eqb m 0 p)
+      let y = rw (none n e, not_zero (m * times) (more m p)) at h in
+      let v = y.value_is ∙ ap (λ (k : NonfiniteBehavior). past_largest k (nan_base f) s) w.kind in
+      let r = into (infinite s) refl (exact (infinite s) (ap (λ (n : ℕ). has_flag n inexact_bit) y.status_is) v) in
+      rw (eq-eqb n 0 e, ne_eqb m 0 p)
       (record {
         value = infinite s;
-        yields = record { value_is = refl; status_is = r.status_is };
-        value_is = r.value_is;
+        yields = record { value_is = refl; status_is = r.1 ∙ t.is_odd.status_is ∙ y.status_is };
+        value_is = r.0.value_is;
       }))
       (cases_eq m 0))
       (λ (p : n ≡ 0 → ⊥).
-      let above : 0 < n = omega (arith, p) in
-      let y = rw (not_zero (n * times) (mul-pos above w.some)) at h in
+      let y = rw (not_zero (n * times) (more n p)) at h in
       rw (ne_eqb n 0 p)
-      (number s s (m * times * 2 ^ f.scale) (n * times) (m * 2 ^ (format_with c).scale) n (mul-pos above w.some) above
-      (omega arith) (λ _. refl) (λ _. z) y))
+      (number s s (m * times * 2 ^ f.scale) (n * times) (m * 2 ^ (format_with c).scale) n (more n p)
+      (omega (arith, p)) (omega arith) (λ _. refl) (λ _. z) y))
       (cases_eq n 0)
+
 
   -- the root of a positive number
   root_once : (square : ℕ) → 0 < square
@@ -405,18 +487,13 @@ module _ (c : StorageConstants) (f : Format) (times : ℕ) (w : IsWider c f time
   root b n z h =
       ⊎_elim
       (λ (e : n ≡ 0).
-      let y = rw (eq-eqb (n * times) 0 (ap (λ (i : ℕ). i * times) e ∙ omega arith)) at h in
-      let r = special (finite b 0) 0 refl y.value_is y.status_is in
+      let y = rw (none n e) at h in
       rw (eq-eqb n 0 e)
-      (record {
-        value = finite b 0;
-        yields = record { value_is = refl; status_is = r.status_is };
-        value_is = r.value_is ∙ ap (λ (k : Bool). finite k 0) z;
-      }))
+      (zero_stored b z (ap (λ (v : Datum). is_zero_category (category_of v))
+      (exact (finite b 0) (ap (λ (k : ℕ). has_flag k inexact_bit) y.status_is) y.value_is))))
       (λ (p : n ≡ 0 → ⊥).
-      let above : 0 < n = omega (arith, p) in
-      let y = rw (not_zero (n * times) (mul-pos above w.some)) at h in
-      rw (ne_eqb n 0 p) (nonzero b above y))
+      let y = rw (not_zero (n * times) (more n p)) at h in
+      rw (ne_eqb n 0 p) (nonzero b (omega (arith, p)) y))
       (cases_eq n 0)
     where
       nonzero : (b : Bool) → 0 < n
@@ -430,3 +507,19 @@ module _ (c : StorageConstants) (f : Format) (times : ℕ) (w : IsWider c f time
           ap (λ (i : ℕ). n * times * i) w.scale ∙ omega arith in
           root_once (n * 2 ^ (format_with c).scale) (mul-pos above (pow_pos (format_with c).scale))
           (subst (λ (i : ℕ). IsDeliveredRoot f TowardZero i 1 truncated.value (bits_of truncated.status)) e y)
+
+-- the negation of a number
+pub opposite_is : (b : Bool) (n : ℕ) → negated IEEE754 (finite b n) ≡ finite (not b) n
+opposite_is b n =
+    ⊎_elim
+    (λ (e : n ≡ 0). rw (eq-eqb n 0 e) (ap (λ (k : ℕ). finite (not b) k) (sym e)))
+    (λ (e : n ≡ 0 → ⊥). rw (ne_eqb n 0 e) refl)
+    (cases_eq n 0)
+
+pub stored_once : IsStoredOnce
+stored_once c mode outcome code other status flags law l k x y =
+    let same = yields_once (format_with c) mode outcome x.value y.value status flags x.yields y.yields in (
+      code_once c code other (stored_datum (format_with c) y.value) law l k
+          (x.value_is ∙ ap (λ (d : Datum). stored_datum (format_with c) d) same.0) y.value_is,
+      same.1,
+    )

@@ -12,19 +12,18 @@ ghost use Rattle.apfloat_model.specs.arithmetic.Products.{product};
 ghost use Rattle.apfloat_model.specs.arithmetic.Quotients.{quotient};
 ghost use Rattle.apfloat_model.specs.arithmetic.Roots.{root};
 ghost use Rattle.apfloat_model.specs.arithmetic.Sums.{difference, sum};
-ghost use Rattle.apfloat_model.specs.rounding.Flags.{Gives, bits_of};
+ghost use Rattle.apfloat_model.specs.rounding.Flags.{Gives};
 ghost use Rattle.apfloat_model.specs.rounding.Negation.{negated};
-ghost use Rattle.small_formats.specs.Arithmetic.{IsProjected, IsProjection, IsStored, wide_format, widened};
+ghost use Rattle.small_formats.specs.Arithmetic.{IsProjection, IsStored, wide_format, widened};
 ghost use Rattle.small_formats.specs.Codes.{datum_of};
 ghost use Rattle.small_formats.specs.Storage.{format_with};
 ghost use Rattle.small_formats.specs.Types.{constants_of};
 
 use crate::format::StorageFormat;
-use crate::from_value::largest_of_sign;
 use crate::stored::StoredFloat;
 use apfloat_arithmetic::products::product_sign;
 use apfloat_arithmetic::sums::sign_of_zero;
-use apfloat_base::{Category, ExpInt, Float, NonfiniteBehavior, Round, Status, StatusAnd};
+use apfloat_base::{ExpInt, Float, NonfiniteBehavior, Round, Status, StatusAnd};
 use apfloat_ieee::{IeeeFloat, Semantics};
 use round_to_odd::to_odd;
 
@@ -96,27 +95,7 @@ fn widened<F: StorageFormat>(x: StoredFloat<F>) -> IeeeFloat<WideS>
     x.convert_r(Round::TowardZero, &mut loses_info).value
 }
 
-/// A result that was rounded to odd, rounded to the storage format; `of_zero` is the sign of a zero.
-fn from_odd<F: StorageFormat>(
-    odd: StatusAnd<IeeeFloat<WideS>>,
-    of_zero: bool,
-    round: Round,
-) -> StatusAnd<StoredFloat<F>>
-    ensures { Gives (IsProjected wide_format (constants_of F.StorageFormat) round of_zero odd.value
-        (bits_of odd.status)) result }
-{
-    match odd.value.category() {
-        Category::NaN => odd.status.and(StoredFloat::with_sign(false, 0)),
-        Category::Infinity => odd.status.and(largest_of_sign(odd.value.is_negative())),
-        Category::Zero => Status::OK.and(StoredFloat::with_sign(of_zero, 0)),
-        Category::Normal => {
-            let mut loses_info = false;
-            StoredFloat::from_value(odd.value, round, &mut loses_info)
-        }
-    }
-}
-
-/// The result of an operation, from its result toward zero in the wide format.
+/// The result of an operation, from its result toward zero in the wide format; `of_zero` is the sign of a zero.
 fn projected<F: StorageFormat>(
     truncated: StatusAnd<IeeeFloat<WideS>>,
     of_zero: bool,
@@ -126,7 +105,16 @@ fn projected<F: StorageFormat>(
         truncated) result }
 {
     let odd = to_odd(truncated, truncated.value.is_negative());
-    from_odd(odd, of_zero, round)
+    if odd.value.is_zero() {
+        return Status::OK.and(StoredFloat::with_sign(of_zero, 0));
+    }
+    let mut loses_info = false;
+    let answer = StoredFloat::from_value(odd.value, round, &mut loses_info);
+    if odd.value.is_finite() {
+        answer
+    } else {
+        odd.status.and(answer.value)
+    }
 }
 
 impl<F: StorageFormat> StoredFloat<F> {

@@ -1,4 +1,4 @@
-use Rattle.small_formats.proofs.WideOperands.{stored_once}
+use Rattle.small_formats.proofs.WideResults.{stored_once}
 use Rattle.small_formats.proofs.theorems.stored_results_have_one_answer.Goals as goal
 
 pub returns : goal.returns

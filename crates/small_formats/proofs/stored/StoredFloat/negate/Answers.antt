@@ -2,7 +2,7 @@ use Rattle.std.proofs.Common.{not, sym, ap, ◌∙◌, cond, ℕ, Bool}
 use Rattle.apfloat_model.specs.formats.Datum.{finite}
 use Rattle.small_formats.specs.Codes.{is_negative_code, magnitude_of, point}
 use Rattle.small_formats.specs.Types.{constants_of}
-use Rattle.small_formats.proofs.WideOperands.{opposite_is}
+use Rattle.small_formats.proofs.WideResults.{opposite_is}
 use Rattle.small_formats.proofs.stored.StoredFloat.negate.Goals as goal
 
 pub returns : goal.returns

@@ -3,7 +3,7 @@ use Rattle.apfloat_model.specs.rounding.Flags.{bits_of}
 use Rattle.small_formats.specs.Arithmetic.{wide_format, wide_quanta}
 use Rattle.small_formats.specs.Codes.{is_negative_code, magnitude_of, point}
 use Rattle.small_formats.specs.Types.{constants_of}
-use Rattle.small_formats.proofs.WideOperands.{wide}
+use Rattle.small_formats.proofs.WideResults.{wide}
 use Rattle.small_formats.proofs.WideResults.{root}
 use Rattle.small_formats.proofs.stored.StoredFloat.sqrt_r.Goals as goal
 
