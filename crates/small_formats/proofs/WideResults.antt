@@ -36,7 +36,7 @@ use Rattle.apfloat_model.proofs.general.Choices.{not_zero}
 use Rattle.apfloat_model.proofs.general.Powers.{two_pos, half_at_most}
 use Rattle.apfloat_model.proofs.arithmetic.RootDeliveries.{root_delivered}
 use Rattle.apfloat_model.proofs.arithmetic.RootSides.{AgreesWithRoot, agreeing, coarser}
-use Rattle.apfloat_model.proofs.arithmetic.Signs.{magnitude_signed, no_sign, sign_signed}
+use Rattle.apfloat_model.proofs.arithmetic.Signs.{magnitude_signed, no_sign, sign_signed, swapped_sum}
 use Rattle.apfloat_model.proofs.rounding.Deliveries.{signed_some}
 use Rattle.apfloat_model.proofs.rounding.FarMagnitudes.{far_above, largest_below, largest_on_grid}
 use Rattle.apfloat_model.proofs.rounding.Laws.{below_le_above, delivered_once, zero_delivered, zero_on_grid}
@@ -191,21 +191,8 @@ record IsTotal (b d : Bool) (m n k : ℕ) : Type 0 where
   is : (signed b m +ℤ signed d n) ≡ signed sign size
   scaled : (signed b (m * k) +ℤ signed d (n * k)) ≡ signed sign (size * k)
 
-total_of : (b d : Bool) (m n k : ℕ) → IsTotal b d m n k
-total_of true true m n k =
-    record { sign = true; size = m + n; is = omega (arith, ints); scaled = omega (arith, ints) }
-total_of false false m n k =
-    record { sign = false; size = m + n; is = omega (arith, ints); scaled = omega (arith, ints) }
-total_of true false m n k =
-    ⊎_elim
-    (λ (h : m < n).
-    let e : n * k ≡ (m + (n - m)) * k = ap (λ (i : ℕ). i * k) (omega (arith, h)) in
-    record { sign = false; size = n - m; is = omega (arith, ints, h); scaled = omega (arith, ints, e) })
-    (λ (h : n ≤ m).
-    let e : m * k ≡ (n + (m - n)) * k = ap (λ (i : ℕ). i * k) (omega (arith, h)) in
-    record { sign = true; size = m - n; is = omega (arith, ints, h); scaled = omega (arith, ints, e) })
-    (cases_lt m n)
-total_of false true m n k =
+difference_of : (m n k : ℕ) → IsTotal false true m n k
+difference_of m n k =
     ⊎_elim
     (λ (h : m < n).
     let e : n * k ≡ (m + (n - m)) * k = ap (λ (i : ℕ). i * k) (omega (arith, h)) in
@@ -214,6 +201,21 @@ total_of false true m n k =
     let e : m * k ≡ (n + (m - n)) * k = ap (λ (i : ℕ). i * k) (omega (arith, h)) in
     record { sign = false; size = m - n; is = omega (arith, ints, h); scaled = omega (arith, ints, e) })
     (cases_lt m n)
+
+total_of : (b d : Bool) (m n k : ℕ) → IsTotal b d m n k
+total_of true true m n k =
+    record { sign = true; size = m + n; is = omega (arith, ints); scaled = omega (arith, ints) }
+total_of false false m n k =
+    record { sign = false; size = m + n; is = omega (arith, ints); scaled = omega (arith, ints) }
+total_of false true m n k = difference_of m n k
+total_of true false m n k =
+    let r = difference_of n m k in
+    record {
+      sign = r.sign;
+      size = r.size;
+      is = swapped_sum (signed true m) (signed false n) ∙ r.is;
+      scaled = swapped_sum (signed true (m * k)) (signed false (n * k)) ∙ r.scaled;
+    }
 
 -- of a result toward zero in f, which is projected
 module _ (c : StorageConstants) (f : Format) (times : ℕ) (w : IsWider c f times) (mode : Round) (of_zero : Bool)

@@ -1,15 +1,10 @@
-use Rattle.std.proofs.Common.{◌∙◌}
-use Rattle.apfloat_model.specs.rounding.Flags.{bits_of}
-use Rattle.small_formats.specs.Arithmetic.{wide_format, wide_quanta}
-use Rattle.small_formats.specs.Codes.{is_negative_code, magnitude_of, point}
 use Rattle.small_formats.specs.Types.{constants_of}
-use Rattle.small_formats.proofs.WideResults.{wide}
-use Rattle.small_formats.proofs.WideResults.{root}
+use Rattle.small_formats.proofs.WideResults.{root, wide}
 use Rattle.small_formats.proofs.stored.StoredFloat.sqrt_r.Goals as goal
 
 pub returns : goal.returns
 returns g c =
-    let d = constants_of g.F.StorageFormat in
-    root d wide_format (wide_quanta wide_format d) (wide d g.F.StorageFormat.lawful) c.args.round _ _
-    c.projected.result.value (bits_of c.projected.result.status) c.projected.ensures (is_negative_code d c.args.self) (point d.precision (magnitude_of d c.args.self))
-    (c.is_negative.ensures) (rw c.widened.ensures at c.sqrt_r.ensures.root)
+    root _ _ _ (wide (constants_of g.F.StorageFormat) g.F.StorageFormat.lawful) c.args.round _ _ _ _
+    c.projected.ensures _ _
+    (c.is_negative.ensures)
+    (rw c.widened.ensures at c.sqrt_r.ensures.root)
