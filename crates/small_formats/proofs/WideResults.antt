@@ -460,7 +460,6 @@ module _ (c : StorageConstants) (f : Format) (times : ℕ) (w : IsWider c f time
       (omega (arith, p)) (omega arith) (λ _. refl) (λ _. z) y))
       (cases_eq n 0)
 
-
   -- the root of a positive number
   root_once : (square : ℕ) → 0 < square
       → IsDeliveredRoot f TowardZero (square * (times * times)) 1 truncated.value (bits_of truncated.status)

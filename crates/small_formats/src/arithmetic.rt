@@ -172,7 +172,11 @@ impl<F: StorageFormat> StoredFloat<F> {
         ensures { let c = constants_of F.StorageFormat in Gives (IsStored c round
             (root (format_with c) (datum_of c self))) result }
     {
-        projected(widened(self).sqrt_r(Round::TowardZero), self.is_negative(), round)
+        projected(
+            widened(self).sqrt_r(Round::TowardZero),
+            self.is_negative(),
+            round,
+        )
     }
 
     /// `self * multiplicand + addend`, rounded once (fusedMultiplyAdd), with the flags of that rounding. The sign of an
