@@ -1,7 +1,8 @@
 -- A result toward zero in a wider format, made odd and then rounded to the storage format, is the exact result rounded
 -- once.
-use Rattle.std.proofs.Common.{◌≡◌, ℕ, ◌+◌, ◌-◌, ◌*◌, ◌^◌, ◌<◌, ◌≤◌, Bool, true, false, cond, eqb, ltb, not, ℤ, ◌+ℤ◌}
-use Rattle.std.proofs.Common.{if◌then◌else◌, sym, refl, ap, ◌∙◌, subst, ⊎_elim, lit<, arith}
+use Rattle.std.proofs.Common.{◌≡◌, ℕ, ◌+◌, ◌-◌, ◌*◌, ◌^◌, ◌<◌, ◌≤◌, Bool, true, false, cond, eqb, ltb, not}
+use Rattle.std.proofs.Common.{if◌then◌else◌, sym, refl, ap, ◌∙◌, subst, ⊎_elim, lit<, arith, zero, suc}
+use Rattle.std.specs.Prelude.{ℤ, pos, negsuc, ◌+ℤ◌, ◌*ℤ◌}
 use Rattle.std.proofs.Math.Nat.{eq_of_mul-eq-mul_right, le_of_mul-le-mul_right, lt_of_mul-lt-mul_right, mul-pos}
 use Rattle.std.proofs.Math.Nat.{mul-le-mul_right, pow-le-pow_right}
 use Rattle.std.proofs.lemmas.Bool.{cases_eq, cases_lt, eq-eqb, eqb-true, le-ltb, lt-ltb, ne_eqb, MatchBool-at_false}
@@ -36,11 +37,11 @@ use Rattle.apfloat_model.proofs.general.Choices.{not_zero}
 use Rattle.apfloat_model.proofs.general.Powers.{two_pos, half_at_most}
 use Rattle.apfloat_model.proofs.arithmetic.RootDeliveries.{root_delivered}
 use Rattle.apfloat_model.proofs.arithmetic.RootSides.{AgreesWithRoot, agreeing, coarser}
-use Rattle.apfloat_model.proofs.arithmetic.Signs.{magnitude_signed, no_sign, sign_signed, swapped_sum}
 use Rattle.apfloat_model.proofs.rounding.Deliveries.{signed_some}
 use Rattle.apfloat_model.proofs.rounding.FarMagnitudes.{far_above, largest_below, largest_on_grid}
 use Rattle.apfloat_model.proofs.rounding.Laws.{below_le_above, delivered_once, zero_delivered, zero_on_grid}
 use Rattle.apfloat_model.proofs.whole_numbers.SignedNumbers.{largest_some}
+use Rattle.apfloat_pair_theory.proofs.numbers.SignedProducts.{magnitude-times, sign_times, signed_times, sum_times}
 use Rattle.round_to_odd.specs.Odd.{IsAnswerMadeOdd, IsToOdd, has_flag, is_odd_below, odd_between}
 use Rattle.round_to_odd.proofs.MadeOdd.{odd_of_truncated}
 use Rattle.round_to_odd.proofs.OddPoints.{AgreesAtEven, moved_on_grid, odd_agrees, wider_grid}
@@ -89,31 +90,23 @@ largest_far c f times w =
     let v = pow-add 2 (p + f.span) g.scale ∙ ap (λ (n : ℕ). n * 2 ^ g.scale) (pow-add 2 p f.span) in
     omega (arith, b, d, u, v)
 
--- the quantum of a format whose scale is at least that of the storage format
-scaled : (f : Format) (c : StorageConstants) → (format_with c).scale ≤ f.scale
-    → 2 ^ f.scale ≡ wide_quanta f c * 2 ^ (format_with c).scale
-scaled f c l =
-    let e : f.scale ≡ f.scale - (format_with c).scale + (format_with c).scale = omega (arith, l) in
-    ap (λ (n : ℕ). 2 ^ n) e ∙ pow-add 2 (f.scale - (format_with c).scale) (format_with c).scale
-
 pub wide : (c : StorageConstants) → IsLawfulStorage c → IsWider c wide_format (wide_quanta wide_format c)
 wide c law =
-    let low = law.precision_low in
-    let above = law.exponent in
-    let few = law.bits_high in
-    let least = law.min_exp_low in
-    let most = law.min_exp_high in
-    let wide : c.bits - c.precision ≤ 6 = omega (arith, low, above, few) in
-    let power : 2 ^ (c.bits - c.precision) ≤ 2 ^ 6 = pow-le-pow_right two_pos wide in
-    let quantum : (format_with c).scale + 3 ≤ wide_format.scale = omega (arith, ints, low, above, few, least, most) in
+    let few : c.bits - c.precision ≤ 6 = omega (arith, law.precision_low, law.bits_high) in
+    let power : 2 ^ (c.bits - c.precision) ≤ 2 ^ 6 = pow-le-pow_right two_pos few in
+    let quantum : (format_with c).scale + 3 ≤ wide_format.scale =
+    omega (arith, ints, law.exponent, law.bits_high, law.min_exp_low, law.min_exp_high) in
     record {
       law = law;
       kind = refl;
-      digits = omega (arith, above, few);
+      digits = omega (arith, law.exponent, law.bits_high);
       quantum = quantum;
-      exponents = omega (arith, ints, power, low, above, few, least, most);
+      exponents = omega (arith, ints, power, law.exponent, law.bits_high, law.min_exp_high);
       some = pow_pos (wide_format.scale - (format_with c).scale);
-      scale = scaled wide_format c (omega (arith, quantum));
+      scale =
+          let e : wide_format.scale ≡ wide_format.scale - (format_with c).scale + (format_with c).scale =
+          omega (arith, quantum) in
+          ap (λ (n : ℕ). 2 ^ n) e ∙ pow-add 2 (wide_format.scale - (format_with c).scale) (format_with c).scale;
     }
 
 -- a number that is converted exactly
@@ -184,38 +177,16 @@ settled f n negative true false none e = refl
 settled f n negative false leads true e = ap (λ (k : ℕ). finite negative k) (e refl)
 settled f n negative false leads false e = refl
 
--- a total as a sign and a magnitude, and the total of the terms times a number
-record IsTotal (b d : Bool) (m n k : ℕ) : Type 0 where
-  sign : Bool
-  size : ℕ
-  is : (signed b m +ℤ signed d n) ≡ signed sign size
-  scaled : (signed b (m * k) +ℤ signed d (n * k)) ≡ signed sign (size * k)
+-- the sign of an integer, where it is zero and where it is not
+own_sign : (own other : Bool) (z : ℤ) → 0 < magnitude z → sign_of own z ≡ sign_of other z
+own_sign own other (pos zero) h = absurd (omega (arith, h))
+own_sign own other (pos (suc n)) h = refl
+own_sign own other (negsuc n) h = refl
 
-difference_of : (m n k : ℕ) → IsTotal false true m n k
-difference_of m n k =
-    ⊎_elim
-    (λ (h : m < n).
-    let e : n * k ≡ (m + (n - m)) * k = ap (λ (i : ℕ). i * k) (omega (arith, h)) in
-    record { sign = true; size = n - m; is = omega (arith, ints, h); scaled = omega (arith, ints, e) })
-    (λ (h : n ≤ m).
-    let e : m * k ≡ (n + (m - n)) * k = ap (λ (i : ℕ). i * k) (omega (arith, h)) in
-    record { sign = false; size = m - n; is = omega (arith, ints, h); scaled = omega (arith, ints, e) })
-    (cases_lt m n)
-
-total_of : (b d : Bool) (m n k : ℕ) → IsTotal b d m n k
-total_of true true m n k =
-    record { sign = true; size = m + n; is = omega (arith, ints); scaled = omega (arith, ints) }
-total_of false false m n k =
-    record { sign = false; size = m + n; is = omega (arith, ints); scaled = omega (arith, ints) }
-total_of false true m n k = difference_of m n k
-total_of true false m n k =
-    let r = difference_of n m k in
-    record {
-      sign = r.sign;
-      size = r.size;
-      is = swapped_sum (signed true m) (signed false n) ∙ r.is;
-      scaled = swapped_sum (signed true (m * k)) (signed false (n * k)) ∙ r.scaled;
-    }
+zero_total : (own : Bool) (z : ℤ) → magnitude z ≡ 0 → own ≡ sign_of own z
+zero_total own (pos zero) h = refl
+zero_total own (pos (suc n)) h = absurd (omega (arith, h))
+zero_total own (negsuc n) h = absurd (omega (arith, h))
 
 -- of a result toward zero in f, which is projected
 module _ (c : StorageConstants) (f : Format) (times : ℕ) (w : IsWider c f times) (mode : Round) (of_zero : Bool)
@@ -326,7 +297,7 @@ module _ (c : StorageConstants) (f : Format) (times : ℕ) (w : IsWider c f time
       → (amount ≡ 0 → of_zero ≡ sign)
       → IsDelivered f TowardZero negative amount parts truncated.value (bits_of truncated.status)
       → IsStored c mode (rounded sign x y) code status
-  number negative sign amount parts x y some apart e alike zero d =
+  number negative sign amount parts x y some apart e alike as_zero d =
       ⊎_elim
       (λ (p : 0 < amount).
       subst (λ (b : Bool). IsStored c mode (rounded b x y) code status) (alike p)
@@ -339,7 +310,7 @@ module _ (c : StorageConstants) (f : Format) (times : ℕ) (w : IsWider c f time
       let k : x * (parts * 2 ^ f.scale) ≡ 0 * (parts * 2 ^ f.scale) =
       e ∙ ap (λ (n : ℕ). n * 2 ^ (format_with c).scale * y) none ∙ omega arith in
       let nothing : x ≡ 0 = eq_of_mul-eq-mul_right (parts * 2 ^ f.scale) pieces x 0 k in
-      let r = zero_stored sign (zero none) (ap (λ (v : Datum). is_zero_category (category_of v))
+      let r = zero_stored sign (as_zero none) (ap (λ (v : Datum). is_zero_category (category_of v))
       (exact (finite (zero_sign f.nonfinite negative) 0) (ap (λ (n : ℕ). has_flag n inexact_bit) of_none.1) of_none.0)) in
       record {
         value = finite sign 0;
@@ -355,31 +326,23 @@ module _ (c : StorageConstants) (f : Format) (times : ℕ) (w : IsWider c f time
       truncated.value (bits_of truncated.status)
       → IsStored c mode (totalled b d (signed b m +ℤ signed d n) y) code status
   total b d m n k parts y p some apart e z h =
-      let s = total_of b d m n k in
-      let u : ℕ = s.size in
+      let whole : ℤ = signed b m +ℤ signed d n in
       let toward : Bool = zero_sum_sign TowardZero b d in
       let own : Bool = zero_sum_sign mode b d in
-      let wide = magnitude_signed s.sign (u * k) in
-      let narrow = magnitude_signed s.sign u in
-      let r = number (sign_of toward (signed s.sign (u * k))) (sign_of own (signed s.sign u))
-      (magnitude (signed s.sign (u * k))) parts (magnitude (signed s.sign u)) y some apart
-      (ap (λ (i : ℕ). i * (parts * 2 ^ f.scale)) narrow
-      ∙ (let v : u * (parts * 2 ^ f.scale) ≡ u * k * 2 ^ (format_with c).scale * y =
-      ap (λ (i : ℕ). u * i) e ∙ omega arith in v)
-      ∙ sym (ap (λ (i : ℕ). i * 2 ^ (format_with c).scale * y) wide))
-      (λ a.
-      let more : 0 < u * k = omega (arith, a, wide) in
-      sign_signed toward s.sign (u * k) more
-      ∙ sym (sign_signed own s.sign u (lt_of_mul-lt-mul_right k (omega (arith, more)))))
-      (λ a.
-      let none : u ≡ 0 = eq_of_mul-eq-mul_right k p u 0 (omega (arith, a, wide)) in
-      z ∙ sym (ap (λ (i : ℕ). sign_of own (signed s.sign i)) none ∙ ap (λ (i : ℤ). sign_of own i) (no_sign s.sign)))
-      (subst (λ (i : ℤ). IsRounded f TowardZero toward i parts truncated.value (bits_of truncated.status)) s.scaled h) in
-      record {
-        value = r.value;
-        yields = subst (λ (i : ℤ). IsRounded (format_with c) mode own i y r.value status) (sym s.is) r.yields;
-        value_is = r.value_is;
-      }
+      let size = magnitude-times whole k in
+      let scaled : (signed b (m * k) +ℤ signed d (n * k)) ≡ (whole *ℤ pos k) =
+      ap (λ (i : ℤ). i +ℤ signed d (n * k)) (signed_times b m k)
+      ∙ ap (λ (i : ℤ). (signed b m *ℤ pos k) +ℤ i) (signed_times d n k)
+      ∙ sym (sum_times (signed b m) (signed d n) (pos k)) in
+      let same : magnitude whole * (parts * 2 ^ f.scale) ≡ magnitude whole * k * 2 ^ (format_with c).scale * y =
+      ap (λ (i : ℕ). magnitude whole * i) e ∙ omega arith in
+      let r = number (sign_of toward (whole *ℤ pos k)) (sign_of own whole) (magnitude (whole *ℤ pos k)) parts
+      (magnitude whole) y some apart (same ∙ sym (ap (λ (i : ℕ). i * 2 ^ (format_with c).scale * y) size))
+      (λ a. sign_times toward whole k p
+      ∙ own_sign toward own whole (lt_of_mul-lt-mul_right k (omega (arith, a, size))))
+      (λ a. z ∙ zero_total own whole (eq_of_mul-eq-mul_right k p (magnitude whole) 0 (omega (arith, a, size))))
+      (subst (λ (i : ℤ). IsRounded f TowardZero toward i parts truncated.value (bits_of truncated.status)) scaled h) in
+      record { value = r.value; yields = r.yields; value_is = r.value_is }
 
   pub sum : (b d : Bool) (m n : ℕ) → of_zero ≡ zero_sum_sign mode b d
       → IsSum f TowardZero (finite b (m * times)) (finite d (n * times)) truncated.value (bits_of truncated.status)
