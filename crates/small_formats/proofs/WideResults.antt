@@ -1,7 +1,8 @@
 -- A result toward zero in a wider format, made odd and then rounded to the storage format, is the exact result rounded
 -- once.
-use Rattle.std.proofs.Common.{◌≡◌, ℕ, ◌+◌, ◌-◌, ◌*◌, ◌^◌, ◌<◌, ◌≤◌, Bool, true, false, cond, eqb, ltb, not}
+use Rattle.std.proofs.Common.{◌≡◌, ℕ, ◌+◌, ◌-◌, ◌*◌, ◌^◌, ◌<◌, ◌≤◌, Bool, true, false}
 use Rattle.std.proofs.Common.{if◌then◌else◌, sym, refl, ap, ◌∙◌, subst, ⊎_elim, lit<, arith, zero, suc}
+use Rattle.std.proofs.Common.{cond, eqb, ltb, not}
 use Rattle.std.specs.Prelude.{ℤ, pos, negsuc, ◌+ℤ◌, ◌*ℤ◌}
 use Rattle.std.proofs.Math.Nat.{eq_of_mul-eq-mul_right, le_of_mul-le-mul_right, lt_of_mul-lt-mul_right, mul-pos}
 use Rattle.std.proofs.Math.Nat.{mul-le-mul_right, pow-le-pow_right}
@@ -21,17 +22,17 @@ use Rattle.apfloat_model.specs.arithmetic.Products.{IsProduct, product as produc
 use Rattle.apfloat_model.specs.arithmetic.Quotients.{IsQuotient, quotient as quotient_of}
 use Rattle.apfloat_model.specs.arithmetic.Roots.{IsDeliveredRoot, IsRoot, root as root_of}
 use Rattle.apfloat_model.specs.arithmetic.Sums.{IsSum, sum as sum_of}
-use Rattle.apfloat_model.specs.formats.Datum.{Datum, finite, infinite, nan}
+use Rattle.apfloat_model.specs.formats.Datum.{Datum, finite, infinite}
 use Rattle.apfloat_model.specs.formats.Format.{Format, greatest_significand, largest, nan_base}
 use Rattle.apfloat_model.specs.formats.Nan.{qnan}
 use Rattle.apfloat_model.specs.order.Classes.{category_of, is_negative}
 use Rattle.apfloat_model.specs.order.Predicates.{is_finite_category, is_zero_category}
-use Rattle.apfloat_model.specs.rounding.Flags.{bits_of}
+use Rattle.apfloat_model.specs.rounding.Flags.{Gives, bits_of}
 use Rattle.apfloat_model.specs.rounding.Grid.{IsBelow, IsAbove}
 use Rattle.apfloat_model.specs.rounding.Negation.{negated}
 use Rattle.apfloat_model.specs.rounding.Outcome.{Yields, exactly, invalid, rooted, rounded, totalled}
 use Rattle.apfloat_model.specs.rounding.Rounding.{IsDelivered, delivered_value, inexact_bit, leads_out, past_largest}
-use Rattle.apfloat_model.specs.rounding.Rounding.{signed_quanta, zero_sign}
+use Rattle.apfloat_model.specs.rounding.Rounding.{zero_sign}
 use Rattle.apfloat_model.proofs.Outcomes.{yields_once}
 use Rattle.apfloat_model.proofs.general.Choices.{not_zero}
 use Rattle.apfloat_model.proofs.general.Powers.{two_pos, half_at_most}
@@ -208,8 +209,9 @@ module _ (c : StorageConstants) (f : Format) (times : ℕ) (w : IsWider c f time
       )
 
   stored : (negative : Bool) (n x y : ℕ) → 0 < n → t.odd.value ≡ finite negative n
-      → ((value : Datum) → IsDelivered (format_with c) mode negative (n * 2 ^ (format_with c).scale) (2 ^ f.scale) value
-      status → IsDelivered (format_with c) mode negative x y value status)
+      → ((value : Datum)
+      → IsDelivered (format_with c) mode negative (n * 2 ^ (format_with c).scale) (2 ^ f.scale) value status
+      → IsDelivered (format_with c) mode negative x y value status)
       → IsStored c mode (rounded negative x y) code status
   stored negative n x y p e same =
       let some = not_zero n p in
@@ -231,7 +233,7 @@ module _ (c : StorageConstants) (f : Format) (times : ℕ) (w : IsWider c f time
   -- a nonzero magnitude, which is x / y quanta of the storage format
   rounded_once : (negative : Bool) (amount parts x y : ℕ) → 0 < amount → 0 < parts → 0 < y
       → x * (parts * 2 ^ f.scale) ≡ amount * 2 ^ (format_with c).scale * y
-      → IsDelivered f TowardZero negative amount parts truncated.value (bits_of truncated.status)
+      → Gives (IsDelivered f TowardZero negative amount parts) truncated
       → IsStored c mode (rounded negative x y) code status
   rounded_once negative amount parts x y positive some apart e d =
       let low = w.law.precision_low in
@@ -250,10 +252,9 @@ module _ (c : StorageConstants) (f : Format) (times : ℕ) (w : IsWider c f time
       let agrees : AgreesAtEven (f.precision - 1) amount parts o =
       odd_agrees f.precision odd.below odd.above amount parts (omega (arith, digits)) some odd.is_below odd.is_above in
       let above : 0 < o = agrees.less 0 (zero_on_grid (f.precision - 1)) (omega (arith, positive)) in
-      let across : (value : Datum) → IsDelivered (format_with c) mode negative (amount * gs) (parts * fs) value status
-      → IsDelivered (format_with c) mode negative x y value status =
-      λ value z. delivered_across g mode negative x y (amount * gs) (parts * fs) value status (omega (arith, low)) apart
-      pieces e z in
+      let across = λ (value : Datum) (z : IsDelivered g mode negative (amount * gs) (parts * fs) value status).
+      delivered_across g mode negative x y (amount * gs) (parts * fs) value status (omega (arith, low)) apart pieces e
+      z in
       ⊎_elim
       (λ (h : largest f < o).
       let far = largest_far c f times w in
@@ -295,7 +296,7 @@ module _ (c : StorageConstants) (f : Format) (times : ℕ) (w : IsWider c f time
   number : (negative sign : Bool) (amount parts x y : ℕ) → 0 < parts → 0 < y
       → x * (parts * 2 ^ f.scale) ≡ amount * 2 ^ (format_with c).scale * y → (0 < amount → negative ≡ sign)
       → (amount ≡ 0 → of_zero ≡ sign)
-      → IsDelivered f TowardZero negative amount parts truncated.value (bits_of truncated.status)
+      → Gives (IsDelivered f TowardZero negative amount parts) truncated
       → IsStored c mode (rounded sign x y) code status
   number negative sign amount parts x y some apart e alike as_zero d =
       ⊎_elim
@@ -310,11 +311,12 @@ module _ (c : StorageConstants) (f : Format) (times : ℕ) (w : IsWider c f time
       let k : x * (parts * 2 ^ f.scale) ≡ 0 * (parts * 2 ^ f.scale) =
       e ∙ ap (λ (n : ℕ). n * 2 ^ (format_with c).scale * y) none ∙ omega arith in
       let nothing : x ≡ 0 = eq_of_mul-eq-mul_right (parts * 2 ^ f.scale) pieces x 0 k in
+      let flag = ap (λ (n : ℕ). has_flag n inexact_bit) of_none.1 in
       let r = zero_stored sign (as_zero none) (ap (λ (v : Datum). is_zero_category (category_of v))
-      (exact (finite (zero_sign f.nonfinite negative) 0) (ap (λ (n : ℕ). has_flag n inexact_bit) of_none.1) of_none.0)) in
+      (exact (finite (zero_sign f.nonfinite negative) 0) flag of_none.0)) in
       record {
         value = finite sign 0;
-        yields = subst (λ (n : ℕ). IsDelivered (format_with c) mode sign x y (finite sign 0) n) (sym r.yields.status_is)
+        yields = subst (IsDelivered (format_with c) mode sign x y (finite sign 0)) (sym r.yields.status_is)
             (zero_delivered (format_with c) mode sign y x apart nothing);
         value_is = r.value_is ∙ ap (λ (v : Datum). stored_datum (format_with c) v) r.yields.value_is;
       })
@@ -322,8 +324,8 @@ module _ (c : StorageConstants) (f : Format) (times : ℕ) (w : IsWider c f time
 
   total : (b d : Bool) (m n k parts y : ℕ) → 0 < k → 0 < parts → 0 < y
       → parts * 2 ^ f.scale ≡ k * 2 ^ (format_with c).scale * y → of_zero ≡ zero_sum_sign mode b d
-      → IsRounded f TowardZero (zero_sum_sign TowardZero b d) (signed b (m * k) +ℤ signed d (n * k)) parts
-      truncated.value (bits_of truncated.status)
+      → Gives (IsRounded f TowardZero (zero_sum_sign TowardZero b d) (signed b (m * k) +ℤ signed d (n * k)) parts)
+      truncated
       → IsStored c mode (totalled b d (signed b m +ℤ signed d n) y) code status
   total b d m n k parts y p some apart e z h =
       let whole : ℤ = signed b m +ℤ signed d n in
@@ -341,17 +343,17 @@ module _ (c : StorageConstants) (f : Format) (times : ℕ) (w : IsWider c f time
       (λ a. sign_times toward whole k p
       ∙ own_sign toward own whole (lt_of_mul-lt-mul_right k (omega (arith, a, size))))
       (λ a. z ∙ zero_total own whole (eq_of_mul-eq-mul_right k p (magnitude whole) 0 (omega (arith, a, size))))
-      (subst (λ (i : ℤ). IsRounded f TowardZero toward i parts truncated.value (bits_of truncated.status)) scaled h) in
+      (subst (λ (i : ℤ). Gives (IsRounded f TowardZero toward i parts) truncated) scaled h) in
       record { value = r.value; yields = r.yields; value_is = r.value_is }
 
   pub sum : (b d : Bool) (m n : ℕ) → of_zero ≡ zero_sum_sign mode b d
-      → IsSum f TowardZero (finite b (m * times)) (finite d (n * times)) truncated.value (bits_of truncated.status)
+      → Gives (IsSum f TowardZero (finite b (m * times)) (finite d (n * times))) truncated
       → IsStored c mode (sum_of (format_with c) (finite b m) (finite d n)) code status
   sum b d m n z h =
       total b d m n times 1 1 w.some (lit< tt) (lit< tt) (let e = w.scale in omega (arith, e)) z h
 
   pub product : (b d : Bool) (m n : ℕ) → of_zero ≡ product_sign b d
-      → IsProduct f TowardZero (finite b (m * times)) (finite d (n * times)) truncated.value (bits_of truncated.status)
+      → Gives (IsProduct f TowardZero (finite b (m * times)) (finite d (n * times))) truncated
       → IsStored c mode (product_of (format_with c) (finite b m) (finite d n)) code status
   product b d m n z h =
       number (product_sign b d) (product_sign b d) (m * times * (n * times)) (2 ^ f.scale) (m * n)
@@ -360,22 +362,22 @@ module _ (c : StorageConstants) (f : Format) (times : ℕ) (w : IsWider c f time
       (ap (λ (i : ℕ). m * n * (i * i)) w.scale ∙ omega arith) (λ _. refl) (λ _. z) h
 
   pub fused : (a b d : Bool) (l m n : ℕ) → of_zero ≡ zero_sum_sign mode (product_sign a b) d
-      → IsFusedSum f TowardZero (finite a (l * times)) (finite b (m * times)) (finite d (n * times)) truncated.value
-      (bits_of truncated.status)
+      → Gives (IsFusedSum f TowardZero (finite a (l * times)) (finite b (m * times)) (finite d (n * times))) truncated
       → IsStored c mode (fused_sum (format_with c) (finite a l) (finite b m) (finite d n)) code status
   fused a b d l m n z h =
       let s : Bool = product_sign a b in
       let gs : ℕ = 2 ^ (format_with c).scale in
       let fs : ℕ = 2 ^ f.scale in
       let k : ℕ = times * times in
+      let toward : Bool = zero_sum_sign TowardZero s d in
       let left : l * times * (m * times) ≡ l * m * k = omega arith in
       let right : n * times * fs ≡ n * gs * k = ap (λ (i : ℕ). n * times * i) w.scale ∙ omega arith in
       total s d (l * m) (n * gs) k fs gs (mul-pos w.some w.some) (pow_pos f.scale) (pow_pos (format_with c).scale)
       (ap (λ (i : ℕ). i * i) w.scale ∙ omega arith) z
-      (subst (λ (i : ℕ). IsRounded f TowardZero (zero_sum_sign TowardZero s d) (signed s (l * m * k) +ℤ signed d i) fs
-      truncated.value (bits_of truncated.status)) right
-      (subst (λ (i : ℕ). IsRounded f TowardZero (zero_sum_sign TowardZero s d) (signed s i +ℤ signed d (n * times * fs))
-      fs truncated.value (bits_of truncated.status)) left h))
+      (subst (λ (i : ℕ). Gives (IsRounded f TowardZero toward (signed s (l * m * k) +ℤ signed d i) fs) truncated)
+      right
+      (subst (λ (i : ℕ). Gives (IsRounded f TowardZero toward (signed s i +ℤ signed d (n * times * fs)) fs)
+      truncated) left h))
 
   -- without a number: what stands for the NaN
   not_a_number : truncated.value ≡ qnan f 0 → bits_of truncated.status ≡ 1
@@ -395,7 +397,7 @@ module _ (c : StorageConstants) (f : Format) (times : ℕ) (w : IsWider c f time
   more n p = mul-pos (let k : 0 < n = omega (arith, p) in k) w.some
 
   pub quotient : (b d : Bool) (m n : ℕ) → of_zero ≡ product_sign b d
-      → IsQuotient f TowardZero (finite b (m * times)) (finite d (n * times)) truncated.value (bits_of truncated.status)
+      → Gives (IsQuotient f TowardZero (finite b (m * times)) (finite d (n * times))) truncated
       → IsStored c mode (quotient_of (format_with c) (finite b m) (finite d n)) code status
   quotient b d m n z h =
       let s : Bool = product_sign b d in
@@ -425,7 +427,7 @@ module _ (c : StorageConstants) (f : Format) (times : ℕ) (w : IsWider c f time
 
   -- the root of a positive number
   root_once : (square : ℕ) → 0 < square
-      → IsDeliveredRoot f TowardZero (square * (times * times)) 1 truncated.value (bits_of truncated.status)
+      → Gives (IsDeliveredRoot f TowardZero (square * (times * times)) 1) truncated
       → IsStored c mode (rooted square 1) code status
   root_once square positive root =
       let digits = w.digits in
@@ -446,7 +448,7 @@ module _ (c : StorageConstants) (f : Format) (times : ℕ) (w : IsWider c f time
       }
 
   pub root : (b : Bool) (n : ℕ) → of_zero ≡ b
-      → IsRoot f TowardZero (finite b (n * times)) truncated.value (bits_of truncated.status)
+      → Gives (IsRoot f TowardZero (finite b (n * times))) truncated
       → IsStored c mode (root_of (format_with c) (finite b n)) code status
   root b n z h =
       ⊎_elim
@@ -461,8 +463,7 @@ module _ (c : StorageConstants) (f : Format) (times : ℕ) (w : IsWider c f time
       (cases_eq n 0)
     where
       nonzero : (b : Bool) → 0 < n
-          → Yields f TowardZero (if b then invalid f else rooted (n * times * 2 ^ f.scale) 1) truncated.value
-          (bits_of truncated.status)
+          → Gives (Yields f TowardZero (if b then invalid f else rooted (n * times * 2 ^ f.scale) 1)) truncated
           → IsStored c mode (if b then invalid (format_with c) else rooted (n * 2 ^ (format_with c).scale) 1) code
           status
       nonzero true above y = not_a_number y.value_is y.status_is
@@ -470,7 +471,7 @@ module _ (c : StorageConstants) (f : Format) (times : ℕ) (w : IsWider c f time
           let e : n * times * 2 ^ f.scale ≡ n * 2 ^ (format_with c).scale * (times * times) =
           ap (λ (i : ℕ). n * times * i) w.scale ∙ omega arith in
           root_once (n * 2 ^ (format_with c).scale) (mul-pos above (pow_pos (format_with c).scale))
-          (subst (λ (i : ℕ). IsDeliveredRoot f TowardZero i 1 truncated.value (bits_of truncated.status)) e y)
+          (subst (λ (i : ℕ). Gives (IsDeliveredRoot f TowardZero i 1) truncated) e y)
 
 -- the negation of a number
 pub opposite_is : (b : Bool) (n : ℕ) → negated IEEE754 (finite b n) ≡ finite (not b) n

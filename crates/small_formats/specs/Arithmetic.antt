@@ -1,6 +1,7 @@
 -- Arithmetic of storage formats: the exact result is delivered once in the format of the model with the same numbers,
 -- and where that is no number, one stands for it.
-use Rattle.std.specs.Prelude.{◌≡◌, ℕ, ◌+◌, ◌-◌, ◌*◌, ◌^◌, ◌<◌, Bool, false, if◌then◌else◌}
+use Rattle.std.specs.Prelude.{◌≡◌, ℕ, ◌+◌, ◌-◌, ◌*◌, ◌^◌, ◌<◌, Bool, false}
+use Rattle.std.specs.Prelude.{if◌then◌else◌}
 use Rattle.std.specs.Bool.{MatchBool}
 use Rattle.apfloat_model.specs.declared.kinds.NonfiniteBehavior.TheVariants.{IEEE754}
 use Rattle.apfloat_model.specs.declared.kinds.Round.{Round}
@@ -58,7 +59,7 @@ wide_quanta f c = 2 ^ (f.scale - (format_with c).scale)
 abbrev pub widened : Format → StorageConstants → ℕ → Datum
 widened f c code = finite (is_negative_code c code) (point c.precision (magnitude_of c code) * wide_quanta f c)
 
--- A result toward zero in f, made odd there, becomes this code as any value of f does, with its own flags if it is not a
+-- A result toward zero in f, made odd there, becomes this code as any value of f does, with its own flags if it is no
 -- number; `of_zero` is the sign of a zero.
 pub record IsProjection (f : Format) (c : StorageConstants) (mode : Round) (of_zero : Bool)
     (truncated : StatusAnd Datum) (code status : ℕ) : Type 0 where

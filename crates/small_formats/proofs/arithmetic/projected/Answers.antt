@@ -1,4 +1,4 @@
-use Rattle.std.proofs.Common.{false, ℕ, Bool, sym, refl, ap, ◌∙◌}
+use Rattle.std.proofs.Common.{false, ℕ, sym, refl, ap, ◌∙◌}
 use Rattle.std.proofs.lemmas.Bool.{false≢true}
 use Rattle.apfloat_model.specs.formats.Datum.{finite}
 use Rattle.apfloat_model.specs.rounding.Flags.{bits_of}
