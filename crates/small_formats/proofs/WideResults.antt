@@ -21,9 +21,9 @@ use Rattle.apfloat_model.specs.arithmetic.FusedSums.{IsFusedSum, fused_sum}
 use Rattle.apfloat_model.specs.arithmetic.Products.{IsProduct, product as product_of}
 use Rattle.apfloat_model.specs.arithmetic.Quotients.{IsQuotient, quotient as quotient_of}
 use Rattle.apfloat_model.specs.arithmetic.Roots.{IsDeliveredRoot, IsRoot, root as root_of}
-use Rattle.apfloat_model.specs.arithmetic.Sums.{IsSum, sum as sum_of}
+use Rattle.apfloat_model.specs.arithmetic.Sums.{IsDifference, IsSum, difference as difference_of, sum as sum_of}
 use Rattle.apfloat_model.specs.formats.Datum.{Datum, finite, infinite}
-use Rattle.apfloat_model.specs.formats.Format.{Format, greatest_significand, largest, nan_base}
+use Rattle.apfloat_model.specs.formats.Format.{Format, largest, nan_base}
 use Rattle.apfloat_model.specs.formats.Nan.{qnan}
 use Rattle.apfloat_model.specs.order.Classes.{category_of, is_negative}
 use Rattle.apfloat_model.specs.order.Predicates.{is_finite_category, is_zero_category}
@@ -34,8 +34,9 @@ use Rattle.apfloat_model.specs.rounding.Outcome.{Yields, exactly, invalid, roote
 use Rattle.apfloat_model.specs.rounding.Rounding.{IsDelivered, delivered_value, inexact_bit, leads_out, past_largest}
 use Rattle.apfloat_model.specs.rounding.Rounding.{zero_sign}
 use Rattle.apfloat_model.proofs.Outcomes.{yields_once}
+use Rattle.apfloat_model.proofs.formats.Greatest.{greatest_full}
 use Rattle.apfloat_model.proofs.general.Choices.{not_zero}
-use Rattle.apfloat_model.proofs.general.Powers.{two_pos, half_at_most}
+use Rattle.apfloat_model.proofs.general.Powers.{two_pos}
 use Rattle.apfloat_model.proofs.arithmetic.RootDeliveries.{root_delivered}
 use Rattle.apfloat_model.proofs.arithmetic.RootSides.{AgreesWithRoot, agreeing, coarser}
 use Rattle.apfloat_model.proofs.rounding.Deliveries.{signed_some}
@@ -77,14 +78,9 @@ largest_far c f times w =
     let p : ℕ = f.precision - 1 in
     let digits = w.digits in
     let more = w.exponents in
-    let top : largest f ≡ (2 ^ f.precision - 1) * 2 ^ f.span =
-    ap (λ (k : NonfiniteBehavior). greatest_significand k f.precision * 2 ^ f.span) w.kind in
-    let half : 2 * 2 ^ p ≤ 2 ^ f.precision = half_at_most p f.precision (omega (arith, digits)) in
-    let one : 0 < 2 ^ p = pow_pos p in
-    let a : 2 ^ p * 2 ^ f.span ≤ (2 ^ f.precision - 1) * 2 ^ f.span =
-    mul-le-mul_right (2 ^ f.span) (omega (arith, half, one)) in
-    let b : 2 ^ p * 2 ^ f.span * 2 ^ g.scale ≤ largest f * 2 ^ g.scale =
-    mul-le-mul_right (2 ^ g.scale) (omega (arith, a, top)) in
+    let a : 2 ^ p * 2 ^ f.span ≤ largest f =
+    mul-le-mul_right (2 ^ f.span) (greatest_full f.nonfinite f.precision (omega (arith, digits, w.law.precision_low))) in
+    let b : 2 ^ p * 2 ^ f.span * 2 ^ g.scale ≤ largest f * 2 ^ g.scale = mul-le-mul_right (2 ^ g.scale) a in
     let d : 2 ^ (c.precision + g.span + f.scale) ≤ 2 ^ (p + f.span + g.scale) =
     pow-le-pow_right two_pos (omega (arith, digits, more)) in
     let u = pow-add 2 (c.precision + g.span) f.scale in
@@ -188,6 +184,15 @@ zero_total : (own : Bool) (z : ℤ) → magnitude z ≡ 0 → own ≡ sign_of ow
 zero_total own (pos zero) h = refl
 zero_total own (pos (suc n)) h = absurd (omega (arith, h))
 zero_total own (negsuc n) h = absurd (omega (arith, h))
+
+-- the negation of a number
+opposite_is : (kind : NonfiniteBehavior) (b : Bool) (n : ℕ) → kind ≡ IEEE754 → negated kind (finite b n) ≡ finite (not b) n
+opposite_is kind b n e =
+    ap (λ (k : NonfiniteBehavior). negated k (finite b n)) e ∙ either (eqb n 0) (eqb-true n 0)
+  where
+    either : (none : Bool) → (none ≡ true → n ≡ 0) → cond none (finite (not b) 0) (finite (not b) n) ≡ finite (not b) n
+    either true z = ap (λ (k : ℕ). finite (not b) k) (sym (z refl))
+    either false z = refl
 
 -- of a result toward zero in f, which is projected
 module _ (c : StorageConstants) (f : Format) (times : ℕ) (w : IsWider c f times) (mode : Round) (of_zero : Bool)
@@ -352,6 +357,16 @@ module _ (c : StorageConstants) (f : Format) (times : ℕ) (w : IsWider c f time
   sum b d m n z h =
       total b d m n times 1 1 w.some (lit< tt) (lit< tt) (let e = w.scale in omega (arith, e)) z h
 
+  pub difference : (b d : Bool) (m n : ℕ) → of_zero ≡ zero_sum_sign mode b (not d)
+      → Gives (IsDifference f TowardZero (finite b (m * times)) (finite d (n * times))) truncated
+      → IsStored c mode (difference_of (format_with c) (finite b m) (finite d n)) code status
+  difference b d m n z h =
+      subst (λ (y : Datum). IsStored c mode (sum_of (format_with c) (finite b m) y) code status)
+      (sym (opposite_is IEEE754 d n refl))
+      (sum b (not d) m n z
+      (subst (λ (y : Datum). Gives (IsSum f TowardZero (finite b (m * times)) y) truncated)
+      (opposite_is f.nonfinite d (n * times) w.kind) h))
+
   pub product : (b d : Bool) (m n : ℕ) → of_zero ≡ product_sign b d
       → Gives (IsProduct f TowardZero (finite b (m * times)) (finite d (n * times))) truncated
       → IsStored c mode (product_of (format_with c) (finite b m) (finite d n)) code status
@@ -472,14 +487,6 @@ module _ (c : StorageConstants) (f : Format) (times : ℕ) (w : IsWider c f time
           ap (λ (i : ℕ). n * times * i) w.scale ∙ omega arith in
           root_once (n * 2 ^ (format_with c).scale) (mul-pos above (pow_pos (format_with c).scale))
           (subst (λ (i : ℕ). Gives (IsDeliveredRoot f TowardZero i 1) truncated) e y)
-
--- the negation of a number
-pub opposite_is : (b : Bool) (n : ℕ) → negated IEEE754 (finite b n) ≡ finite (not b) n
-opposite_is b n =
-    ⊎_elim
-    (λ (e : n ≡ 0). rw (eq-eqb n 0 e) (ap (λ (k : ℕ). finite (not b) k) (sym e)))
-    (λ (e : n ≡ 0 → ⊥). rw (ne_eqb n 0 e) refl)
-    (cases_eq n 0)
 
 pub stored_once : IsStoredOnce
 stored_once c mode outcome code other status flags law l k x y =

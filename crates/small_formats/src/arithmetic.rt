@@ -13,7 +13,6 @@ ghost use Rattle.apfloat_model.specs.arithmetic.Quotients.{quotient};
 ghost use Rattle.apfloat_model.specs.arithmetic.Roots.{root};
 ghost use Rattle.apfloat_model.specs.arithmetic.Sums.{difference, sum};
 ghost use Rattle.apfloat_model.specs.rounding.Flags.{Gives};
-ghost use Rattle.apfloat_model.specs.rounding.Negation.{negated};
 ghost use Rattle.small_formats.specs.Arithmetic.{IsProjection, IsStored, wide_format, widened};
 ghost use Rattle.small_formats.specs.Codes.{datum_of};
 ghost use Rattle.small_formats.specs.Storage.{format_with};
@@ -118,14 +117,6 @@ fn projected<F: StorageFormat>(
 }
 
 impl<F: StorageFormat> StoredFloat<F> {
-    /// The number with the other sign, a zero too (IEEE 754-2019 5.5.1, negate).
-    pub fn negate(self) -> Self
-        ensures { let c = constants_of F.StorageFormat in
-            datum_of c result ≡ negated (format_with c).nonfinite (datum_of c self) }
-    {
-        Self::with_sign(!self.is_negative(), self.magnitude())
-    }
-
     /// `self + rhs`, rounded once, with the flags of that rounding. Past the largest number the result is that number,
     /// as in `from_value`. The sum of opposite numbers is -0 only where the mode is toward negative (6.3).
     pub fn add_r(self, rhs: Self, round: Round) -> StatusAnd<Self>
@@ -142,7 +133,9 @@ impl<F: StorageFormat> StoredFloat<F> {
         ensures { let c = constants_of F.StorageFormat in Gives (IsStored c round
             (difference (format_with c) (datum_of c self) (datum_of c rhs))) result }
     {
-        self.add_r(rhs.negate(), round)
+        let truncated = widened(self).sub_r(widened(rhs), Round::TowardZero);
+        let of_zero = sign_of_zero(round, self.is_negative(), !rhs.is_negative());
+        projected(truncated, of_zero, round)
     }
 
     /// `self * rhs`, rounded once, with the flags of that rounding.

@@ -150,12 +150,6 @@ impl<F: StorageFormat> StoredFloat<F> {
         self.0.compare(other.0)
     }
 
-    /// The number with the other sign, a zero too (IEEE 754-2019 5.5.1, negate).
-    #[inline]
-    pub fn negate(self) -> Self {
-        StoredFloat(self.0.negate())
-    }
-
     /// The square root, rounded once, with the flags of that rounding. A zero is its own root, and the root of a number
     /// below zero is +0, with `INVALID_OP`.
     pub fn sqrt_r(self, round: Round) -> StatusAnd<Self> {

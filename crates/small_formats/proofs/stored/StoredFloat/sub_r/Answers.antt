@@ -1,15 +1,9 @@
-use Rattle.std.proofs.Common.{subst}
-use Rattle.apfloat_model.specs.arithmetic.Sums.{sum}
-use Rattle.apfloat_model.specs.formats.Datum.{Datum}
-use Rattle.apfloat_model.specs.rounding.Flags.{bits_of}
-use Rattle.small_formats.specs.Arithmetic.{IsStored}
-use Rattle.small_formats.specs.Codes.{datum_of}
-use Rattle.small_formats.specs.Storage.{format_with}
-use Rattle.small_formats.specs.Types.{constants_of}
+use Rattle.small_formats.proofs.WideResults.{difference, wide}
 use Rattle.small_formats.proofs.stored.StoredFloat.sub_r.Goals as goal
 
 pub returns : goal.returns
 returns g c =
-    let d = constants_of g.F.StorageFormat in
-    subst (λ (y : Datum). IsStored d c.args.round (sum (format_with d) (datum_of d c.args.self) y)
-    c.add_r.result.value (bits_of c.add_r.result.status)) c.negate.ensures c.add_r.ensures
+    difference _ _ _ (wide _ g.F.StorageFormat.lawful) c.args.round _ _ _ _
+    c.projected.ensures _ _ _ _
+    (rw (c.is_negative.ensures, c.is_negative-2.ensures) at c.sign_of_zero-of_zero.ensures)
+    (rw (c.widened.ensures, c.widened-2.ensures) at c.sub_r-truncated.ensures.difference)
