@@ -6,6 +6,7 @@ pub mod DecimalTexts
 pub mod Decimals
 pub mod Eights
 pub mod ExactDecimals
+pub mod FiniteValues
 pub mod Intervals
 pub mod LeadingDigits
 pub mod OddDecimals

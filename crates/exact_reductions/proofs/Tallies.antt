@@ -82,15 +82,29 @@ joined_again r s t =
     (or_joined r.positive s.positive t.positive) (or_joined r.negative s.negative t.negative)
     (omega (arith, ints))
 
--- a step of a loop: `done` and the terms from here on are all
-pub step : (done next all term rest here : Tally) → joined done here ≡ all → here ≡ joined term rest
-    → next ≡ joined done term → joined next rest ≡ all
-step done next all term rest here e f g =
-    ap (λ (t : Tally). joined t rest) g ∙ joined_again done term rest
-    ∙ ap (λ (t : Tally). joined done t) (sym f) ∙ e
+-- a loop over terms: `done` has i terms more than `before`, and the others are left
+pub record IsUnderWay (before done all left : Tally) (i : ℕ) : Type 0 where
+  pub terms : done.terms ≡ before.terms + i
+  pub total : joined done left ≡ joined before all
 
-pub last_step : (done all rest : Tally) → joined done rest ≡ all → rest ≡ no_terms → done ≡ all
-last_step done all rest e f = sym (joined_none done) ∙ sym (ap (λ (t : Tally). joined done t) f) ∙ e
+-- a step of it
+pub one_done : (before done next all left rest term : Tally) (i : ℕ) → IsUnderWay before done all left i
+    → left ≡ joined term rest → next ≡ joined done term → term.terms ≡ 1
+    → IsUnderWay before next all rest (i + 1)
+one_done before done next all left rest term i x here added one =
+    let more = ap (λ (t : Tally). t.terms) added in
+    let terms = x.terms in
+    record {
+      terms = omega (arith, more, one, terms);
+      total = ap (λ (t : Tally). joined t rest) added ∙ joined_again done term rest
+          ∙ ap (λ (t : Tally). joined done t) (sym here) ∙ x.total;
+    }
+
+-- its end
+pub all_done : (before done all left : Tally) (i : ℕ) → IsUnderWay before done all left i → left ≡ no_terms
+    → done ≡ joined before all
+all_done before done all left i x none =
+    sym (joined_none done) ∙ sym (ap (λ (t : Tally). joined done t) none) ∙ x.total
 
 -- all terms, if there were none before
 pub from_none : (before after all : Tally) → before ≡ no_terms → after ≡ joined before all → after ≡ all

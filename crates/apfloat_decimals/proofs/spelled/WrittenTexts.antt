@@ -2,9 +2,9 @@
 use Rattle.std.proofs.Common.{◌≡◌, ◌⊎◌, ℕ, ◌+◌, ◌-◌, ◌*◌, ◌/◌, ◌%◌, ◌^◌, ◌<◌, ◌≤◌, Bool, true, false, refl, sym, ap}
 use Rattle.std.proofs.Common.{◌∙◌, inl, inr, ⊎_elim, arith, lit<, zero, suc, add-one, List, [], ◌∷◌, ◌++◌, length}
 use Rattle.std.proofs.Common.{replicate, codes, append_assoc, length-append, ℤ, pos, negsuc, neg_ℤ, ◌+ℤ◌, ◌-ℤ◌, ◌≤ℤ◌}
-use Rattle.std.proofs.Common.{eqb, leb}
+use Rattle.std.proofs.Common.{eqb, leb, subst}
 use Rattle.std.proofs.lemmas.Bool.{cases_Bool, eqb-true, eqb-false, ne_eqb, le-leb, leb-true, and_parts, and_from}
-use Rattle.std.proofs.lemmas.Fmt.{decimal_by_steps_wide, length-decimal-le_wide}
+use Rattle.std.proofs.lemmas.Fmt.{decimal_by_steps_wide, decimal_digit, length-decimal-le_wide}
 use Rattle.std.proofs.lemmas.Int.{ints}
 use Rattle.std.proofs.lemmas.Nat.{pow-add}
 use Rattle.std.specs.Fmt.{decimal, signed_decimal}
@@ -230,24 +230,11 @@ begun_dotted n places tail written e few some exponent same =
     (rw (sym same) (dotted n places tail written few some exponent))
 
 zero_text : IsMagnitude (codes "0.0") 0 (neg_ℤ (pos 1))
-zero_text = record {
-  is_text = record {
-    whole = 48 ∷ [];
-    point = codes ".";
-    fraction = 48 ∷ [];
-    tail = [];
-    written = pos 0;
-    spelled = refl;
-    is_point = inl refl;
-    are_digits = refl;
-    has_digits = omega arith;
-    is_written = refl;
-    digits_are = refl;
-    exponent_is = refl;
-  };
-  no_mark = refl;
-  no_sign = refl;
-}
+zero_text =
+    let zero : decimal 0 ≡ 48 ∷ [] = decimal_digit 0 (omega arith) in
+    let text : pointed 0 1 ++ [] ≡ codes "0.0" = rw zero refl in
+    subst (λ (t : List ℕ). IsMagnitude t 0 (neg_ℤ (pos 1))) text
+    (begun_dotted 0 1 [] (pos 0) (neg_ℤ (pos 1)) (omega arith) (omega arith) refl refl)
 
 -- an integer written without an exponent, with a zero after its dot
 plain_whole : (n : ℕ) (e : ℤ) → n < 2 ^ 128 → is_plain n e ≡ true → eqb (down e) 0 ≡ true

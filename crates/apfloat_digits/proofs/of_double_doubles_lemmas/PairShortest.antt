@@ -1,7 +1,7 @@
 -- A pair has at most one shortest decimal, and the pair is read back from it.
 use Rattle.std.proofs.Common.{◌≡◌, ◌<◌, ◌≤◌, ◌*◌, ◌^◌, ℕ, zero, suc, ℤ, ◌∙◌, Bool, true, false, refl, sym, ap, subst, List}
 use Rattle.std.proofs.Common.{Option, Some, None, Result, Ok, Err, arith, lit<}
-use Rattle.std.proofs.lemmas.Bool.{and_parts, eqb-true}
+use Rattle.std.proofs.lemmas.Bool.{and_parts}
 use Rattle.std.specs.Bool.{MatchBool}
 use Rattle.std.specs.Result.{IsOkAnd}
 use Rattle.apfloat_model.specs.Determined.{Determines}
@@ -13,11 +13,11 @@ use Rattle.apfloat_model.specs.declared.status.StatusAnd.{StatusAnd}
 use Rattle.apfloat_model.specs.formats.Datum.{Datum, finite, infinite, nan}
 use Rattle.apfloat_model.specs.formats.Format.{Format, largest}
 use Rattle.apfloat_model.specs.formats.Members.{IsMember}
-use Rattle.apfloat_model.specs.order.Classes.{same_datum}
 use Rattle.apfloat_model.specs.rounding.Flags.{bits_of}
 use Rattle.apfloat_model.specs.rounding.Rounding.{zero_sign}
 use Rattle.apfloat_model.specs.arithmetic.Exact.{up, down}
-use Rattle.apfloat_model.proofs.general.Choices.{match_false, match_true, same_sign_is}
+use Rattle.apfloat_model.proofs.general.Choices.{match_false, match_true}
+use Rattle.apfloat_model.proofs.order.Categories.{same_is}
 use Rattle.apfloat_model.proofs.rounding.Laws.{zero_on_grid}
 use Rattle.apfloat_pair_theory.specs.PairFormats.{wide}
 use Rattle.apfloat_pair_theory.specs.PairParts.{same_pair}
@@ -40,25 +40,10 @@ use Rattle.apfloat_digits.specs.of_double_doubles.PairShortest.{GivesPairShortes
 
 -- ---- pairs with the same parts
 
-datum_same : (x y : Datum) → same_datum x y ≡ true → x ≡ y
-datum_same (finite a m) (finite b n) e =
-    let p = and_parts _ _ e in
-    rw (same_sign_is a b p.0, eqb-true m n p.1) refl
-datum_same (infinite a) (infinite b) e = ap infinite (same_sign_is a b e)
-datum_same (nan a s) (nan b t) e =
-    let p = and_parts _ _ e in
-    rw (same_sign_is a b p.0, eqb-true s t p.1) refl
-datum_same (finite a m) (infinite b) e = cc
-datum_same (finite a m) (nan b t) e = cc
-datum_same (infinite a) (finite b n) e = cc
-datum_same (infinite a) (nan b t) e = cc
-datum_same (nan a s) (finite b n) e = cc
-datum_same (nan a s) (infinite b) e = cc
-
 pair_same : (x y : Pair) → same_pair x y ≡ true → x ≡ y
 pair_same x y e =
     let p = and_parts _ _ e in
-    parts_same x y (datum_same x.high y.high p.0) (datum_same x.low y.low p.1)
+    parts_same x y (same_is x.high y.high p.0) (same_is x.low y.low p.1)
 
 -- ---- what is found
 

@@ -4,20 +4,20 @@ use Rattle.std.proofs.Common.{Option, Some, None, arith, lit≤, ℤ, pos, ◌+�
 use Rattle.std.specs.Prelude.{◌-ℤ◌, IsSome}
 use Rattle.std.specs.Bool.{MatchBool}
 use Rattle.std.proofs.Math.Path.{subst₂}
-use Rattle.std.proofs.lemmas.Bool.{cases_lt, eq-eqb, false≢true, lt-ltb}
+use Rattle.std.proofs.lemmas.Bool.{cases_lt, false≢true, lt-ltb}
 use Rattle.std.proofs.lemmas.Int.{ints}
 use Rattle.apfloat_model.specs.declared.kinds.Round.TheVariants.{NearestTiesToEven}
 use Rattle.apfloat_model.specs.formats.Datum.{Datum, finite, infinite, nan}
 use Rattle.apfloat_model.specs.formats.Format.{largest}
 use Rattle.apfloat_model.specs.formats.Members.{IsMember, IsFiniteOf}
-use Rattle.apfloat_model.specs.order.Classes.{is_finite, is_finite_non_zero, same_datum}
+use Rattle.apfloat_model.specs.order.Classes.{is_finite, is_finite_non_zero}
 use Rattle.apfloat_model.specs.order.Order.{number}
 use Rattle.apfloat_model.specs.arithmetic.Exact.{signed, sign_of, magnitude, IsRounded}
 use Rattle.apfloat_model.specs.arithmetic.Sums.{IsSum, zero_sum_sign}
 use Rattle.apfloat_model.specs.rounding.Grid.{IsOnGrid}
 use Rattle.apfloat_model.specs.rounding.Rounding.{ok_bits, delivered_value}
 use Rattle.apfloat_model.proofs.arithmetic.Signs.{magnitude_signed}
-use Rattle.apfloat_model.proofs.general.Choices.{same_sign_self}
+use Rattle.apfloat_model.proofs.order.Categories.{same_of}
 use Rattle.apfloat_model.proofs.rounding.Laws.{delivered_once}
 use Rattle.apfloat_pair_theory.specs.PairFormats.{double, wide}
 use Rattle.apfloat_pair_theory.specs.PairParts.{same_pair}
@@ -151,13 +151,8 @@ number_joined b n x joined m f s j =
 
 -- ---- a decimal
 
-datum_itself : (x : Datum) → same_datum x x ≡ true
-datum_itself (finite a m) = rw (same_sign_self a, eq-eqb m m refl) refl
-datum_itself (infinite a) = same_sign_self a
-datum_itself (nan a s) = rw (same_sign_self a, eq-eqb s s refl) refl
-
 pair_itself : (x : Pair) → same_pair x x ≡ true
-pair_itself x = rw (datum_itself x.high, datum_itself x.low) refl
+pair_itself x = rw (same_of x.high, same_of x.low) refl
 
 found : (b : Bool) (n : ℕ) (answer : Option Decimal) → GivesShortest wide (finite b n) answer → IsSome answer
 found b n None g = absurd g

@@ -1,8 +1,8 @@
 use Rattle.std.proofs.Common.{◌≡◌, ℕ, ◌+◌, ◌*◌, ◌-◌, ◌%◌, ◌^◌, ◌∙◌, List, drop, take, true, false, get_or, sym, ap, arith}
 use Rattle.apfloat_model.specs.texts.Digits.{begins, is_decimal}
 use Rattle.apfloat_decimals.specs.LeadingDigits.{number_from}
-use Rattle.apfloat_decimals.proofs.numbers.LeadingNumbers.{begins_next, begins_none, decimal_value, digits_until}
-use Rattle.apfloat_decimals.proofs.numbers.LeadingNumbers.{every_next, number_next}
+use Rattle.apfloat_decimals.proofs.numbers.LeadingNumbers.{begins_next, begins_none, decimal_value}
+use Rattle.apfloat_decimals.proofs.numbers.LeadingNumbers.{every_next, number_next, split_until}
 use Rattle.apfloat_decimals.proofs.texts.parts.split_number.Goals.{After-split_at, then-loop-count-test+else-is_decimal}
 use Rattle.apfloat_decimals.proofs.texts.parts.split_number.Goals.{else-loop-count-test}
 use Rattle.apfloat_decimals.proofs.texts.parts.split_number.Goals as goal
@@ -37,21 +37,15 @@ loop-count-preserved c =
           ∙ one_more n (get_or text i 0 - 48) ∙ ap (λ (v : ℕ). v % 2 ^ 64) (sym next);
     }
 
-pub returns-clause-digits : goal.returns-clause-digits
-returns-clause-digits c =
-    c.split_at.ensures.front
-    ∙ (digits_until c.args.text.now c.loop-count.count c.loop-count.invariant.digits
-    (stops (goal.at.returns-clause-digits c).After-split_at)).0
-
-pub returns-clause-rest : goal.returns-clause-rest
-returns-clause-rest c =
-    c.split_at.ensures.back
-    ∙ (digits_until c.args.text.now c.loop-count.count c.loop-count.invariant.digits
-    (stops (goal.at.returns-clause-rest c).After-split_at)).1
-
-pub returns-clause-number : goal.returns-clause-number
-returns-clause-number c =
-    c.loop-count.invariant.number
-    ∙ ap (λ (digits : List ℕ). number_from c.args.first digits % 2 ^ 64)
-    (digits_until c.args.text.now c.loop-count.count c.loop-count.invariant.digits
-    (stops (goal.at.returns-clause-number c).After-split_at)).0
+pub returns : goal.returns
+returns c =
+    let split =
+    split_until c.args.text.now _ _ c.loop-count.count c.split_at.ensures.front c.split_at.ensures.back
+    c.loop-count.invariant.digits (stops (goal.at.returns c).After-split_at) in
+    let spelled = sym c.split_at.ensures.front ∙ split.0 in
+    record {
+      digits = split.0;
+      rest = split.1;
+      number = c.loop-count.invariant.number
+          ∙ ap (λ (digits : List ℕ). number_from c.args.first digits % 2 ^ 64) spelled;
+    }

@@ -1,7 +1,6 @@
-use Rattle.std.proofs.Common.{◌<◌, ◌≤◌, length, ap, arith}
+use Rattle.std.proofs.Common.{◌<◌, ◌≤◌, length, arith}
 use Rattle.apfloat_ieee.specs.FlaggedTypes.{format_of}
-use Rattle.exact_reductions.specs.Reductions.{Tally}
-use Rattle.exact_reductions.proofs.Tallies.{step, last_step, products_here, products_done, product_one}
+use Rattle.exact_reductions.proofs.Tallies.{one_done, all_done, products_here, products_done, product_one}
 use Rattle.exact_reductions.proofs.exact_sum.ExactSum.add_products.Goals as goal
 
 pub loop-i-preserved : goal.loop-i-preserved
@@ -9,23 +8,15 @@ loop-i-preserved g c =
     let f = format_of g.S.Flagged in
     let x = c.index-x-i.result in
     let y = c.index-y-i.result in
-    let i = c.loop-i.i in
-    let h : i < length c.args.x.now = omega (arith, c.loop-i-test.true) in
+    let h : c.loop-i.i < length c.args.x.now = omega (arith, c.loop-i-test.true) in
     let lengths = c.requires.lengths in
-    let k : i < length c.args.y.now = omega (arith, h, lengths) in
-    let added = c.add_product.ensures in
-    let more = ap (λ (t : Tally). t.terms) added in
-    let one = product_one f x y in
-    let terms = c.loop-i.invariant.terms in
-    record {
-      terms = omega (arith, more, one, terms);
-      total =
-          step _ _ _ _ _ _ c.loop-i.invariant.total
-          (products_here f c.args.x.now c.args.y.now i x y h k c.index-x-i.is c.index-y-i.is) added;
-    }
+    let k : c.loop-i.i < length c.args.y.now = omega (arith, h, lengths) in
+    one_done _ _ _ _ _ _ _ _ c.loop-i.invariant
+    (products_here f c.args.x.now c.args.y.now c.loop-i.i x y h k c.index-x-i.is c.index-y-i.is)
+    c.add_product.ensures (product_one f x y)
 
 pub returns : goal.returns
 returns g c =
-    let f = format_of g.S.Flagged in
     let l : length c.args.x.now ≤ c.loop-i.i = omega (arith, c.loop-i-test.false) in
-    last_step _ _ _ c.loop-i.invariant.total (products_done f c.args.x.now c.args.y.now c.loop-i.i l)
+    all_done _ _ _ _ _ c.loop-i.invariant
+    (products_done (format_of g.S.Flagged) c.args.x.now c.args.y.now c.loop-i.i l)

@@ -1,26 +1,17 @@
-use Rattle.std.proofs.Common.{◌<◌, ◌≤◌, length, ap, arith}
+use Rattle.std.proofs.Common.{◌<◌, ◌≤◌, length, arith}
 use Rattle.apfloat_ieee.specs.FlaggedTypes.{format_of}
-use Rattle.exact_reductions.specs.Reductions.{Tally}
-use Rattle.exact_reductions.proofs.Tallies.{step, last_step, values_here, values_done, value_one}
+use Rattle.exact_reductions.proofs.Tallies.{one_done, all_done, values_here, values_done, value_one}
 use Rattle.exact_reductions.proofs.exact_sum.ExactSum.add_values.Goals as goal
 
 pub loop-i-preserved : goal.loop-i-preserved
 loop-i-preserved g c =
     let f = format_of g.S.Flagged in
-    let x = c.index-x-i.result in
-    let i = c.loop-i.i in
-    let h : i < length c.args.x.now = omega (arith, c.loop-i-test.true) in
-    let added = c.add.ensures in
-    let more = ap (λ (t : Tally). t.terms) added in
-    let one = value_one f x in
-    let terms = c.loop-i.invariant.terms in
-    record {
-      terms = omega (arith, more, one, terms);
-      total = step _ _ _ _ _ _ c.loop-i.invariant.total (values_here f c.args.x.now i x h c.index-x-i.is) added;
-    }
+    let h : c.loop-i.i < length c.args.x.now = omega (arith, c.loop-i-test.true) in
+    one_done _ _ _ _ _ _ _ _ c.loop-i.invariant
+    (values_here f c.args.x.now c.loop-i.i c.index-x-i.result h c.index-x-i.is) c.add.ensures
+    (value_one f c.index-x-i.result)
 
 pub returns : goal.returns
 returns g c =
-    let f = format_of g.S.Flagged in
     let l : length c.args.x.now ≤ c.loop-i.i = omega (arith, c.loop-i-test.false) in
-    last_step _ _ _ c.loop-i.invariant.total (values_done f c.args.x.now c.loop-i.i l)
+    all_done _ _ _ _ _ c.loop-i.invariant (values_done (format_of g.S.Flagged) c.args.x.now c.loop-i.i l)

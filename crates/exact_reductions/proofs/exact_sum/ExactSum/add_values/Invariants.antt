@@ -1,11 +1,10 @@
-use Rattle.std.proofs.Common.{◌≡◌, ◌+◌, drop}
+use Rattle.std.proofs.Common.{drop}
 use Rattle.apfloat_ieee.specs.FlaggedTypes.{format_of}
-use Rattle.exact_reductions.specs.Reductions.{joined, tally, value_terms}
+use Rattle.exact_reductions.specs.Reductions.{tally, value_terms}
+use Rattle.exact_reductions.proofs.Tallies.{IsUnderWay}
 use Rattle.exact_reductions.proofs.exact_sum.ExactSum.add_values.Given as goal
 
 abbrev pub invariant-loop-i : goal.invariant-loop-i
-invariant-loop-i g l = record {
-  terms : l.self.terms ≡ l.fn.self.terms + l.i;
-  total : joined l.self (tally (value_terms (format_of g.S.Flagged) (drop l.i l.x)))
-      ≡ joined l.fn.self (tally (value_terms (format_of g.S.Flagged) l.x));
-}
+invariant-loop-i g l =
+    IsUnderWay l.fn.self l.self (tally (value_terms (format_of g.S.Flagged) l.x))
+    (tally (value_terms (format_of g.S.Flagged) (drop l.i l.x))) l.i
