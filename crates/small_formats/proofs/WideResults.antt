@@ -79,7 +79,8 @@ largest_far c f times w =
     let digits = w.digits in
     let more = w.exponents in
     let a : 2 ^ p * 2 ^ f.span ≤ largest f =
-    mul-le-mul_right (2 ^ f.span) (greatest_full f.nonfinite f.precision (omega (arith, digits, w.law.precision_low))) in
+    mul-le-mul_right (2 ^ f.span)
+    (greatest_full f.nonfinite f.precision (omega (arith, digits, w.law.precision_low))) in
     let b : 2 ^ p * 2 ^ f.span * 2 ^ g.scale ≤ largest f * 2 ^ g.scale = mul-le-mul_right (2 ^ g.scale) a in
     let d : 2 ^ (c.precision + g.span + f.scale) ≤ 2 ^ (p + f.span + g.scale) =
     pow-le-pow_right two_pos (omega (arith, digits, more)) in
@@ -186,11 +187,13 @@ zero_total own (pos (suc n)) h = absurd (omega (arith, h))
 zero_total own (negsuc n) h = absurd (omega (arith, h))
 
 -- the negation of a number
-opposite_is : (kind : NonfiniteBehavior) (b : Bool) (n : ℕ) → kind ≡ IEEE754 → negated kind (finite b n) ≡ finite (not b) n
+opposite_is : (kind : NonfiniteBehavior) (b : Bool) (n : ℕ) → kind ≡ IEEE754
+    → negated kind (finite b n) ≡ finite (not b) n
 opposite_is kind b n e =
     ap (λ (k : NonfiniteBehavior). negated k (finite b n)) e ∙ either (eqb n 0) (eqb-true n 0)
   where
-    either : (none : Bool) → (none ≡ true → n ≡ 0) → cond none (finite (not b) 0) (finite (not b) n) ≡ finite (not b) n
+    either : (none : Bool) → (none ≡ true → n ≡ 0)
+        → cond none (finite (not b) 0) (finite (not b) n) ≡ finite (not b) n
     either true z = ap (λ (k : ℕ). finite (not b) k) (sym (z refl))
     either false z = refl
 
