@@ -74,8 +74,7 @@ pub record IsWider (c : StorageConstants) (f : Format) (times : ℕ) : Type 0 wh
 largest_far : (c : StorageConstants) (f : Format) (times : ℕ) → IsWider c f times
     → 2 ^ (c.precision + (format_with c).span) * 2 ^ f.scale ≤ largest f * 2 ^ (format_with c).scale
 largest_far c f times w =
-    let g : Format = format_with c in
-    let p : ℕ = f.precision - 1 in
+    let g : Format = format_with c in let p : ℕ = f.precision - 1 in
     let digits = w.digits in let more = w.exponents in
     let a : 2 ^ p * 2 ^ f.span ≤ largest f =
     mul-le-mul_right (2 ^ f.span)
@@ -112,12 +111,9 @@ pub widened_is : (c : StorageConstants) (f : Format) → IsWider c f (2 ^ (f.sca
     → (code : ℕ) (value : Datum) (status : ℕ) (loses : Bool)
     → IsExactlyConverted (format_with c) f (datum_of c code) value status loses → value ≡ widened f c code
 widened_is c f w code value status loses x =
-    let g : Format = format_with c in
-    let low = w.law.precision_low in let digits = w.digits in
-    let i : ℕ = magnitude_of c code in
-    let m : ℕ = point c.precision i in
-    let k : ℕ = 2 ^ (f.scale - g.scale) in
-    let top : ℕ = 2 ^ (c.precision + g.span) in
+    let g : Format = format_with c in let low = w.law.precision_low in let digits = w.digits in
+    let i : ℕ = magnitude_of c code in let m : ℕ = point c.precision i in
+    let k : ℕ = 2 ^ (f.scale - g.scale) in let top : ℕ = 2 ^ (c.precision + g.span) in
     let below = mod_below code (2 ^ (c.bits - 1)) (pow_pos (c.bits - 1)) in
     let most : m ≤ largest g =
     subst (λ (n : ℕ). m ≤ n) (largest_point c w.law)
@@ -222,10 +218,8 @@ module _ (c : StorageConstants) (f : Format) (times : ℕ) (w : IsWider c f time
       → IsStored c mode (rounded negative x y) code status
   rounded_once negative amount parts x y positive some apart e d =
       let low = w.law.precision_low in let digits = w.digits in let quantum = w.quantum in
-      let g : Format = format_with c in
-      let gs : ℕ = 2 ^ (format_with c).scale in
-      let fs : ℕ = 2 ^ f.scale in
-      let q : 0 < fs = pow_pos f.scale in
+      let g : Format = format_with c in let gs : ℕ = 2 ^ (format_with c).scale in
+      let fs : ℕ = 2 ^ f.scale in let q : 0 < fs = pow_pos f.scale in
       let pieces : 0 < parts * fs = mul-pos some q in
       let sign = truncated_sign f negative amount parts truncated.value (bits_of truncated.status) w.kind d in
       let odd : IsToOdd f negative amount parts t.odd.value (bits_of t.odd.status) =
@@ -311,10 +305,8 @@ module _ (c : StorageConstants) (f : Format) (times : ℕ) (w : IsWider c f time
       truncated
       → IsStored c mode (totalled b d (signed b m +ℤ signed d n) y) code status
   total b d m n k parts y p some apart e z h =
-      let whole : ℤ = signed b m +ℤ signed d n in
-      let toward : Bool = zero_sum_sign TowardZero b d in
-      let own : Bool = zero_sum_sign mode b d in
-      let size = magnitude-times whole k in
+      let whole : ℤ = signed b m +ℤ signed d n in let toward : Bool = zero_sum_sign TowardZero b d in
+      let own : Bool = zero_sum_sign mode b d in let size = magnitude-times whole k in
       let scaled : (signed b (m * k) +ℤ signed d (n * k)) ≡ (whole *ℤ pos k) =
       ap (λ (i : ℤ). i +ℤ signed d (n * k)) (signed_times b m k)
       ∙ ap (λ (i : ℤ). (signed b m *ℤ pos k) +ℤ i) (signed_times d n k)
@@ -358,10 +350,8 @@ module _ (c : StorageConstants) (f : Format) (times : ℕ) (w : IsWider c f time
       → Gives (IsFusedSum f TowardZero (finite a (l * times)) (finite b (m * times)) (finite d (n * times))) truncated
       → IsStored c mode (fused_sum (format_with c) (finite a l) (finite b m) (finite d n)) code status
   fused a b d l m n z h =
-      let s : Bool = product_sign a b in
-      let gs : ℕ = 2 ^ (format_with c).scale in
-      let fs : ℕ = 2 ^ f.scale in
-      let k : ℕ = times * times in
+      let s : Bool = product_sign a b in let gs : ℕ = 2 ^ (format_with c).scale in
+      let fs : ℕ = 2 ^ f.scale in let k : ℕ = times * times in
       let toward : Bool = zero_sum_sign TowardZero s d in
       let left : l * times * (m * times) ≡ l * m * k = omega arith in
       let right : n * times * fs ≡ n * gs * k = ap (λ (i : ℕ). n * times * i) w.scale ∙ omega arith in
@@ -447,8 +437,7 @@ module _ (c : StorageConstants) (f : Format) (times : ℕ) (w : IsWider c f time
   root b n z h =
       ⊎_elim
       (λ (e : n ≡ 0).
-      let y = rw (none n e) at h in
-      let flag = ap (λ (k : ℕ). has_flag k inexact_bit) y.status_is in
+      let y = rw (none n e) at h in let flag = ap (λ (k : ℕ). has_flag k inexact_bit) y.status_is in
       rw (eq-eqb n 0 e)
       (zero_stored b z (ap (λ (v : Datum). is_zero_category (category_of v))
       (MatchBool-at_false _ _ flag t.is_odd.value_is ∙ y.value_is))))
