@@ -43,6 +43,7 @@ use Rattle.apfloat_model.proofs.rounding.Deliveries.{signed_some}
 use Rattle.apfloat_model.proofs.rounding.FarMagnitudes.{far_above, largest_below, largest_on_grid}
 use Rattle.apfloat_model.proofs.rounding.Laws.{below_le_above, delivered_once, zero_delivered, zero_on_grid}
 use Rattle.apfloat_model.proofs.whole_numbers.SignedNumbers.{largest_some}
+use Rattle.apfloat_pair_theory.proofs.numbers.Roundings.{negated_is}
 use Rattle.apfloat_pair_theory.proofs.numbers.SignedProducts.{magnitude-times, sign_times, signed_times, sum_times}
 use Rattle.round_to_odd.specs.Odd.{IsAnswerMadeOdd, IsToOdd, has_flag, is_odd_below, odd_between}
 use Rattle.round_to_odd.proofs.MadeOdd.{odd_of_truncated}
@@ -50,8 +51,7 @@ use Rattle.round_to_odd.proofs.OddPoints.{AgreesAtEven, moved_on_grid, odd_agree
 use Rattle.round_to_odd.proofs.RootFractions.{fraction_delivered, moved_agrees, root_some}
 use Rattle.round_to_odd.proofs.SameDeliveries.{same_delivered}
 use Rattle.round_to_odd.proofs.Sides.{same_sides}
-use Rattle.small_formats.specs.Arithmetic.{IsProjection, IsStored, IsStoredOnce, stored_datum, wide_format, wide_quanta}
-use Rattle.small_formats.specs.Arithmetic.{widened}
+use Rattle.small_formats.specs.Arithmetic.{IsProjection, IsStored, IsStoredOnce, stored_datum, wide_format, widened}
 use Rattle.small_formats.specs.Codes.{datum_of, is_negative_code, largest_index, magnitude_of, point}
 use Rattle.small_formats.specs.Conversions.{IsInto, IsSaturated, IsStoredNumber}
 use Rattle.small_formats.specs.Storage.{StorageConstants, IsLawfulStorage, format_with}
@@ -74,10 +74,8 @@ pub record IsWider (c : StorageConstants) (f : Format) (times : ℕ) : Type 0 wh
 largest_far : (c : StorageConstants) (f : Format) (times : ℕ) → IsWider c f times
     → 2 ^ (c.precision + (format_with c).span) * 2 ^ f.scale ≤ largest f * 2 ^ (format_with c).scale
 largest_far c f times w =
-    let g : Format = format_with c in
-    let p : ℕ = f.precision - 1 in
-    let digits = w.digits in
-    let more = w.exponents in
+    let g : Format = format_with c in let p : ℕ = f.precision - 1 in
+    let digits = w.digits in let more = w.exponents in
     let a : 2 ^ p * 2 ^ f.span ≤ largest f =
     mul-le-mul_right (2 ^ f.span)
     (greatest_full f.nonfinite f.precision (omega (arith, digits, w.law.precision_low))) in
@@ -88,7 +86,8 @@ largest_far c f times w =
     let v = pow-add 2 (p + f.span) g.scale ∙ ap (λ (n : ℕ). n * 2 ^ g.scale) (pow-add 2 p f.span) in
     omega (arith, b, d, u, v)
 
-pub wide : (c : StorageConstants) → IsLawfulStorage c → IsWider c wide_format (wide_quanta wide_format c)
+pub wide : (c : StorageConstants) → IsLawfulStorage c
+    → IsWider c wide_format (2 ^ (wide_format.scale - (format_with c).scale))
 wide c law =
     let few : c.bits - c.precision ≤ 6 = omega (arith, law.precision_low, law.bits_high) in
     let power : 2 ^ (c.bits - c.precision) ≤ 2 ^ 6 = pow-le-pow_right two_pos few in
@@ -108,23 +107,18 @@ wide c law =
     }
 
 -- a number that is converted exactly
-pub widened_is : (c : StorageConstants) (f : Format) → IsWider c f (wide_quanta f c) → (code : ℕ) (value : Datum)
-    (status : ℕ) (loses : Bool) → IsExactlyConverted (format_with c) f (datum_of c code) value status loses
-    → value ≡ widened f c code
+pub widened_is : (c : StorageConstants) (f : Format) → IsWider c f (2 ^ (f.scale - (format_with c).scale))
+    → (code : ℕ) (value : Datum) (status : ℕ) (loses : Bool)
+    → IsExactlyConverted (format_with c) f (datum_of c code) value status loses → value ≡ widened f c code
 widened_is c f w code value status loses x =
-    let g : Format = format_with c in
-    let low = w.law.precision_low in
-    let digits = w.digits in
-    let i : ℕ = magnitude_of c code in
-    let m : ℕ = point c.precision i in
-    let k : ℕ = wide_quanta f c in
-    let top : ℕ = 2 ^ (c.precision + g.span) in
+    let g : Format = format_with c in let low = w.law.precision_low in let digits = w.digits in
+    let i : ℕ = magnitude_of c code in let m : ℕ = point c.precision i in
+    let k : ℕ = 2 ^ (f.scale - g.scale) in let top : ℕ = 2 ^ (c.precision + g.span) in
     let below = mod_below code (2 ^ (c.bits - 1)) (pow_pos (c.bits - 1)) in
     let most : m ≤ largest g =
     subst (λ (n : ℕ). m ≤ n) (largest_point c w.law)
     (not_greater c.precision i (largest_index c) (omega (arith, low)) (omega (arith, below))) in
-    let under = largest_below g in
-    let far = largest_far c f k w in
+    let under = largest_below g in let far = largest_far c f k w in
     let a : m * (k * 2 ^ g.scale) ≤ top * (k * 2 ^ g.scale) =
     mul-le-mul_right (k * 2 ^ g.scale) (omega (arith, most, under)) in
     let e = ap (λ (n : ℕ). top * n) w.scale in
@@ -175,36 +169,16 @@ settled f n negative true false none e = refl
 settled f n negative false leads true e = ap (λ (k : ℕ). finite negative k) (e refl)
 settled f n negative false leads false e = refl
 
--- the sign of an integer, where it is zero and where it is not
-own_sign : (own other : Bool) (z : ℤ) → 0 < magnitude z → sign_of own z ≡ sign_of other z
-own_sign own other (pos zero) h = absurd (omega (arith, h))
-own_sign own other (pos (suc n)) h = refl
-own_sign own other (negsuc n) h = refl
-
-zero_total : (own : Bool) (z : ℤ) → magnitude z ≡ 0 → own ≡ sign_of own z
-zero_total own (pos zero) h = refl
-zero_total own (pos (suc n)) h = absurd (omega (arith, h))
-zero_total own (negsuc n) h = absurd (omega (arith, h))
-
--- the negation of a number
-opposite_is : (kind : NonfiniteBehavior) (b : Bool) (n : ℕ) → kind ≡ IEEE754
-    → negated kind (finite b n) ≡ finite (not b) n
-opposite_is kind b n e =
-    ap (λ (k : NonfiniteBehavior). negated k (finite b n)) e ∙ either (eqb n 0) (eqb-true n 0)
-  where
-    either : (none : Bool) → (none ≡ true → n ≡ 0)
-        → cond none (finite (not b) 0) (finite (not b) n) ≡ finite (not b) n
-    either true z = ap (λ (k : ℕ). finite (not b) k) (sym (z refl))
-    either false z = refl
+-- the sign of an integer, where it is not zero and where it is
+sign_for : (own other : Bool) (z : ℤ)
+    → (0 < magnitude z → sign_of other z ≡ sign_of own z) × (magnitude z ≡ 0 → own ≡ sign_of own z)
+sign_for own other (pos zero) = (λ h. absurd (omega (arith, h)), λ h. refl)
+sign_for own other (pos (suc n)) = (λ h. refl, λ h. absurd (omega (arith, h)))
+sign_for own other (negsuc n) = (λ h. refl, λ h. absurd (omega (arith, h)))
 
 -- of a result toward zero in f, which is projected
 module _ (c : StorageConstants) (f : Format) (times : ℕ) (w : IsWider c f times) (mode : Round) (of_zero : Bool)
     (truncated : StatusAnd Datum) (code status : ℕ) (t : IsProjection f c mode of_zero truncated code status) where
-  -- what is not inexact stays as it is
-  exact : (given : Datum) → has_flag (bits_of truncated.status) inexact_bit ≡ false → truncated.value ≡ given
-      → t.odd.value ≡ given
-  exact given none v = MatchBool-at_false _ _ none t.is_odd.value_is ∙ v
-
   -- what is not a zero becomes a code with these flags
   into : (x : Datum) → is_zero_category (category_of x) ≡ false → t.odd.value ≡ x
       → IsInto c f mode x code t.flags t.loses
@@ -222,8 +196,7 @@ module _ (c : StorageConstants) (f : Format) (times : ℕ) (w : IsWider c f time
       → IsDelivered (format_with c) mode negative x y value status)
       → IsStored c mode (rounded negative x y) code status
   stored negative n x y p e same =
-      let some = not_zero n p in
-      let z = into (finite negative n) (rw some refl) e in
+      let some = not_zero n p in let z = into (finite negative n) (rw some refl) e in
       let y' : IsStoredNumber c f mode negative n code t.flags t.loses = MatchBool-at_false _ _ some z.0 in
       let told : status ≡ t.flags = z.1 ∙ rw some refl in
       let s : IsSaturated c mode negative (n * 2 ^ (format_with c).scale) (2 ^ f.scale) code status =
@@ -244,13 +217,9 @@ module _ (c : StorageConstants) (f : Format) (times : ℕ) (w : IsWider c f time
       → Gives (IsDelivered f TowardZero negative amount parts) truncated
       → IsStored c mode (rounded negative x y) code status
   rounded_once negative amount parts x y positive some apart e d =
-      let low = w.law.precision_low in
-      let digits = w.digits in
-      let quantum = w.quantum in
-      let g : Format = format_with c in
-      let gs : ℕ = 2 ^ (format_with c).scale in
-      let fs : ℕ = 2 ^ f.scale in
-      let q : 0 < fs = pow_pos f.scale in
+      let low = w.law.precision_low in let digits = w.digits in let quantum = w.quantum in
+      let g : Format = format_with c in let gs : ℕ = 2 ^ (format_with c).scale in
+      let fs : ℕ = 2 ^ f.scale in let q : 0 < fs = pow_pos f.scale in
       let pieces : 0 < parts * fs = mul-pos some q in
       let sign = truncated_sign f negative amount parts truncated.value (bits_of truncated.status) w.kind d in
       let odd : IsToOdd f negative amount parts t.odd.value (bits_of t.odd.status) =
@@ -321,7 +290,7 @@ module _ (c : StorageConstants) (f : Format) (times : ℕ) (w : IsWider c f time
       let nothing : x ≡ 0 = eq_of_mul-eq-mul_right (parts * 2 ^ f.scale) pieces x 0 k in
       let flag = ap (λ (n : ℕ). has_flag n inexact_bit) of_none.1 in
       let r = zero_stored sign (as_zero none) (ap (λ (v : Datum). is_zero_category (category_of v))
-      (exact (finite (zero_sign f.nonfinite negative) 0) flag of_none.0)) in
+      (MatchBool-at_false _ _ flag t.is_odd.value_is ∙ of_none.0)) in
       record {
         value = finite sign 0;
         yields = subst (IsDelivered (format_with c) mode sign x y (finite sign 0)) (sym r.yields.status_is)
@@ -336,10 +305,8 @@ module _ (c : StorageConstants) (f : Format) (times : ℕ) (w : IsWider c f time
       truncated
       → IsStored c mode (totalled b d (signed b m +ℤ signed d n) y) code status
   total b d m n k parts y p some apart e z h =
-      let whole : ℤ = signed b m +ℤ signed d n in
-      let toward : Bool = zero_sum_sign TowardZero b d in
-      let own : Bool = zero_sum_sign mode b d in
-      let size = magnitude-times whole k in
+      let whole : ℤ = signed b m +ℤ signed d n in let toward : Bool = zero_sum_sign TowardZero b d in
+      let own : Bool = zero_sum_sign mode b d in let size = magnitude-times whole k in
       let scaled : (signed b (m * k) +ℤ signed d (n * k)) ≡ (whole *ℤ pos k) =
       ap (λ (i : ℤ). i +ℤ signed d (n * k)) (signed_times b m k)
       ∙ ap (λ (i : ℤ). (signed b m *ℤ pos k) +ℤ i) (signed_times d n k)
@@ -349,8 +316,8 @@ module _ (c : StorageConstants) (f : Format) (times : ℕ) (w : IsWider c f time
       let r = number (sign_of toward (whole *ℤ pos k)) (sign_of own whole) (magnitude (whole *ℤ pos k)) parts
       (magnitude whole) y some apart (same ∙ sym (ap (λ (i : ℕ). i * 2 ^ (format_with c).scale * y) size))
       (λ a. sign_times toward whole k p
-      ∙ own_sign toward own whole (lt_of_mul-lt-mul_right k (omega (arith, a, size))))
-      (λ a. z ∙ zero_total own whole (eq_of_mul-eq-mul_right k p (magnitude whole) 0 (omega (arith, a, size))))
+      ∙ (sign_for own toward whole).0 (lt_of_mul-lt-mul_right k (omega (arith, a, size))))
+      (λ a. z ∙ (sign_for own own whole).1 (eq_of_mul-eq-mul_right k p (magnitude whole) 0 (omega (arith, a, size))))
       (subst (λ (i : ℤ). Gives (IsRounded f TowardZero toward i parts) truncated) scaled h) in
       record { value = r.value; yields = r.yields; value_is = r.value_is }
 
@@ -365,10 +332,10 @@ module _ (c : StorageConstants) (f : Format) (times : ℕ) (w : IsWider c f time
       → IsStored c mode (difference_of (format_with c) (finite b m) (finite d n)) code status
   difference b d m n z h =
       subst (λ (y : Datum). IsStored c mode (sum_of (format_with c) (finite b m) y) code status)
-      (sym (opposite_is IEEE754 d n refl))
+      (sym (negated_is d n))
       (sum b (not d) m n z
       (subst (λ (y : Datum). Gives (IsSum f TowardZero (finite b (m * times)) y) truncated)
-      (opposite_is f.nonfinite d (n * times) w.kind) h))
+      (ap (λ (k : NonfiniteBehavior). negated k (finite d (n * times))) w.kind ∙ negated_is d (n * times)) h))
 
   pub product : (b d : Bool) (m n : ℕ) → of_zero ≡ product_sign b d
       → Gives (IsProduct f TowardZero (finite b (m * times)) (finite d (n * times))) truncated
@@ -383,10 +350,8 @@ module _ (c : StorageConstants) (f : Format) (times : ℕ) (w : IsWider c f time
       → Gives (IsFusedSum f TowardZero (finite a (l * times)) (finite b (m * times)) (finite d (n * times))) truncated
       → IsStored c mode (fused_sum (format_with c) (finite a l) (finite b m) (finite d n)) code status
   fused a b d l m n z h =
-      let s : Bool = product_sign a b in
-      let gs : ℕ = 2 ^ (format_with c).scale in
-      let fs : ℕ = 2 ^ f.scale in
-      let k : ℕ = times * times in
+      let s : Bool = product_sign a b in let gs : ℕ = 2 ^ (format_with c).scale in
+      let fs : ℕ = 2 ^ f.scale in let k : ℕ = times * times in
       let toward : Bool = zero_sum_sign TowardZero s d in
       let left : l * times * (m * times) ≡ l * m * k = omega arith in
       let right : n * times * fs ≡ n * gs * k = ap (λ (i : ℕ). n * times * i) w.scale ∙ omega arith in
@@ -401,7 +366,8 @@ module _ (c : StorageConstants) (f : Format) (times : ℕ) (w : IsWider c f time
   not_a_number : truncated.value ≡ qnan f 0 → bits_of truncated.status ≡ 1
       → IsStored c mode (invalid (format_with c)) code status
   not_a_number v s =
-      let z = into (qnan f 0) refl (exact (qnan f 0) (ap (λ (n : ℕ). has_flag n inexact_bit) s) v) in
+      let flag = ap (λ (n : ℕ). has_flag n inexact_bit) s in
+      let z = into (qnan f 0) refl (MatchBool-at_false _ _ flag t.is_odd.value_is ∙ v) in
       record {
         value = qnan (format_with c) 0;
         yields = record { value_is = refl; status_is = z.1 ∙ t.is_odd.status_is ∙ s };
@@ -428,7 +394,8 @@ module _ (c : StorageConstants) (f : Format) (times : ℕ) (w : IsWider c f time
       (λ (p : m ≡ 0 → ⊥).
       let y = rw (none n e, not_zero (m * times) (more m p)) at h in
       let v = y.value_is ∙ ap (λ (k : NonfiniteBehavior). past_largest k (nan_base f) s) w.kind in
-      let r = into (infinite s) refl (exact (infinite s) (ap (λ (n : ℕ). has_flag n inexact_bit) y.status_is) v) in
+      let flag = ap (λ (n : ℕ). has_flag n inexact_bit) y.status_is in
+      let r = into (infinite s) refl (MatchBool-at_false _ _ flag t.is_odd.value_is ∙ v) in
       rw (eq-eqb n 0 e, ne_eqb m 0 p)
       (record {
         value = infinite s;
@@ -448,8 +415,7 @@ module _ (c : StorageConstants) (f : Format) (times : ℕ) (w : IsWider c f time
       → Gives (IsDeliveredRoot f TowardZero (square * (times * times)) 1) truncated
       → IsStored c mode (rooted square 1) code status
   root_once square positive root =
-      let digits = w.digits in
-      let r = agreeing square (4 * times) (mul-pos (lit< tt) w.some) in
+      let digits = w.digits in let r = agreeing square (4 * times) (mul-pos (lit< tt) w.some) in
       let own : AgreesWithRoot square 4 r.amount r.parts = coarser square 4 times r.amount r.parts w.some r.agrees in
       let some : 0 < r.parts * 1 = let k = own.some in omega (arith, k) in
       let d = fraction_delivered f TowardZero (square * (times * times)) 1 (r.amount * times) r.parts truncated.value
@@ -471,10 +437,10 @@ module _ (c : StorageConstants) (f : Format) (times : ℕ) (w : IsWider c f time
   root b n z h =
       ⊎_elim
       (λ (e : n ≡ 0).
-      let y = rw (none n e) at h in
+      let y = rw (none n e) at h in let flag = ap (λ (k : ℕ). has_flag k inexact_bit) y.status_is in
       rw (eq-eqb n 0 e)
       (zero_stored b z (ap (λ (v : Datum). is_zero_category (category_of v))
-      (exact (finite b 0) (ap (λ (k : ℕ). has_flag k inexact_bit) y.status_is) y.value_is))))
+      (MatchBool-at_false _ _ flag t.is_odd.value_is ∙ y.value_is))))
       (λ (p : n ≡ 0 → ⊥).
       let y = rw (not_zero (n * times) (more n p)) at h in
       rw (ne_eqb n 0 p) (nonzero b (omega (arith, p)) y))

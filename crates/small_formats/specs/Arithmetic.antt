@@ -52,12 +52,11 @@ wide_format =
       ieee_flags = false;
     }
 
--- how many quanta of f a quantum is
-abbrev pub wide_quanta : Format → StorageConstants → ℕ
-wide_quanta f c = 2 ^ (f.scale - (format_with c).scale)
-
+-- the number that the code means, in f
 abbrev pub widened : Format → StorageConstants → ℕ → Datum
-widened f c code = finite (is_negative_code c code) (point c.precision (magnitude_of c code) * wide_quanta f c)
+widened f c code =
+    finite (is_negative_code c code)
+    (point c.precision (magnitude_of c code) * 2 ^ (f.scale - (format_with c).scale))
 
 -- A result toward zero in f, made odd there, becomes this code as any value of f does, with its own flags if it is no
 -- number; `of_zero` is the sign of a zero.

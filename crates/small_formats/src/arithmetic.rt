@@ -172,8 +172,7 @@ impl<F: StorageFormat> StoredFloat<F> {
         )
     }
 
-    /// `self * multiplicand + addend`, rounded once (fusedMultiplyAdd), with the flags of that rounding. The sign of an
-    /// exact zero is that of a sum.
+    /// `self * multiplicand + addend`, rounded once (fusedMultiplyAdd); an exact zero has the sign of a sum.
     pub fn mul_add_r(self, multiplicand: Self, addend: Self, round: Round) -> StatusAnd<Self>
         ensures { let c = constants_of F.StorageFormat in Gives (IsStored c round
             (fused_sum (format_with c) (datum_of c self) (datum_of c multiplicand)
