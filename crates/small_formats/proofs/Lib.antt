@@ -22,3 +22,4 @@ pub mod stochastic_lemmas
 pub mod packing_lemmas
 pub mod blocks_lemmas
 pub mod saturation_lemmas
+mod WideResults

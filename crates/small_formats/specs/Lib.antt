@@ -23,3 +23,4 @@ pub mod stochastic
 pub mod packing
 pub mod blocks
 pub mod saturation
+pub mod Arithmetic

@@ -1,10 +1,11 @@
-//! Storage formats: values that are only stored and converted. Arithmetic on them is that of another format, into which
-//! they are converted exactly.
+//! Storage formats: values of few bits that are stored and converted.
 //!
 //! `StoredFloat<F>` is a value in at most 8 bits, all of whose codes are numbers, such as the 4- and 6-bit elements of
 //! the Open Compute Project's microscaling formats (`named`): `E2M1FN`, `E2M3FN`, `E3M2FN`. `E8M0FNU` is a scale that
 //! is a power of two (`scales`), and `UE4M3` one with a significand (`unsigned`). `Float8E3M4` has infinities and NaNs
 //! too (`float8_e3m4`).
+//!
+//! `arithmetic` has their operations: each is computed in a wider format, rounded to odd there, and rounded once.
 //!
 //! `from_value_by` has two more modes, to odd and with random digits (`modes`); `from_quotient` rounds the quotient of
 //! two values (`quotients`).
@@ -18,6 +19,7 @@
 //! `packing` packs codes of 4 and 6 bits into bytes, and `blocks` has blocks of elements with a common scale.
 #![tactic(auto)]
 
+pub mod arithmetic;
 pub mod blocks;
 pub mod cuts;
 pub mod float8_e3m4;
@@ -56,6 +58,6 @@ pub use theorems::{
     codes_are_in_order, conversions_by_mode_have_one_answer, conversions_have_one_answer,
     e3m4_conversions_have_one_answer, exact_values_never_move, picks_are_those_of_the_model,
     random_numbers_are_counted, scales_by_mode_are_scales, scales_by_mode_have_one_answer,
-    scales_have_one_answer, unsigned_conversions_have_one_answer,
+    scales_have_one_answer, stored_results_have_one_answer, unsigned_conversions_have_one_answer,
 };
 pub use unsigned::UE4M3;

@@ -1,5 +1,6 @@
 //! Theorems about the definitions that the calls cite, as contracts of functions with empty bodies.
 
+ghost use Rattle.small_formats.specs.Arithmetic.{IsStoredOnce};
 ghost use Rattle.small_formats.specs.Laws.{AreCodesInOrder, IsIntoOnce, IsScaleOnce, IsUnsignedOnce};
 ghost use Rattle.small_formats.specs.Float8E3M4.{IsE3M4Once};
 ghost use Rattle.small_formats.specs.ModeLaws.{ArePicksOfModel, AreRandomNumbersCounted, IsIntoByOnce};
@@ -67,4 +68,9 @@ pub fn picks_are_those_of_the_model()
 /// A conversion by a mode of conversions has one answer.
 pub fn conversions_by_mode_have_one_answer()
     ensures { IsIntoByOnce }
+{}
+
+/// The result of an operation in a storage format has one answer, if the operation has one in the model.
+pub fn stored_results_have_one_answer()
+    ensures { IsStoredOnce }
 {}
