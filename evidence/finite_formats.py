@@ -1,4 +1,5 @@
-"""Computes tests/rows/waiting/e3m2fn.tsv: operations of a format without infinities and NaNs.
+"""Computes tests/rows/waiting/e3m2fn.tsv: operations of a format without infinities and NaNs. Those that have a call
+are compared with the rows of e3m2fn in tests/rows/stored_arithmetic.tsv.
 
     python3 evidence/finite_formats.py | diff - tests/rows/waiting/e3m2fn.tsv
 
@@ -11,6 +12,7 @@ whose result is settled: an infinity is the largest number of its sign, and a Na
 from bisect import bisect_right
 from fractions import Fraction
 from itertools import product
+from pathlib import Path
 
 from exact import arithmetic, integers, neighbours, remainders, roots
 from exact.bits import decoded
@@ -19,6 +21,8 @@ from exact.formats import Format
 from exact.rounding import Mode, overflows
 from exact.status import DIV_BY_ZERO, INEXACT, INVALID_OP, OK, OVERFLOW, UNDERFLOW
 from row_files import MODES, every, row
+
+ROWS = Path(__file__).parent.parent / "tests/rows"
 
 BITS = 6
 
@@ -222,17 +226,26 @@ def of_integer(integer, mode):
     return result
 
 
+def known(line):
+    """Asserts that a row is one of tests/rows/stored_arithmetic.tsv."""
+    assert line in (ROWS / "stored_arithmetic.tsv").read_text().splitlines(), line
+
+
 def lines():
     """The file."""
-    yield "# Operations where there are only numbers, in e3m2fn. No call has these rows yet. Computed by"
+    yield "# Operations where there are only numbers, in e3m2fn, of which no call has these rows yet. Computed by"
     yield "# evidence/finite_formats.py."
     for call, count, by_rule, operation in OPERATIONS:
         for mode in MODES[:1] if call in WITHOUT_MODE else MODES:
             steps = " ".join(["1"] * count)
             shown = None if call in WITHOUT_MODE else mode
-            yield every(call, "e3m2fn", shown, steps, results(count, by_rule, operation, mode))
+            line = every(call, "e3m2fn", shown, steps, results(count, by_rule, operation, mode))
+            if call in WITHOUT_MODE:
+                yield line
+            else:
+                known(line)
     for mode in MODES:
-        yield every("mul_add_r", "e3m2fn", mode, "7 3 1", fused_results(mode))
+        known(every("mul_add_r", "e3m2fn", mode, "7 3 1", fused_results(mode)))
     for mode in MODES:
         for integer in range(-70, 71):
             code, status = of_integer(integer, mode)

@@ -1,15 +1,27 @@
-//! Conversions from and to storage formats. Those that saturate or take random digits are the library's alone.
+//! Conversions from and to storage formats, and their operations. Conversions that saturate or take random digits are
+//! the library's alone.
 
 use crate::erased::formats_at_run_time::{InFlaggedFormat, InFormat};
 use crate::lines::{
-    Answered, Call, CallFault, ConversionCall, ExtraField, Formats, Operand, Request, RowAnswer, ValueField, mask,
+    Answered, Call, CallFault, ConversionCall, ExtraField, FormatCall, Formats, OneValueCall, Operand, Request,
+    RowAnswer, TwoValuesCall, ValueField, mask,
 };
 use rustc_apfloat::ieee::{IeeeFloat, Semantics};
-use rustc_apfloat::storage_formats::{E2M1FN, E2M3FN, E3M2FN, E8M0FNU, Float8E3M4, StoredFloat, UE4M3};
+use rustc_apfloat::storage_formats::{
+    E2M1FN, E2M3FN, E3M2FN, E8M0FNU, Float8E3M4, StorageFormat, StoredFloat, UE4M3,
+};
 use rustc_apfloat::{Float, Round, StatusAnd};
 
-/// What a conversion returns.
+/// What a conversion or an operation returns.
 pub(crate) fn answer(formats: Formats, request: Request) -> Answered {
+    if let Formats::Storage(format) = formats {
+        return match format.word {
+            "e2m1fn" => operated::<E2M1FN>(format.width, request),
+            "e2m3fn" => operated::<E2M3FN>(format.width, request),
+            "e3m2fn" => operated::<E3M2FN>(format.width, request),
+            _ => Err(CallFault::Support),
+        };
+    }
     let round = match request.call {
         Call::Conversion(ConversionCall::Convert) => Round::NearestTiesToEven,
         Call::Conversion(ConversionCall::ConvertR) => request.round,
@@ -32,6 +44,26 @@ pub(crate) fn answer(formats: Formats, request: Request) -> Answered {
         }
         _ => Err(CallFault::Support),
     }
+}
+
+/// What an operation on values of the format `F` returns.
+fn operated<F: StorageFormat>(width: usize, request: Request) -> Answered {
+    let Request { operands, round, .. } = request;
+    let value = |operand| match operand {
+        Operand::Bits(bits) if bits <= mask(width) => Ok(StoredFloat::<F>::from_bits(bits as u8)),
+        _ => Err(CallFault::Operand),
+    };
+    let x = value(operands.first)?;
+    let answer = match request.call {
+        Call::OfTwoValues(TwoValuesCall::AddR) => x.add_r(value(operands.second)?, round),
+        Call::OfTwoValues(TwoValuesCall::SubR) => x.sub_r(value(operands.second)?, round),
+        Call::OfTwoValues(TwoValuesCall::MulR) => x.mul_r(value(operands.second)?, round),
+        Call::OfTwoValues(TwoValuesCall::DivR) => x.div_r(value(operands.second)?, round),
+        Call::OfOneValue(OneValueCall::SqrtR) => x.sqrt_r(round),
+        Call::OfFormat(FormatCall::MulAddR) => x.mul_add_r(value(operands.second)?, value(operands.third)?, round),
+        _ => return Err(CallFault::Support),
+    };
+    Ok(RowAnswer::flagged(answer.map(|x| ValueField::Bits(x.to_bits().into(), width))))
 }
 
 /// Makes a conversion with the type of a storage format that the crate has.

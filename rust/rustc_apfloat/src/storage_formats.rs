@@ -149,6 +149,43 @@ impl<F: StorageFormat> StoredFloat<F> {
     pub fn compare(self, other: Self) -> Ordering {
         self.0.compare(other.0)
     }
+
+    /// The square root, rounded once, with the flags of that rounding. A zero is its own root, and the root of a number
+    /// below zero is +0, with `INVALID_OP`.
+    pub fn sqrt_r(self, round: Round) -> StatusAnd<Self> {
+        answered(self.0.sqrt_r(round)).map(StoredFloat)
+    }
+
+    /// `self * multiplicand + addend`, rounded once (fusedMultiplyAdd), with the flags of that rounding. The sign of an
+    /// exact zero is that of a sum.
+    pub fn mul_add_r(self, multiplicand: Self, addend: Self, round: Round) -> StatusAnd<Self> {
+        answered(self.0.mul_add_r(multiplicand.0, addend.0, round)).map(StoredFloat)
+    }
+}
+
+/// The operations on two numbers.
+macro_rules! operations {
+    ($($(#[$attribute:meta])* $name:ident;)*) => {
+        impl<F: StorageFormat> StoredFloat<F> {$(
+            $(#[$attribute])*
+            pub fn $name(self, rhs: Self, round: Round) -> StatusAnd<Self> {
+                answered(self.0.$name(rhs.0, round)).map(StoredFloat)
+            }
+        )*}
+    };
+}
+
+operations! {
+    /// `self + rhs`, rounded once, with the flags of that rounding. Past the largest number the result is that number,
+    /// as in `from_value`. The sum of opposite numbers is -0 only where the mode is toward negative (6.3).
+    add_r;
+    /// `self - rhs`, rounded once, as the sum of `self` and the number opposite to `rhs`.
+    sub_r;
+    /// `self * rhs`, rounded once, with the flags of that rounding.
+    mul_r;
+    /// `self / rhs`, rounded once, with the flags of that rounding. A number divided by zero is the largest number with
+    /// the sign of the quotient, with `DIV_BY_ZERO`, and zero divided by zero is +0, with `INVALID_OP`.
+    div_r;
 }
 
 /// A scale: 2^(code - 127), or the NaN with the code 255. There is no sign, no zero and no infinity.

@@ -24,6 +24,7 @@ mod pairs;
 mod projections;
 mod saturated;
 mod storage;
+mod stored;
 mod to_storage;
 
 use crate::lines::{Answered, Call, Formats, OperationCall, Request};
@@ -37,7 +38,7 @@ pub fn answer(formats: Formats, request: Request, text: &str) -> Answered {
         (Formats::Between(source, target), Call::Operation(OperationCall::Saturate(call))) => {
             saturated::answer(source, target, call, request)
         }
-        (Formats::Storage(format), _) => projections::on_values(format, request),
+        (Formats::Storage(format), _) => stored::on_values(format, request),
         (_, Call::Operation(call)) => operations::answer(formats, call, request),
         _ => formats::answer(formats, request, text),
     }

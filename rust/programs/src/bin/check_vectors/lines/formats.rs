@@ -63,7 +63,7 @@ impl Formats {
         match word.split_once('>') {
             None if word == "dd" => Some(Formats::Pairs),
             None => {
-                RowFormat::named(word).map(Formats::One).or_else(|| StorageName::projection(word).map(Formats::Storage))
+                RowFormat::named(word).map(Formats::One).or_else(|| StorageName::named(word).map(Formats::Storage))
             }
             Some(("dd", "fallback")) => Some(Formats::FromPairs),
             Some(("fallback", "dd")) => Some(Formats::ToPairs),

@@ -1,4 +1,4 @@
-//! The storage formats that rows can name: values in at most 8 bits that are only stored and converted.
+//! The storage formats that rows can name.
 
 /// A storage format.
 #[derive(Clone, Copy)]

@@ -1,0 +1,125 @@
+"""Computes tests/rows/stored_arithmetic.tsv: operations of the storage formats all of whose codes are numbers.
+
+    python3 evidence/stored_arithmetic.py | diff - tests/rows/stored_arithmetic.tsv
+
+An operation is one of the fractions that the codes mean, and its result is looked up between these numbers, as in
+evidence/storage_formats.py. A root is looked up by its square.
+"""
+
+from functools import lru_cache
+from itertools import product
+
+from exact.data import Finite
+from exact.rounding import Mode
+from exact.status import DIV_BY_ZERO, INEXACT, INVALID_OP, OK, UNDERFLOW
+from row_files import MODES, every
+from storage_formats import FORMATS
+
+ELEMENTS = FORMATS[:3]
+
+
+class Source:
+    """Quanta of a result: any, since a fraction is its own."""
+
+    scale = 0
+
+
+@lru_cache(maxsize=None)
+def stored(form, mode, negative, size):
+    """The code and the flags of a magnitude with that sign; all that are far past the largest number are one."""
+    size = min(size, 2 * form.points[form.count - 1])
+    return form.store(Source, Finite(negative, size), mode)[:2]
+
+
+@lru_cache(maxsize=None)
+def number(form, code):
+    """A code as a sign and a number."""
+    negative, size = form.value(code)
+    return negative, -size if negative else size
+
+
+def signed_result(form, mode, exact, zero):
+    """The result for a number; `zero` is the sign of an exact zero."""
+    return stored(form, mode, zero if exact == 0 else exact < 0, abs(exact))
+
+
+def zero_sign(mode, left, right):
+    """The sign of an exact zero as a sum of numbers of these signs."""
+    return left if left == right else mode is Mode.DOWN
+
+
+def add(form, mode, a, b):
+    """a + b."""
+    (s, x), (t, y) = number(form, a), number(form, b)
+    return signed_result(form, mode, x + y, zero_sign(mode, s, t))
+
+
+def subtract(form, mode, a, b):
+    """a - b."""
+    (s, x), (t, y) = number(form, a), number(form, b)
+    return signed_result(form, mode, x - y, zero_sign(mode, s, not t))
+
+
+def multiply(form, mode, a, b):
+    """a * b."""
+    (s, x), (t, y) = number(form, a), number(form, b)
+    return signed_result(form, mode, x * y, s != t)
+
+
+def divide(form, mode, a, b):
+    """a / b."""
+    (s, x), (t, y) = number(form, a), number(form, b)
+    if y == 0:
+        largest = form.count - 1 + (form.count if s != t else 0)
+        return (0, INVALID_OP) if x == 0 else (largest, DIV_BY_ZERO)
+    return signed_result(form, mode, x / y, s != t)
+
+
+def square_root(form, mode, a):
+    """The root of a."""
+    negative, x = number(form, a)
+    if x == 0:
+        return a, OK
+    if negative:
+        return 0, INVALID_OP
+    below = max(i for i in range(form.count) if form.points[i] ** 2 <= x)
+    low, high = form.points[below], form.points[below + 1]
+    if low**2 == x:
+        return below, OK
+    middle = (low + high) ** 2
+    nearest = 4 * x > middle or (4 * x == middle and below % 2 == 1)
+    away = 4 * x >= middle
+    below += {Mode.UP: True, Mode.DOWN: False, Mode.ZERO: False, Mode.EVEN: nearest, Mode.AWAY: away}[mode]
+    assert below < form.count
+    return below, UNDERFLOW | INEXACT if below < 1 << form.precision - 1 else INEXACT
+
+
+def multiply_add(form, mode, a, b, c):
+    """a * b + c."""
+    (s, x), (t, y), (u, z) = number(form, a), number(form, b), number(form, c)
+    return signed_result(form, mode, x * y + z, zero_sign(mode, s != t, u))
+
+
+OPERATIONS = (
+    ("add_r", add, (1, 1)),
+    ("sub_r", subtract, (1, 1)),
+    ("mul_r", multiply, (1, 1)),
+    ("div_r", divide, (1, 1)),
+    ("sqrt_r", square_root, (1,)),
+    ("mul_add_r", multiply_add, (7, 3, 1)),
+)
+
+
+def lines():
+    """The file."""
+    yield "# Operations of e2m1fn, e2m3fn and e3m2fn. Computed by evidence/stored_arithmetic.py."
+    for form in ELEMENTS:
+        for call, operation, steps in OPERATIONS:
+            for mode in MODES:
+                codes = product(*(range(0, 1 << form.bits, step) for step in steps))
+                results = (operation(form, mode, *operands) for operands in codes)
+                yield every(call, form.name.lower(), mode, " ".join(map(str, steps)), results)
+
+
+if __name__ == "__main__":
+    print("\n".join(lines()))
