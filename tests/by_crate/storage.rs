@@ -7,9 +7,7 @@ use crate::lines::{
     RowAnswer, TwoValuesCall, ValueField, mask,
 };
 use rustc_apfloat::ieee::{IeeeFloat, Semantics};
-use rustc_apfloat::storage_formats::{
-    E2M1FN, E2M3FN, E3M2FN, E8M0FNU, Float8E3M4, StorageFormat, StoredFloat, UE4M3,
-};
+use rustc_apfloat::storage_formats::{E2M1FN, E2M3FN, E3M2FN, E8M0FNU, Float8E3M4, StorageFormat, StoredFloat, UE4M3};
 use rustc_apfloat::{Float, Round, StatusAnd};
 
 /// What a conversion or an operation returns.
