@@ -1,6 +1,6 @@
 //! Shifts of a significand.
 
-ghost use Rattle.std.specs.Prelude.{◌≡◌, ℕ, ◌-◌, ◌*◌, ◌/◌, ◌%◌, ◌^◌, ◌<◌, ◌≤◌, pos, ◌-ℤ◌, ◌≤ℤ◌};
+ghost use Rattle.std.specs.Prelude.{◌≡◌, ℕ, ◌-◌, ◌*◌, ◌/◌, ◌%◌, ◌^◌, ◌<◌, ◌≤◌, eqb, pos, ◌-ℤ◌, ◌≤ℤ◌};
 ghost use Rattle.apfloat_model.specs.rounding.Bounds.{IsWithin, exponent_bound};
 ghost use Rattle.apfloat_model.specs.rounding.Standing.{StandsFor};
 
@@ -44,6 +44,15 @@ pub fn low_digits(number: u128, places: u32) -> u128
     ensures { result ≡ number % 2 ^ places }
 {
     number & (power_of_two(places) - 1)
+}
+
+/// Whether an integer without its `places` lowest binary digits is odd.
+#[inline(always)]
+pub fn is_odd_above(number: u128, places: u32) -> bool
+    requires { places < 128 }
+    ensures { result ≡ eqb (number / 2 ^ places % 2) 1 }
+{
+    (number >> places) % 2 == 1
 }
 
 /// A significand shifted right, and what was lost below its new unit.

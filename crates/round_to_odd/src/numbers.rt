@@ -12,6 +12,7 @@ ghost use Rattle.round_to_odd.specs.Odd.{is_odd_below};
 
 use apfloat_base::{ExpInt, Float};
 use apfloat_ieee::{Flagged, IeeeFloat};
+use apfloat_words::is_odd_above;
 
 /// How many digits of a number are below the quantum, from the exponent of the last one.
 fn digits_below_quantum<S: Flagged>(exponent: ExpInt) -> u32
@@ -33,7 +34,10 @@ pub(crate) fn is_odd<S: Flagged>(x: IeeeFloat<S>) -> bool
         → result ≡ is_odd_below (quanta_of x) above }
 {
     let number = x.number();
-    (number.significand >> digits_below_quantum::<S>(number.exponent)) % 2 == 1
+    is_odd_above(
+        number.significand,
+        digits_below_quantum::<S>(number.exponent),
+    )
 }
 
 /// A positive value with a sign.

@@ -11,9 +11,7 @@ use crate::sweeps::small::{
 use crate::sweeps::tables::INVALID_OP;
 use conformance::laws::up_and_down;
 use rustc_apfloat::Float;
-use rustc_apfloat::ieee::{
-    Float8E4M3FNS, Float8E4M3FNUZS, Float8E5M2S, HalfS, NonfiniteBehavior, Semantics,
-};
+use rustc_apfloat::ieee::{Float8E5M2S, HalfS, NonfiniteBehavior, Semantics};
 use std::process::Abort;
 
 /// The bits of a sign and a magnitude; in some formats a zero has no sign.
@@ -56,7 +54,7 @@ fn step(format: Small, bits: u128, upward: bool) -> Expected {
 }
 
 /// Every bit pattern of a format, in both directions.
-fn check_all<S: Semantics>(rt: &impl Abort, format: Small)
+pub fn check_all<S: Semantics>(rt: &impl Abort, format: Small)
     requires { S.PRECISION < S.BITS }
 {
     for pattern in 0..patterns_of(format) {
@@ -83,18 +81,6 @@ fn check_back<S: Semantics>(rt: &impl Abort, format: Small)
             same(rt, up_and_down(x).to_bits(), bits, Bits(bits));
         }
     }
-}
-
-#[test]
-fn half(rt: HostRuntime) {
-    check_all::<HalfS>(&rt, Small::Half);
-}
-
-#[test]
-fn eight_bits(rt: HostRuntime) {
-    check_all::<Float8E5M2S>(&rt, Small::Float8E5M2);
-    check_all::<Float8E4M3FNS>(&rt, Small::Float8E4M3FN);
-    check_all::<Float8E4M3FNUZS>(&rt, Small::Float8E4M3FNUZ);
 }
 
 #[test]

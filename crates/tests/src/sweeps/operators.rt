@@ -253,31 +253,3 @@ fn joins_statuses(rt: HostRuntime) {
     let expected = ([0x09, 0x1d, 0x1d, 0x02], [1, 2, 3, 4]);
     same(&rt, got, expected, "statuses, values");
 }
-
-/// The two statuses share a flag and each has one of its own, so no two operators give the same result.
-#[test]
-fn operators_of_statuses(rt: HostRuntime) {
-    let left = Status::INVALID_OP | Status::INEXACT;
-    let right = Status::INEXACT | Status::OVERFLOW;
-    let operands = [left.bits(), right.bits()];
-    let results = [
-        (left | right).bits(),
-        (left & right).bits(),
-        (left ^ right).bits(),
-        (left - right).bits(),
-        (!left).bits(),
-    ];
-    let mut status = left;
-    status |= right;
-    let joined = status.bits();
-    status &= right;
-    let common = status.bits();
-    status ^= left;
-    let in_one = status.bits();
-    status -= right;
-    let rest = status.bits();
-    let got = (operands, results, [joined, common, in_one, rest]);
-    let results = [0x15, 0x10, 0x05, 0x01, 0x0e];
-    let expected = ([0x11, 0x14], results, [0x15, 0x14, 0x05, 0x01]);
-    same(&rt, got, expected, "operands, results, assigned");
-}

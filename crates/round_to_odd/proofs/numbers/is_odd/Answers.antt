@@ -22,14 +22,14 @@ below_is g c =
     (record { low = omega (arith, ints, low); high = omega (arith, ints, high) })) in
     rw exact at c.digits_below_quantum.ensures
 
-pub overflow_shr-result : goal.overflow_shr-result
-overflow_shr-result g c =
+pub is_odd_above-requires : goal.is_odd_above-requires
+is_odd_above-requires g c =
     let f = format_of g.S.Flagged in
     let number = c.number-number in
     let law = g.S.Flagged.lawful.parameters in
     let some = law.precision_low in
     let few = law.precision_high in
-    let below = below_is g (goal.at.overflow_shr-result g c).After-digits_below_quantum in
+    let below = below_is g (goal.at.is_odd_above-requires g c).After-digits_below_quantum in
     let least = few_below f.precision (quanta_of c.args.x) number.result.significand
     (number.result.exponent +ℤ pos f.scale) (omega (arith, some)) c.requires.some number.ensures.fits
     number.ensures.number in
@@ -40,7 +40,8 @@ returns g c = λ above next.
     let f = format_of g.S.Flagged in
     let number = c.number-number in
     let some = g.S.Flagged.lawful.parameters.precision_low in
-    ap (λ (n : ℕ). eqb (number.result.significand / 2 ^ n % 2) 1)
+    c.is_odd_above.ensures
+    ∙ ap (λ (n : ℕ). eqb (number.result.significand / 2 ^ n % 2) 1)
     (below_is g (goal.at.returns g c).After-digits_below_quantum)
     ∙ odd_read f.precision (quanta_of c.args.x) number.result.significand above
     (number.result.exponent +ℤ pos f.scale) (omega (arith, some)) number.ensures.fits number.ensures.full
