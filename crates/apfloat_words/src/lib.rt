@@ -33,7 +33,9 @@ pub use product::full_product;
 pub use quotient::{Quotient, divide};
 pub use rest::{MovedRest, u128_moved_rest, word_moved_rest};
 pub use roots::{Root, root_of};
-pub use shift::{Shifted, digits, is_odd_above, low_digits, power_of_two, shift_right, steps_between};
+pub use shift::{
+    Shifted, digits, is_odd_above, low_digits, power_of_two, shift_right, steps_between,
+};
 pub use sum::{Total, add_terms};
 pub use terms::{Term, WideTerm};
 pub use u128_quotient::divide_u128;

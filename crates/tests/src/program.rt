@@ -115,7 +115,11 @@ fn expect_first_bytes<R: Abort + AllocGlobal>(
     let is_written = on_out.len() <= out_room && on_err.len() <= err_room;
     let wanted = if is_written { status } else { 1 };
     let got = (answered, out.taken.as_slice(), err.taken.as_slice());
-    let expected = (wanted, that_fit(on_out, out_room), that_fit(on_err, err_room));
+    let expected = (
+        wanted,
+        that_fit(on_out, out_room),
+        that_fit(on_err, err_room),
+    );
     same(rt, got, expected, (command, out_room, err_room));
     Ok(())
 }

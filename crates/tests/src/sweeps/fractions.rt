@@ -68,10 +68,7 @@ fn taken_apart<S: Semantics>(x: IeeeFloat<S>, mode: Round) -> ([u128; 2], [ExpIn
     let mut exponent = 0;
     let fraction = x.frexp_r(&mut exponent, mode);
     let whole = fraction.scalbn_r(exponent, mode);
-    (
-        [fraction.to_bits(), whole.to_bits()],
-        [exponent, x.ilogb()],
-    )
+    ([fraction.to_bits(), whole.to_bits()], [exponent, x.ilogb()])
 }
 
 /// The fraction of a value, scaled by its exponent, is the value again, except for a signaling NaN.
