@@ -1,6 +1,7 @@
 //! Shifts of a significand.
 
-ghost use Rattle.std.specs.Prelude.{◌≡◌, ℕ, ◌-◌, ◌*◌, ◌/◌, ◌%◌, ◌^◌, ◌<◌, ◌≤◌, eqb, pos, ◌-ℤ◌, ◌≤ℤ◌};
+ghost use Rattle.std.specs.Prelude.{◌≡◌, ℕ, ◌-◌, ◌*◌, ◌/◌, ◌%◌, ◌^◌, ◌<◌, ◌≤◌, pos, ◌-ℤ◌, ◌≤ℤ◌};
+ghost use Rattle.std.specs.Prelude.{eqb};
 ghost use Rattle.apfloat_model.specs.rounding.Bounds.{IsWithin, exponent_bound};
 ghost use Rattle.apfloat_model.specs.rounding.Standing.{StandsFor};
 
