@@ -6,7 +6,7 @@ ghost use Rattle.tests.specs.Subjects.{IsSubject};
 
 use crate::asserts::same;
 use crate::sweeps::small;
-use crate::sweeps::small::{Layout, bits_of};
+use crate::sweeps::small::{HALF_BOUNDS, Layout, bits_of};
 use crate::sweeps::tables::MODES;
 use commands::custom_formats::SevenS;
 use conformance::plain::{Bounds, deliver};
@@ -14,50 +14,73 @@ use rustc_apfloat::ieee::{Flagged, Half, HalfS, IeeeFlags, Loss, NonfiniteBehavi
 use rustc_apfloat::{ExpInt, Float, Round, ieee};
 use std::process::Abort;
 
-/// A format with bits, and the exponent of an eighth of its quantum.
+/// A format with bits: its bounds, with its rule of flags, its layout, and the exponent of an eighth of its quantum.
 #[derive(Clone, Copy)]
 struct Subject {
+    bounds: Bounds,
     layout: Layout,
     exponent: ExpInt,
 }
 
 const HALF: Subject = Subject {
+    bounds: HALF_BOUNDS,
     layout: small::HALF,
     exponent: -27,
 };
 
 const HALF_TINY_BEFORE: Subject = Subject {
-    layout: Layout {
-        bounds: Bounds {
-            tiny_before_rounding: true,
-            ..small::HALF.bounds
-        },
-        ..small::HALF
+    bounds: Bounds {
+        precision: 11,
+        largest: 65504 << 24,
+        smallest_normalized: 1 << 10,
+        tiny_before_rounding: true,
+        ieee_flags: false,
+        nonfinite: NonfiniteBehavior::IEEE754,
     },
+    layout: small::HALF,
     exponent: -27,
 };
 
 const HALF_IEEE: Subject = Subject {
-    layout: small::HALF_IEEE,
+    bounds: Bounds {
+        precision: 11,
+        largest: 65504 << 24,
+        smallest_normalized: 1 << 10,
+        tiny_before_rounding: false,
+        ieee_flags: true,
+        nonfinite: NonfiniteBehavior::IEEE754,
+    },
+    layout: small::HALF,
     exponent: -27,
 };
 
 const HALF_IEEE_TINY_BEFORE: Subject = Subject {
-    layout: small::HALF_IEEE_TINY_BEFORE,
+    bounds: Bounds {
+        precision: 11,
+        largest: 65504 << 24,
+        smallest_normalized: 1 << 10,
+        tiny_before_rounding: true,
+        ieee_flags: true,
+        nonfinite: NonfiniteBehavior::IEEE754,
+    },
+    layout: small::HALF,
     exponent: -27,
 };
 
 /// The largest value is 30, and a quantum is 2^-4.
+const SEVEN_BOUNDS: Bounds = Bounds {
+    precision: 4,
+    largest: 30 << 4,
+    smallest_normalized: 1 << 3,
+    tiny_before_rounding: false,
+    ieee_flags: false,
+    nonfinite: NonfiniteBehavior::IEEE754,
+};
+
 const SEVEN: Subject = Subject {
+    bounds: SEVEN_BOUNDS,
     layout: Layout {
-        bounds: Bounds {
-            precision: 4,
-            largest: 30 << 4,
-            smallest_normalized: 1 << 3,
-            tiny_before_rounding: false,
-            ieee_flags: false,
-            nonfinite: NonfiniteBehavior::IEEE754,
-        },
+        bounds: SEVEN_BOUNDS,
         one: 1 << 4,
         minus: 0x40,
         past: 0x38,
@@ -70,7 +93,7 @@ const SEVEN: Subject = Subject {
 /// sign.
 fn compare<S: Flagged>(rt: &impl Abort, subject: Subject, eighths: u128)
     requires written { S.PRECISION < S.BITS }
-    requires subject { IsSubject (format_of S.Flagged) subject.layout.bounds subject.exponent }
+    requires subject { IsSubject (format_of S.Flagged) subject.bounds subject.exponent }
     requires eighths { eighths < 2 ^ 60 }
 {
     compare_parts::<S>(rt, subject, eighths, 8);
@@ -79,14 +102,18 @@ fn compare<S: Flagged>(rt: &impl Abort, subject: Subject, eighths: u128)
 /// The same for `amount / parts` quanta; the exponent of the subject is that of one part.
 fn compare_parts<S: Flagged>(rt: &impl Abort, subject: Subject, amount: u128, parts: u128)
     requires written { S.PRECISION < S.BITS }
-    requires subject { IsSubject (format_of S.Flagged) subject.layout.bounds subject.exponent }
+    requires subject { IsSubject (format_of S.Flagged) subject.bounds subject.exponent }
     requires amount { amount < 2 ^ 60 }
     requires some_parts { 0 < parts }
     requires few_parts { parts ≤ 16 }
 {
+    let layout = Layout {
+        bounds: subject.bounds,
+        ..subject.layout
+    };
     for mode in MODES {
         for negative in [false, true] {
-            let plain = deliver(subject.layout.bounds, mode, negative, amount, parts);
+            let plain = deliver(subject.bounds, mode, negative, amount, parts);
             let answer = ieee::deliver::<S>(
                 amount,
                 subject.exponent,
@@ -97,7 +124,7 @@ fn compare_parts<S: Flagged>(rt: &impl Abort, subject: Subject, amount: u128, pa
             same(
                 rt,
                 (answer.value.to_bits(), answer.status),
-                (bits_of(subject.layout, plain.value), plain.status),
+                (bits_of(layout, plain.value), plain.status),
                 (amount, parts, mode, negative),
             );
         }
@@ -149,7 +176,7 @@ fn threshold_of_overflow(rt: HostRuntime) {
 /// Compares denormal results and the first normal ones.
 fn compare_denormals<S: Flagged>(rt: &impl Abort, subject: Subject)
     requires written { S.PRECISION < S.BITS }
-    requires subject { IsSubject (format_of S.Flagged) subject.layout.bounds subject.exponent }
+    requires subject { IsSubject (format_of S.Flagged) subject.bounds subject.exponent }
 {
     for eighths in 0..0x2800u64 {
         compare::<S>(rt, subject, u128::from(eighths));
@@ -192,7 +219,7 @@ fn whole_numbers(rt: HostRuntime) {
     for number in 0..=70000u64 {
         let number = u128::from(number);
         for mode in MODES {
-            let plain = deliver(HALF.layout.bounds, mode, false, number << 24, 1);
+            let plain = deliver(HALF.bounds, mode, false, number << 24, 1);
             let answer = Half::from_u128_r(number, mode);
             same(
                 &rt,

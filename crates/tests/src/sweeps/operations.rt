@@ -5,7 +5,7 @@ ghost use Rattle.std.specs.Prelude.{◌<◌, ◌≤◌};
 ghost use Rattle.rustc_apfloat.specs.Products.{product_limit};
 
 use crate::asserts::{Bits, same};
-use crate::sweeps::small::{Operation, Small, answered, expected};
+use crate::sweeps::small::{Operation, Small, answered, result_of};
 use crate::sweeps::tables::{DOWN, EVEN, MODES};
 use rustc_apfloat::ieee::{Flagged, Float8E4M3FNS, Float8E4M3FNUZS, Float8E5M2S, HalfS, IeeeFloat};
 use rustc_apfloat::{Float, Round, StatusAnd};
@@ -34,16 +34,17 @@ pub fn check_pair<S: Flagged>(
     format: Small,
     operations: &[Operation],
     mode: Round,
-    (x, y): (u128, u128),
+    pair: (u128, u128),
 )
     requires written { S.PRECISION < S.BITS }
     requires multiplied { S.PRECISION ≤ product_limit }
 {
+    let (x, y) = pair;
     for operation in operations {
         let left = IeeeFloat::<S>::from_bits(x);
         let right = IeeeFloat::<S>::from_bits(y);
         let got = answered(answer(*operation, mode, left, right));
-        let expected = expected(format, *operation, mode, x, y);
+        let expected = result_of(format, *operation, mode, x, y);
         same(rt, got, expected, (*operation, Bits(x), mode, Bits(y)));
     }
 }

@@ -12,7 +12,9 @@ use rustc_apfloat::{Flags, Float, Round, StatusAnd};
 #[derive(Clone, Copy)]
 pub enum Small {
     Half,
+    /// With the flags of IEEE 754-2019 (7.4, 7.5).
     HalfIeee,
+    /// With these flags, and tininess detected before rounding.
     HalfIeeeTinyBefore,
     Float8E5M2,
     Float8E4M3FN,
@@ -33,41 +35,25 @@ pub struct Layout {
     pub quiet: u128,
 }
 
-/// Binary16. The largest value is 65504, and a quantum is 2^-24.
+/// Binary16: the largest value is 65504, and a quantum is 2^-24.
+pub const HALF_BOUNDS: Bounds = Bounds {
+    precision: 11,
+    largest: 65504 << 24,
+    smallest_normalized: 1 << 10,
+    tiny_before_rounding: false,
+    ieee_flags: false,
+    nonfinite: NonfiniteBehavior::IEEE754,
+};
+
 pub const HALF: Layout = Layout {
-    bounds: Bounds {
-        precision: 11,
-        largest: 65504 << 24,
-        smallest_normalized: 1 << 10,
-        tiny_before_rounding: false,
-        ieee_flags: false,
-        nonfinite: NonfiniteBehavior::IEEE754,
-    },
+    bounds: HALF_BOUNDS,
     one: 1 << 24,
     minus: 0x8000,
     past: 0x7c00,
     quiet: 0x0200,
 };
 
-/// The same with the flags of IEEE 754-2019 (7.4, 7.5).
-pub const HALF_IEEE: Layout = Layout {
-    bounds: Bounds {
-        ieee_flags: true,
-        ..HALF.bounds
-    },
-    ..HALF
-};
-
-/// The same with these flags, and tininess detected before rounding.
-pub const HALF_IEEE_TINY_BEFORE: Layout = Layout {
-    bounds: Bounds {
-        tiny_before_rounding: true,
-        ..HALF_IEEE.bounds
-    },
-    ..HALF_IEEE
-};
-
-/// The layout of a format.
+/// The layout of a format, with the flags of the built-in formats.
 pub fn layout_of(format: Small) -> Layout
     ensures some_digits { 3 ≤ result.bounds.precision }
     ensures few_digits { result.bounds.precision ≤ 11 }
@@ -80,9 +66,7 @@ pub fn layout_of(format: Small) -> Layout
     ensures few_exponents { result.minus ≤ 32 * result.bounds.smallest_normalized }
 {
     match format {
-        Small::Half => HALF,
-        Small::HalfIeee => HALF_IEEE,
-        Small::HalfIeeeTinyBefore => HALF_IEEE_TINY_BEFORE,
+        Small::Half | Small::HalfIeee | Small::HalfIeeeTinyBefore => HALF,
         Small::Float8E5M2 => Layout {
             bounds: Bounds {
                 precision: 3,
@@ -266,7 +250,12 @@ fn rounded(format: Small, mode: Round, negative: bool, amount: u128, parts: u128
     requires few_parts { parts < 2 ^ 64 }
 {
     let layout = layout_of(format);
-    let answer = deliver(layout.bounds, mode, negative, amount, parts);
+    let bounds = Bounds {
+        tiny_before_rounding: matches!(format, Small::HalfIeeeTinyBefore),
+        ieee_flags: matches!(format, Small::HalfIeee | Small::HalfIeeeTinyBefore),
+        ..layout.bounds
+    };
+    let answer = deliver(bounds, mode, negative, amount, parts);
     Expected {
         bits: bits_of(layout, answer.value),
         status: answer.status.bits(),
@@ -349,7 +338,7 @@ pub enum Operation {
 }
 
 /// The expected result of an operation on two bit patterns.
-pub fn expected(format: Small, operation: Operation, mode: Round, x: u128, y: u128) -> Expected {
+pub fn result_of(format: Small, operation: Operation, mode: Round, x: u128, y: u128) -> Expected {
     if is_nan(format, x) || is_nan(format, y) {
         return of_nans(format, x, y);
     }
