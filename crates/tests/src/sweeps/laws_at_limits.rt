@@ -5,6 +5,9 @@ ghost use Rattle.std.specs.Prelude.{◌<◌, ◌≤◌};
 ghost use Rattle.rustc_apfloat.specs.Products.{product_limit};
 
 use crate::asserts::same;
+use crate::sweeps::calls::{
+    is_nonzero_number, is_number, next_down, of_integer, quiet_nan, scaled,
+};
 use crate::sweeps::tables::MODES;
 use commands::custom_formats::{
     BroadS, DeepS, LeastFiniteS, LeastS, PreciseS, SevenS, TenS, VastS, WrittenBitS,
@@ -65,10 +68,10 @@ fn limit_of<S: Semantics>(limit: Limit) -> IeeeFloat<S> {
         Limit::Zero => IeeeFloat::zero(),
         Limit::Smallest => IeeeFloat::smallest(),
         Limit::SmallestNormalized => IeeeFloat::smallest_normalized(),
-        Limit::One => IeeeFloat::from_u128(1).value,
+        Limit::One => of_integer(1).value,
         Limit::Largest => IeeeFloat::largest(),
         Limit::Infinity => IeeeFloat::infinity(),
-        Limit::QuietNan => IeeeFloat::nan(),
+        Limit::QuietNan => quiet_nan(),
         Limit::SignalingNan => IeeeFloat::snan(None),
     }
 }
@@ -79,19 +82,19 @@ fn value_at<S: Semantics>((limit, side): Place, negative: bool) -> IeeeFloat<S> 
     let x = match side {
         Side::At => x,
         Side::Above => x.next_up().value,
-        Side::Below => x.next_down().value,
+        Side::Below => next_down(x).value,
     };
     if negative { -x } else { x }
 }
 
 /// Whether a value is a positive number.
 fn is_positive<S: Semantics>(x: IeeeFloat<S>) -> bool {
-    x.is_finite() & (x > IeeeFloat::zero())
+    is_number(x) & (x > IeeeFloat::zero())
 }
 
 /// Whether a number is at most twice another one.
 fn is_at_most_twice<S: Semantics>(x: IeeeFloat<S>, y: IeeeFloat<S>) -> bool {
-    !(x > y.scalbn(1))
+    !(x > scaled(y, 1))
 }
 
 /// Whether both are positive numbers, neither more than twice the other.
@@ -118,12 +121,12 @@ fn has_infinities<S: Semantics>() -> bool {
 
 /// Whether both are numbers, the first at most the second.
 fn are_in_order<S: Semantics>(x: IeeeFloat<S>, y: IeeeFloat<S>) -> bool {
-    x.is_finite() & y.is_finite() & (x <= y)
+    is_number(x) & is_number(y) & (x <= y)
 }
 
 /// In a format with infinities, adding a third number to two numbers keeps their order.
 fn check_sums<S: Semantics>(rt: &impl Abort, x: IeeeFloat<S>, y: IeeeFloat<S>, z: IeeeFloat<S>) {
-    if has_infinities::<S>() & are_in_order(x, y) & z.is_finite() {
+    if has_infinities::<S>() & are_in_order(x, y) & is_number(z) {
         for mode in MODES {
             let (left, right) = sums_in_order(x, y, z, mode);
             same(rt, left <= right, true, (x, y, z, mode));
@@ -135,7 +138,7 @@ fn check_sums<S: Semantics>(rt: &impl Abort, x: IeeeFloat<S>, y: IeeeFloat<S>, z
 fn check_product<S: Semantics>(rt: &impl Abort, x: IeeeFloat<S>, y: IeeeFloat<S>)
     requires { S.PRECISION ≤ product_limit }
 {
-    if x.is_finite_non_zero() & y.is_finite_non_zero() {
+    if is_nonzero_number(x) & is_nonzero_number(y) {
         for mode in MODES {
             let (product, opposite) = opposite_products(x, y, mode);
             let agrees = opposite.value.bitwise_eq(-product.value);
@@ -161,7 +164,7 @@ fn check_conversion<S: Semantics, T: Semantics>(
 /// Conversion to the format with the most digits and the widest exponents and back, and to a format of three digits and
 /// back.
 fn check_conversions<S: Semantics>(rt: &impl Abort, x: IeeeFloat<S>) {
-    if x.is_finite() {
+    if is_number(x) {
         for mode in MODES {
             check_conversion::<S, VastS>(rt, x, mode, true);
             check_conversion::<S, LeastS>(rt, x, mode, false);
@@ -171,7 +174,7 @@ fn check_conversions<S: Semantics>(rt: &impl Abort, x: IeeeFloat<S>) {
 
 /// The next value up, and then the next down.
 fn check_steps<S: Semantics>(rt: &impl Abort, x: IeeeFloat<S>) {
-    if has_infinities::<S>() & x.is_finite_non_zero() {
+    if has_infinities::<S>() & is_nonzero_number(x) {
         same(rt, up_and_down(x).bitwise_eq(x), true, x);
     }
 }
@@ -203,11 +206,16 @@ fn check_laws_beside<S: Semantics>(rt: &impl Abort, x: IeeeFloat<S>) {
         for right_sign in SIGNS {
             let y = value_at::<S>(right, right_sign);
             check_difference(rt, x, y);
-            for third in PLACES {
-                check_sums(rt, x, y, value_at::<S>(third, false));
-                check_sums(rt, x, y, value_at::<S>(third, true));
-            }
+            check_all_sums(rt, x, y);
         }
+    }
+}
+
+/// The law of sums, with each third value.
+fn check_all_sums<S: Semantics>(rt: &impl Abort, x: IeeeFloat<S>, y: IeeeFloat<S>) {
+    for third in PLACES {
+        check_sums(rt, x, y, value_at::<S>(third, false));
+        check_sums(rt, x, y, value_at::<S>(third, true));
     }
 }
 
@@ -216,13 +224,18 @@ fn check_products<S: Semantics>(rt: &impl Abort)
     requires { S.PRECISION ≤ product_limit }
 {
     for left in PLACES {
-        for right in PLACES {
-            for negative in SIGNS {
-                let x = value_at::<S>(left, negative);
-                check_product(rt, x, value_at::<S>(right, false));
-                check_product(rt, x, value_at::<S>(right, true));
-            }
-        }
+        check_all_products(rt, value_at::<S>(left, false));
+        check_all_products(rt, value_at::<S>(left, true));
+    }
+}
+
+/// The same, with `x` as the left factor.
+fn check_all_products<S: Semantics>(rt: &impl Abort, x: IeeeFloat<S>)
+    requires { S.PRECISION ≤ product_limit }
+{
+    for right in PLACES {
+        check_product(rt, x, value_at::<S>(right, false));
+        check_product(rt, x, value_at::<S>(right, true));
     }
 }
 

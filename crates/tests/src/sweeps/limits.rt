@@ -3,6 +3,7 @@
 ghost use Rattle.std.specs.Prelude.{◌<◌};
 
 use crate::asserts::same;
+use crate::sweeps::calls::of_integer;
 use crate::sweeps::tables::{EVEN, INEXACT, OK, OVERFLOW_INEXACT, ZERO};
 use commands::custom_formats::{
     BroadS, DeepS, LeastFinite, LeastFiniteS, LeastS, PreciseS, Ten, TenS, VastS, WrittenBitS,
@@ -79,7 +80,7 @@ static TEN: [Row; 4] = [
 /// The value that a row says.
 fn value_of<S: Semantics>(answer: Landed) -> IeeeFloat<S> {
     match answer {
-        Landed::Number(value) => IeeeFloat::from_u128(value).value,
+        Landed::Number(value) => of_integer(value).value,
         Landed::Past => IeeeFloat::infinity(),
     }
 }
@@ -131,7 +132,7 @@ fn check_bits<S: Semantics>(rt: &impl Abort, one: u128, largest: u128, past: u12
 {
     let greatest = IeeeFloat::<S>::largest();
     let bits = [
-        IeeeFloat::<S>::from_u128(1).value.to_bits(),
+        of_integer::<S>(1).value.to_bits(),
         greatest.to_bits(),
         IeeeFloat::<S>::infinity().to_bits(),
     ];

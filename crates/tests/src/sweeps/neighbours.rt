@@ -4,6 +4,7 @@
 ghost use Rattle.std.specs.Prelude.{◌<◌};
 
 use crate::asserts::{Bits, same};
+use crate::sweeps::calls::{is_nonzero_number, next_down};
 use crate::sweeps::small::{
     Class, Expected, Layout, Small, answered, decoded, exactly, is_nan, layout_of, past_bits,
     patterns_of, signals,
@@ -62,7 +63,7 @@ pub fn check_all<S: Semantics>(rt: &impl Abort, format: Small)
         let x = S::from_bits(bits);
         same(
             rt,
-            (answered(x.next_up()), answered(x.next_down())),
+            (answered(x.next_up()), answered(next_down(x))),
             (step(format, bits, true), step(format, bits, false)),
             Bits(bits),
         );
@@ -77,7 +78,7 @@ fn check_back<S: Semantics>(rt: &impl Abort, format: Small)
     for pattern in 0..patterns_of(format) {
         let bits = u128::from(pattern);
         let x = S::from_bits(bits);
-        if x.is_finite_non_zero() {
+        if is_nonzero_number(x) {
             same(rt, up_and_down(x).to_bits(), bits, Bits(bits));
         }
     }
