@@ -318,8 +318,8 @@ faulted (Some fault) known old new code left = left
 -- what the call of known codes leaves is the reply
 pub replied : (kind : Option FlaggedKind) (format : MachineFormat) (mode : Option Round) (round : Round)
     (call : Result MachineCall ℕ) (asked : MachineCall) (machine : Option CodedMachine) (on : CodedMachine)
-    (old new : Answer) (code : ℕ) → option_and_then machine_format kind ≡ Some format → mode ≡ Some round → call ≡ Ok asked
-    → machine ≡ Some on
+    (old new : Answer) (code : ℕ) → option_and_then machine_format kind ≡ Some format → mode ≡ Some round
+    → call ≡ Ok asked → machine ≡ Some on
     → IsLeftBy (machine_fault on format asked) (IsMachineCallAnswer on format round asked) old new code
     → IsMachineReply (known_machine_call kind mode call machine) old new code
 replied None format mode round call asked machine on old new code f m k h left = cc
