@@ -136,11 +136,11 @@ s390x =
       flush = None;
     }
 
-abbrev pub web_assembly : Machine
-web_assembly = record risc_v { signed_of_nan = Zero; unsigned_of_nan = Zero }
+abbrev pub webassembly : Machine
+webassembly = record risc_v { signed_of_nan = Zero; unsigned_of_nan = Zero }
 
 abbrev pub ptx : Machine
-ptx = record web_assembly { default_has_ones = true; flush = Some FlushX86 }
+ptx = record webassembly { default_has_ones = true; flush = Some FlushX86 }
 
 abbrev pub mips_2008 : Machine
 mips_2008 =
@@ -162,8 +162,8 @@ mips_2008 =
       flush = None;
     }
 
-abbrev pub loong_arch : Machine
-loong_arch = record mips_2008 { has_unsigned = true }
+abbrev pub loongarch : Machine
+loongarch = record mips_2008 { has_unsigned = true }
 
 abbrev pub sparc : Machine
 sparc =
@@ -208,4 +208,4 @@ abbrev pub AreConsistent : Type 0
 AreConsistent =
     All (λ machine. checked machine ≡ Ok machine)
     (x86 ∷ x87 ∷ arm ∷ arm_default_nan ∷ arm_alternate ∷ arm_alternate_default_nan ∷ risc_v ∷ power ∷ s390x
-    ∷ web_assembly ∷ ptx ∷ mips_2008 ∷ loong_arch ∷ sparc ∷ m68k ∷ [])
+    ∷ webassembly ∷ ptx ∷ mips_2008 ∷ loongarch ∷ sparc ∷ m68k ∷ [])

@@ -224,7 +224,7 @@ impl Machine {
     };
 
     /// WebAssembly with canonical NaNs (its deterministic profile). It has no flags.
-    pub const WEB_ASSEMBLY: Machine = Machine {
+    pub const WEBASSEMBLY: Machine = Machine {
         signed_of_nan: WholeOfNan::Zero,
         unsigned_of_nan: WholeOfNan::Zero,
         ..Machine::RISC_V
@@ -234,7 +234,7 @@ impl Machine {
     pub const PTX: Machine = Machine {
         default_has_ones: true,
         flush: Some(Flush::X86),
-        ..Machine::WEB_ASSEMBLY
+        ..Machine::WEBASSEMBLY
     };
 
     /// MIPS with FCSR.NAN2008 set, as from Release 6 on.
@@ -257,7 +257,7 @@ impl Machine {
     };
 
     /// LoongArch, with LSX and LASX.
-    pub const LOONG_ARCH: Machine = Machine {
+    pub const LOONGARCH: Machine = Machine {
         has_unsigned: true,
         ..Machine::MIPS_2008
     };

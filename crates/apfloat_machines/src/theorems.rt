@@ -10,7 +10,7 @@ ghost use Rattle.apfloat_machines.specs.FlushedMachines.{FlushedMachinesHaveOneA
 ghost use Rattle.apfloat_machines.specs.FlushedOperations.{FlushedHaveOneAnswer};
 ghost use Rattle.apfloat_machines.specs.Machines.{x86, x87, arm, arm_default_nan, arm_alternate};
 ghost use Rattle.apfloat_machines.specs.Machines.{arm_alternate_default_nan, risc_v, power, s390x};
-ghost use Rattle.apfloat_machines.specs.Machines.{web_assembly, ptx, mips_2008, loong_arch, sparc, m68k};
+ghost use Rattle.apfloat_machines.specs.Machines.{webassembly, ptx, mips_2008, loongarch, sparc, m68k};
 ghost use Rattle.apfloat_machines.specs.Machines.{AreConsistent};
 ghost use Rattle.apfloat_machines.specs.Operations.{IsSettledFused};
 ghost use Rattle.apfloat_machines.specs.RaisedFlags.{MachineFlagsGoTogether, FlushedFlagsGoTogether};
@@ -29,10 +29,10 @@ pub fn machines_are_those_of_the_tables()
     ensures risc_v { Machine.RISC_V ≡ risc_v }
     ensures power { Machine.POWER ≡ power }
     ensures s390x { Machine.S390X ≡ s390x }
-    ensures web_assembly { Machine.WEB_ASSEMBLY ≡ web_assembly }
+    ensures webassembly { Machine.WEBASSEMBLY ≡ webassembly }
     ensures ptx { Machine.PTX ≡ ptx }
     ensures mips_2008 { Machine.MIPS_2008 ≡ mips_2008 }
-    ensures loong_arch { Machine.LOONG_ARCH ≡ loong_arch }
+    ensures loongarch { Machine.LOONGARCH ≡ loongarch }
     ensures sparc { Machine.SPARC ≡ sparc }
     ensures m68k { Machine.M68K ≡ m68k }
     ensures consistent { AreConsistent }

@@ -16,8 +16,8 @@ use Rattle.apfloat_machines.specs.declared.minima.MinimumRule.TheVariants.{Secon
 use Rattle.apfloat_machines.specs.declared.minima.MinimumRule.TheVariants.{Number2008, Number2019, Propagated}
 use Rattle.apfloat_machines.specs.Conversions.{IsMachineConversion}
 use Rattle.apfloat_machines.specs.Machines.{x86, x87, arm, arm_default_nan, arm_alternate}
-use Rattle.apfloat_machines.specs.Machines.{arm_alternate_default_nan, risc_v, power, s390x, web_assembly, ptx}
-use Rattle.apfloat_machines.specs.Machines.{mips_2008, loong_arch, sparc, m68k}
+use Rattle.apfloat_machines.specs.Machines.{arm_alternate_default_nan, risc_v, power, s390x, webassembly, ptx}
+use Rattle.apfloat_machines.specs.Machines.{mips_2008, loongarch, sparc, m68k}
 use Rattle.apfloat_machines.specs.Minima.{IsLeast, IsGreatest}
 use Rattle.apfloat_machines.specs.Operations.{IsMachineSum, IsMachineDifference, IsMachineProduct, IsMachineQuotient}
 use Rattle.apfloat_machines.specs.Operations.{IsMachineTruncatedRemainder, IsMachineNearestRemainder, IsMachineRoot}
@@ -81,10 +81,10 @@ choices machine =
     else if machine.code == 7 then power
     else if machine.code == 8 then s390x
     else if machine.code == 9 then arm_alternate_default_nan
-    else if machine.code == 10 then web_assembly
+    else if machine.code == 10 then webassembly
     else if machine.code == 11 then ptx
     else if machine.code == 12 then mips_2008
-    else if machine.code == 13 then loong_arch
+    else if machine.code == 13 then loongarch
     else if machine.code == 14 then sparc
     else m68k
 

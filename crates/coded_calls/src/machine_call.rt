@@ -47,10 +47,10 @@ impl CodedMachine {
             7 => Machine::POWER,
             8 => Machine::S390X,
             9 => Machine::ARM_ALTERNATE_DEFAULT_NAN,
-            10 => Machine::WEB_ASSEMBLY,
+            10 => Machine::WEBASSEMBLY,
             11 => Machine::PTX,
             12 => Machine::MIPS_2008,
-            13 => Machine::LOONG_ARCH,
+            13 => Machine::LOONGARCH,
             14 => Machine::SPARC,
             _ => Machine::M68K,
         }

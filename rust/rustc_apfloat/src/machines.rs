@@ -13,7 +13,7 @@
 //! // The NaN of an invalid operation is positive on RISC-V, and negative on x86.
 //! let zero = Single::ZERO;
 //! let answer = zero / zero;
-//! assert_eq!(machines::settled(Machine::RiscV, zero, zero, answer).value.to_bits(), 0x7fc0_0000);
+//! assert_eq!(machines::settled(Machine::RISC_V, zero, zero, answer).value.to_bits(), 0x7fc0_0000);
 //! assert_eq!(machines::settled(Machine::X86, zero, zero, answer).value.to_bits(), 0xffc0_0000);
 //! assert_eq!(answer.status, Status::INVALID_OP);
 //! ```
@@ -22,7 +22,7 @@ use crate::StatusAnd;
 use crate::erased::apfloat_machines as library;
 use crate::ieee::{IeeeFloat, Semantics};
 
-pub use library::{Flush, FusedOrder, Machine, MinimumRule, NanChoice, WholeOfNan};
+pub use library::{Contradiction, Flush, FusedOrder, Machine, MinimumRule, NanChoice, WholeOfNan};
 
 same_types! { Flush, Machine, MinimumRule }
 
@@ -78,7 +78,7 @@ library_calls! {
     /// In a format without bits.
     fn machine_nan<S>(machine: Machine, x: IeeeFloat<S>, y: IeeeFloat<S>) -> IeeeFloat<S>
         where S::BITS > S::PRECISION => "a format without bits";
-    /// The quiet NaN without a payload that an invalid operation delivers, with the machine's sign.
+    /// The quiet NaN that an invalid operation delivers, with the machine's sign and payload.
     fn default_nan<S>(machine: Machine) -> IeeeFloat<S>;
     /// The value negated, except that a NaN keeps its sign.
     fn negated_number<S>(x: IeeeFloat<S>) -> IeeeFloat<S>;

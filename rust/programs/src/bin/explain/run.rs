@@ -21,7 +21,8 @@ const OPERATION_WORDS: &str = "add sub mul div rem mod fma sqrt e2m1fn e2m3fn e3
 const MODE_WORDS: &str = "even up down zero away";
 
 /// The machines, for messages.
-const MACHINE_WORDS: &str = "x86 x87 arm arm_default_nan arm_alternate risc_v power s390x";
+const MACHINE_WORDS: &str = "x86 x87 arm arm_default_nan arm_alternate risc_v power s390x \
+    arm_alternate_default_nan webassembly ptx mips_2008 loongarch sparc m68k";
 
 /// The formats that machines have, for messages.
 const MACHINE_FORMATS: &str = "half single double quad bfloat e5m2 x87";
