@@ -706,7 +706,7 @@ class SignTests(unittest.TestCase):
             raised = sum(Flags[flag] for flag in flags.split('|'))
             self.assertEqual((found, context.flags), (wanted, raised), (call, words, name, mode, operands))
             compared[name] += 1
-        self.assertEqual(len(compared), 15)
+        self.assertEqual(len(compared), 8)
         self.assertGreater(sum(compared.values()), 500)
 
     def test_rows_of_operations(self):

@@ -96,7 +96,8 @@ fn write_refusal(fault: Fault, err: &mut impl Write) -> io::Result<()> {
         Fault::Mode(word) => write_unknown("mode", word, MODE_WORDS, MODES, err),
         Fault::Machine(word) => write_unknown("machine", word, MACHINE_WORDS, MACHINES, err),
         Fault::Lacks(word) => {
-            writeln!(err, "explain: no such operation on '{word}' (x87 has no fma; the formats are {MACHINE_FORMATS})")
+            let lacking = "x87 and m68k have no fma";
+            writeln!(err, "explain: no such operation on '{word}' ({lacking}; the formats are {MACHINE_FORMATS})")
         }
         Fault::Value(word) => {
             writeln!(err, "explain: no value '{word}' of the format (hexadecimal bits, or a number such as 0.1)")
