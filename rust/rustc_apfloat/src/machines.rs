@@ -26,6 +26,11 @@ pub use library::{Contradiction, Flush, FusedOrder, Machine, MinimumRule, NanCho
 
 same_types! { Flush, Machine, MinimumRule }
 
+/// Whether the format detects tininess as the machine does, or has no flags of IEEE 754.
+const fn has_rule_of<S: Semantics>(machine: Machine) -> bool {
+    !S::IEEE_FLAGS || S::TINY_BEFORE_ROUNDING == machine.tiny_before_rounding
+}
+
 library_calls! {
     /// The answer of an operation on two operands, in the machine's order, as the machine gives it: if it is a NaN, the
     /// machine's NaN, and otherwise unchanged. The operation is a sum, a difference, a product, a quotient or a
@@ -33,28 +38,35 @@ library_calls! {
     ///
     /// # Panics
     ///
-    /// In a format without bits.
+    /// In a format without bits, and where its flags of IEEE 754 follow another rule of tininess than the machine's.
     fn settled<S>(machine: Machine, x: IeeeFloat<S>, y: IeeeFloat<S>, answer: StatusAnd<IeeeFloat<S>>)
-        -> StatusAnd<IeeeFloat<S>> where S::BITS > S::PRECISION => "a format without bits";
+        -> StatusAnd<IeeeFloat<S>> where S::BITS > S::PRECISION && has_rule_of::<S>(machine)
+        => "a format without bits, or with the tininess of another machine";
     /// The answer of a square root, or of rounding to an integral value, as the machine gives it, like `settled`.
     ///
     /// # Panics
     ///
-    /// In a format without bits.
+    /// As `settled` does.
     fn settled_unary<S>(machine: Machine, x: IeeeFloat<S>, answer: StatusAnd<IeeeFloat<S>>)
-        -> StatusAnd<IeeeFloat<S>> where S::BITS > S::PRECISION => "a format without bits";
+        -> StatusAnd<IeeeFloat<S>> where S::BITS > S::PRECISION && has_rule_of::<S>(machine)
+        => "a format without bits, or with the tininess of another machine";
     /// The answer of the fused sum `x * y + z`, as the machine gives it: if it is a NaN, the machine's NaN with its
     /// flags. None if the machine has no fused sums.
     ///
     /// # Panics
     ///
-    /// In a format without bits.
+    /// As `settled` does.
     fn settled_fused<S>(
         machine: Machine, x: IeeeFloat<S>, y: IeeeFloat<S>, z: IeeeFloat<S>, answer: StatusAnd<IeeeFloat<S>>
-    ) -> Option<StatusAnd<IeeeFloat<S>>> where S::BITS > S::PRECISION => "a format without bits";
+    ) -> Option<StatusAnd<IeeeFloat<S>>> where S::BITS > S::PRECISION && has_rule_of::<S>(machine)
+        => "a format without bits, or with the tininess of another machine";
     /// The answer of the conversion of `x` to another format, as the machine gives it.
+    ///
+    /// # Panics
+    ///
+    /// Where the other format's flags of IEEE 754 follow another rule of tininess than the machine's.
     fn settled_conversion<S, T>(machine: Machine, x: IeeeFloat<S>, answer: StatusAnd<IeeeFloat<T>>)
-        -> StatusAnd<IeeeFloat<T>>;
+        -> StatusAnd<IeeeFloat<T>> where has_rule_of::<T>(machine) => "a format with the tininess of another machine";
     /// The answer of the conversion of `x` to a signed integer of `width` binary digits, as the machine gives it.
     ///
     /// # Panics
