@@ -18,13 +18,14 @@ mod whole_numbers;
 pub use conversions::{is_lost_nan, settled_conversion};
 pub use flushing::{Flush, flushed, has_denormal, without_denormal};
 pub use fused::settled_fused;
-pub use machine::{Contradiction, FusedOrder, Machine, NanChoice, WholeOfNan};
+pub use machine::{
+    Contradiction, FusedOrder, Machine, NanChoice, WholeOfNan, machines_are_those_of_the_tables,
+};
 pub use minima::{MinimumRule, greatest, least};
 pub use nans::{default_nan, machine_nan, negated_number, settled, settled_unary};
 pub use theorems::{
     conversions_have_one_answer, flags_go_together, flushed_fused_sums_are_settled,
     flushed_machine_operations_have_one_answer, flushed_operations_have_one_answer,
-    fused_sums_have_one_answer, machines_are_those_of_the_tables, operations_have_one_answer,
-    whole_numbers_have_one_answer,
+    fused_sums_have_one_answer, operations_have_one_answer, whole_numbers_have_one_answer,
 };
 pub use whole_numbers::{settled_signed, settled_unsigned};

@@ -1,6 +1,5 @@
 //! Theorems about the definitions that the calls cite, as contracts of functions with empty bodies.
 
-ghost use Rattle.std.specs.Prelude.{◌≡◌};
 ghost use Rattle.apfloat_model.specs.formats.Format.{Format};
 ghost use Rattle.apfloat_machines.specs.declared.flushing.Flush.{Flush};
 ghost use Rattle.apfloat_machines.specs.declared.machine.Machine.{Machine};
@@ -8,35 +7,10 @@ ghost use Rattle.apfloat_model.specs.declared.status.StatusAnd.{StatusAnd};
 ghost use Rattle.apfloat_model.specs.formats.Datum.{Datum};
 ghost use Rattle.apfloat_machines.specs.FlushedMachines.{FlushedMachinesHaveOneAnswer, IsFlushedAndSettledFused};
 ghost use Rattle.apfloat_machines.specs.FlushedOperations.{FlushedHaveOneAnswer};
-ghost use Rattle.apfloat_machines.specs.Machines.{x86, x87, arm, arm_default_nan, arm_alternate};
-ghost use Rattle.apfloat_machines.specs.Machines.{arm_alternate_default_nan, risc_v, power, s390x};
-ghost use Rattle.apfloat_machines.specs.Machines.{webassembly, ptx, mips_2008, loongarch, sparc, m68k};
-ghost use Rattle.apfloat_machines.specs.Machines.{AreConsistent};
 ghost use Rattle.apfloat_machines.specs.Operations.{IsSettledFused};
 ghost use Rattle.apfloat_machines.specs.RaisedFlags.{MachineFlagsGoTogether, FlushedFlagsGoTogether};
 ghost use Rattle.apfloat_machines.specs.Theorems.{HaveOneAnswer, FusedSumsHaveOneAnswer};
 ghost use Rattle.apfloat_machines.specs.Theorems.{ConversionsHaveOneAnswer, WholeNumbersHaveOneAnswer};
-
-/// The constants are the records of the tables, and none contradicts itself.
-pub fn machines_are_those_of_the_tables()
-    ensures x86 { Machine.X86 ≡ x86 }
-    ensures x87 { Machine.X87 ≡ x87 }
-    ensures arm { Machine.ARM ≡ arm }
-    ensures arm_default_nan { Machine.ARM_DEFAULT_NAN ≡ arm_default_nan }
-    ensures arm_alternate { Machine.ARM_ALTERNATE ≡ arm_alternate }
-    ensures arm_alternate_default_nan { Machine.ARM_ALTERNATE_DEFAULT_NAN
-        ≡ arm_alternate_default_nan }
-    ensures risc_v { Machine.RISC_V ≡ risc_v }
-    ensures power { Machine.POWER ≡ power }
-    ensures s390x { Machine.S390X ≡ s390x }
-    ensures webassembly { Machine.WEBASSEMBLY ≡ webassembly }
-    ensures ptx { Machine.PTX ≡ ptx }
-    ensures mips_2008 { Machine.MIPS_2008 ≡ mips_2008 }
-    ensures loongarch { Machine.LOONGARCH ≡ loongarch }
-    ensures sparc { Machine.SPARC ≡ sparc }
-    ensures m68k { Machine.M68K ≡ m68k }
-    ensures consistent { AreConsistent }
-{}
 
 /// A sum, a difference, a product, a quotient, a remainder, a root and a rounding to an integral value of a machine
 /// have one value and one status.
