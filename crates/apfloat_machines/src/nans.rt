@@ -109,7 +109,11 @@ pub fn default_nan<S: Flagged>(machine: Machine) -> IeeeFloat<S>
 fn default_payload(machine: Machine) -> u128
     ensures { result ≡ default_payload machine }
 {
-    if machine.default_has_ones { u128::MAX } else { 0 }
+    if machine.default_has_ones {
+        u128::MAX
+    } else {
+        0
+    }
 }
 
 /// The value negated, except that a NaN keeps its sign: an operand or a result that an instruction negates on x86 and

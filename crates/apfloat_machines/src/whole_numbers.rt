@@ -172,7 +172,13 @@ fn unsigned_nan<S: Flagged>(machine: Machine, x: IeeeFloat<S>, width: usize) -> 
         WholeOfNan::Zero => 0,
         WholeOfNan::Least => 0,
         WholeOfNan::Greatest => greatest_unsigned(width),
-        WholeOfNan::BySign => if x.is_negative() { 0 } else { greatest_unsigned(width) },
+        WholeOfNan::BySign => {
+            if x.is_negative() {
+                0
+            } else {
+                greatest_unsigned(width)
+            }
+        }
     }
 }
 

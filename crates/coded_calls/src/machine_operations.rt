@@ -994,7 +994,12 @@ fn plain_integral_exact<S: Flagged>(answer: &mut Answer, round: Round, x: u128)
 /// A value rounded to an integral value, with INEXACT.
 #[cold]
 #[inline(never)]
-fn integral_exact<S: Flagged>(answer: &mut Answer, machine: CodedMachine, round: Round, x: u128) -> u32
+fn integral_exact<S: Flagged>(
+    answer: &mut Answer,
+    machine: CodedMachine,
+    round: Round,
+    x: u128,
+) -> u32
     requires { S.PRECISION < S.BITS }
     ensures { IsMachineLeftIn (of_format (constants_of S.Flagged)) machine round (IntegralExact x)
         answer.old answer.new result }

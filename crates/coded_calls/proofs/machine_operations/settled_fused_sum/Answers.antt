@@ -7,6 +7,11 @@ returns-in-None g c = λ infinite. rw (sym c.choices.ensures, c.in-None.ensures)
 pub returns-in-Some : goal.returns-in-Some
 returns-in-Some g c = λ infinite.
     let settled = c.in-Some.ensures.1.fused_sum infinite c.args.round c.wide_mul_add_r.ensures in
-    rw (sym c.choices.ensures, c.in-Some.ensures.0, sym c.value-x.ensures, sym c.value-y.ensures,
-    sym c.value-z.ensures)
+    rw (
+      sym c.choices.ensures,
+      c.in-Some.ensures.0,
+      sym c.value-x.ensures,
+      sym c.value-y.ensures,
+      sym c.value-z.ensures,
+    )
     (refl, record { given = c.in-Some.sum; holds = settled; is_written = c.written.ensures })
