@@ -1,6 +1,6 @@
 -- What each machine does where IEEE 754-2019 leaves a choice: the records of docs/MACHINES.md.
-use Rattle.std.specs.Prelude.{◌≡◌, Bool, true, false, not, ◌&&◌, Some, None, Result, Ok, Err, if◌then◌else◌}
-use Rattle.std.specs.Prelude.{All, [], ◌∷◌}
+use Rattle.std.specs.Prelude.{Bool, true, false, not, ◌&&◌, ◌||◌, Some, None, Result, Ok, Err, if◌then◌else◌}
+use Rattle.std.specs.Prelude.{List, [], ◌∷◌}
 use Rattle.apfloat_machines.specs.declared.flushing.Flush.TheVariants.{X86 as FlushX86, Arm as FlushArm}
 use Rattle.apfloat_machines.specs.declared.machine.Machine.{Machine}
 use Rattle.apfloat_machines.specs.declared.machine.Contradiction.{Contradiction}
@@ -197,15 +197,15 @@ is_always_default SignalingLast = false
 is_always_default Greater = false
 is_always_default AlwaysDefault = true
 
--- the machine, unless its result is always the default NaN and yet is said not to be
-abbrev pub checked : Machine → Result Machine Contradiction
-checked machine =
-    if is_always_default machine.nan_choice && not (machine.drops_quiet_addend && machine.drops_signaling_addend)
-    then Err KeptAddend else Ok machine
+-- a machine whose result is always the default NaN does not keep a NaN that is added to an infinity times a zero
+abbrev pub is_consistent : Machine → Bool
+is_consistent machine =
+    not (is_always_default machine.nan_choice) || (machine.drops_quiet_addend && machine.drops_signaling_addend)
 
--- none of the machines contradicts itself
-abbrev pub AreConsistent : Type 0
-AreConsistent =
-    All (λ machine. checked machine ≡ Ok machine)
-    (x86 ∷ x87 ∷ arm ∷ arm_default_nan ∷ arm_alternate ∷ arm_alternate_default_nan ∷ risc_v ∷ power ∷ s390x
-    ∷ webassembly ∷ ptx ∷ mips_2008 ∷ loongarch ∷ sparc ∷ m68k ∷ [])
+abbrev pub checked : Machine → Result Machine Contradiction
+checked machine = if is_consistent machine then Ok machine else Err KeptAddend
+
+abbrev pub machines : List Machine
+machines =
+    x86 ∷ x87 ∷ arm ∷ arm_default_nan ∷ arm_alternate ∷ arm_alternate_default_nan ∷ risc_v ∷ power ∷ s390x
+    ∷ webassembly ∷ ptx ∷ mips_2008 ∷ loongarch ∷ sparc ∷ m68k ∷ []

@@ -1,7 +1,9 @@
 //! Machines, as records of their choices.
 
-ghost use Rattle.std.specs.Prelude.{◌≡◌};
-ghost use Rattle.apfloat_machines.specs.Machines.{AreConsistent, checked, is_always_default};
+ghost use Rattle.std.specs.Prelude.{◌≡◌, true};
+ghost use Rattle.std.specs.List.{list_all};
+ghost use Rattle.apfloat_machines.specs.Machines.{checked, is_always_default, is_consistent};
+ghost use Rattle.apfloat_machines.specs.Machines.{machines};
 ghost use Rattle.apfloat_machines.specs.Machines.{x86, x87, arm, arm_default_nan, arm_alternate};
 ghost use Rattle.apfloat_machines.specs.Machines.{arm_alternate_default_nan, risc_v, power, s390x};
 ghost use Rattle.apfloat_machines.specs.Machines.{webassembly, ptx, mips_2008, loongarch, sparc, m68k};
@@ -291,15 +293,22 @@ impl Machine {
         ..Machine::SPARC
     };
 
+    /// Whether no choice contradicts another.
+    pub fn is_consistent(self) -> bool
+        ensures { result ≡ is_consistent self }
+    {
+        !is_always_default(self.nan_choice)
+            || (self.drops_quiet_addend && self.drops_signaling_addend)
+    }
+
     /// The machine, or why its choices contradict each other.
     pub fn checked(self) -> Result<Machine, Contradiction>
         ensures { result ≡ checked self }
     {
-        let drops_both = self.drops_quiet_addend && self.drops_signaling_addend;
-        if is_always_default(self.nan_choice) && !drops_both {
-            Err(Contradiction::KeptAddend)
-        } else {
+        if self.is_consistent() {
             Ok(self)
+        } else {
+            Err(Contradiction::KeptAddend)
         }
     }
 }
@@ -332,5 +341,5 @@ pub fn machines_are_those_of_the_tables()
     ensures loongarch { Machine.LOONGARCH ≡ loongarch }
     ensures sparc { Machine.SPARC ≡ sparc }
     ensures m68k { Machine.M68K ≡ m68k }
-    ensures consistent { AreConsistent }
+    ensures consistent { list_all is_consistent machines ≡ true }
 {}
