@@ -2608,8 +2608,8 @@ class Array(_Numbers, _Arithmetic[Any]):
     def mean(self, axis: int | None = None, dtype: None = None, out: None = None) -> Any:
         """The mean of the values, of all or along an axis: the exact mean, rounded once. There is none of no values.
 
-        >>> half.array([65504, 65504, 65472]).mean(), e4m3fn.array([0.5, -1, 2, 3, -4, 0.25]).mean()
-        (half('65504.0'), e4m3fn('0.125'))
+        >>> half.array([65504, 65504, 65472]).mean(), float(e4m3fn.array([0.5, -1, 2, 3, -4, 0.25]).mean())
+        (half('65504.0'), 0.125)
         """
         _none_given(dtype, out)
         rows, shape = self._rows(axis)
