@@ -17,7 +17,7 @@ use Rattle.apfloat_model.specs.rounding.Outcome.{Outcome}
 use Rattle.exact_reductions.specs.Reductions.{IsReducible, IsTotal, Tally, joined, magnitude_of, magnitude_terms}
 use Rattle.exact_reductions.specs.Reductions.{no_terms, product_terms, tally, tally_of, value_terms}
 use Rattle.exact_reductions.proofs.Laws.{total_once}
-use Rattle.exact_reductions.proofs.Tallies.{last_step, none_joined, product_one, step, value_one}
+use Rattle.exact_reductions.proofs.Tallies.{IsUnderWay, all_done, none_joined, one_done, product_one, value_one}
 use Rattle.formats_at_run_time.specs.declared.BuiltInFormat.{BuiltInFormat}
 use Rattle.formats_at_run_time.specs.declared.BuiltInFormat.TheVariants.{Half, Single, Double, Quad, BFloat, E5M2}
 use Rattle.formats_at_run_time.specs.declared.BuiltInFormat.TheVariants.{E4M3FN, E4M3FNUZ, X87, E4M3, E5M2FNUZ}
@@ -164,6 +164,13 @@ added_none c reduction width xs ys count done is =
           ∙ ap (λ (n : ℕ). rest c reduction width xs ys 0 n) all;
     }
 
+under_way : (c : Constants) (reduction : Reduction) (width : ℕ) (xs ys : List ℕ) (count index : ℕ) (done : Tally)
+    → IsAdded c reduction width xs ys count index done
+    → IsUnderWay no_terms done (rest c reduction width xs ys 0 count)
+    (rest c reduction width xs ys index (count - index)) index
+under_way c reduction width xs ys count index done so_far =
+    record { terms = so_far.terms; total = so_far.total ∙ sym (none_joined (rest c reduction width xs ys 0 count)) }
+
 pub added_more : (c : Constants) (reduction : Reduction) (width : ℕ) (xs ys : List ℕ) (count index x y : ℕ)
     (done next : Tally) → index < count → x ≡ number_of (value_at width index xs)
     → y ≡ number_of (value_at width index ys) → next ≡ joined done (tally_of (term_of reduction c x y))
@@ -177,11 +184,11 @@ added_more c reduction width xs ys count index x y done next before x_is y_is ad
     ∙ rest_next c reduction width xs ys index (count - (index + 1)) in
     let is : next ≡ joined done (term_at c reduction width xs ys index) =
     subst₂ (λ (m : ℕ) (n : ℕ). next ≡ joined done (tally_of (term_of reduction c m n))) x_is y_is added in
-    let more : next.terms ≡ done.terms + (tally_of (term_of reduction c x y)).terms =
-    ap (λ (t : Tally). t.terms) added in
-    let one = term_one c reduction x y in
-    let terms = so_far.terms in
-    record { terms = omega (arith, more, one, terms); total = step _ _ _ _ _ _ so_far.total here is }
+    let one = term_one c reduction (number_of (value_at width index xs)) (number_of (value_at width index ys)) in
+    let all : Tally = rest c reduction width xs ys 0 count in
+    let more = one_done no_terms done next all _ after _ index
+    (under_way c reduction width xs ys count index done so_far) here is one in
+    record { terms = more.terms; total = more.total ∙ none_joined all }
 
 -- ---- the sum
 
@@ -201,9 +208,12 @@ all_added c reduction mode width xs ys count index done value status past added 
     let left : count - index ≡ 0 = omega (arith, past) in
     let none : rest c reduction width xs ys index (count - index) ≡ no_terms =
     ap (λ (n : ℕ). rest c reduction width xs ys index n) left ∙ rest_none c reduction width xs ys index in
+    let whole : done ≡ rest c reduction width xs ys 0 count =
+    all_done no_terms done _ _ index (under_way c reduction width xs ys count index done added) none
+    ∙ none_joined (rest c reduction width xs ys 0 count) in
     of_terms reduction (format_with c) mode (values_from c width xs 0 count) (values_from c width ys 0 count) value
     status
-    (subst (λ (t : Tally). IsTotal (format_with c) mode t value status) (last_step done _ _ added.total none) is)
+    (subst (λ (t : Tally). IsTotal (format_with c) mode t value status) whole is)
 
 -- ---- one answer
 
