@@ -169,7 +169,9 @@ under_way : (c : Constants) (reduction : Reduction) (width : ℕ) (xs ys : List 
     → IsUnderWay no_terms done (rest c reduction width xs ys 0 count)
     (rest c reduction width xs ys index (count - index)) index
 under_way c reduction width xs ys count index done so_far =
-    record { terms = so_far.terms; total = so_far.total ∙ sym (none_joined (rest c reduction width xs ys 0 count)) }
+    let terms : done.terms ≡ index = so_far.terms in
+    let counted : done.terms ≡ 0 + index = omega (arith, terms) in
+    record { terms = counted; total = so_far.total ∙ sym (none_joined (rest c reduction width xs ys 0 count)) }
 
 pub added_more : (c : Constants) (reduction : Reduction) (width : ℕ) (xs ys : List ℕ) (count index x y : ℕ)
     (done next : Tally) → index < count → x ≡ number_of (value_at width index xs)
@@ -188,7 +190,8 @@ added_more c reduction width xs ys count index x y done next before x_is y_is ad
     let all : Tally = rest c reduction width xs ys 0 count in
     let more = one_done no_terms done next all _ after _ index
     (under_way c reduction width xs ys count index done so_far) here is one in
-    record { terms = more.terms; total = more.total ∙ none_joined all }
+    let counted : next.terms ≡ 0 + (index + 1) = more.terms in
+    record { terms = omega (arith, counted); total = more.total ∙ none_joined all }
 
 -- ---- the sum
 
