@@ -306,9 +306,6 @@ pub mod commands {
             TenS(10: 5) {
                 NONFINITE_BEHAVIOR: NonfiniteBehavior = NonfiniteBehavior::NanOnly;
             }
-            HalfTinyBeforeS(16: 5) {
-                TINY_BEFORE_ROUNDING: bool = true;
-            }
             FusedLimitS(72: 9) {}
             X87SingleS(40: 15) {
                 PRECISION: usize = 24;

@@ -181,19 +181,6 @@ pub mapped_array : (known : Result MapCall ℕ) (map : MapCall) (xs ys zs old ne
 mapped_array known map xs ys zs old new before after is mapped =
     subst (λ (k : Result MapCall ℕ). IsMappedArray k xs ys zs old new before after 0) (sym is) (refl, mapped)
 
-pub refused_conversion : (known : Result KnownConversion ℕ) (error : ℕ) (given old : List ℕ)
-    (answer : ArrayAnswer)
-    → known ≡ Err error → IsConvertedArray known given old old answer answer error
-refused_conversion known error given old answer is =
-    subst (λ (k : Result KnownConversion ℕ). IsConvertedArray k given old old answer answer error) (sym is)
-    (refl, refl, refl)
-
-pub refused_map : (known : Result MapCall ℕ) (error : ℕ) (xs ys zs old : List ℕ) (answer : ArrayAnswer)
-    → known ≡ Err error → IsMappedArray known xs ys zs old old answer answer error
-refused_map known error xs ys zs old answer is =
-    subst (λ (k : Result MapCall ℕ). IsMappedArray k xs ys zs old old answer answer error) (sym is)
-    (refl, refl, refl)
-
 -- a conversion with the widths in a variable leaves the array converted
 pub conversion_left : (known : Result KnownConversion ℕ) (conversion : KnownConversion) (widths : Widths)
     (given old front : List ℕ) (counts : Counts) (before after : ArrayAnswer)

@@ -119,13 +119,6 @@ scale_in_span shape =
     let b = span_is shape in
     omega (arith, ints, a, b, shape.parameters)
 
--- a significand of a shape is below 2 ^ 125
-pub significand_small : (shape : Shape) (m : ℕ) → m < 2 ^ shape.precision → m < 2 ^ 125
-significand_small shape m f =
-    let l = shape.parameters.precision_high in
-    let a : 2 ^ shape.precision ≤ 2 ^ 125 = pow-le-pow_right two_pos l in
-    omega (arith, a, f)
-
 -- a stored number represents its quanta
 pub number_of : (shape : Shape) (m : ℕ) (e : ℤ) (n : ℕ) → IsOperandAt shape.precision shape.min_exp shape.max_exp m e
     → IsQuantaAt shape.min_exp m e n → n ≤ largest (format_at shape) → IsNormalAt shape m e

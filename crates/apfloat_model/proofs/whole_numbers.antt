@@ -1,2 +1,3 @@
 pub mod SignedNumbers
 pub mod SignedTests
+pub mod SignedProducts

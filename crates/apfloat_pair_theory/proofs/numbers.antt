@@ -1,5 +1,4 @@
 pub mod Signed
-pub mod SignedProducts
 pub mod Nearest
 pub mod Roundings
 pub mod TwoSums

@@ -309,13 +309,6 @@ folded_rest s word places upper some half l u z o h =
     ∙ ap (λ (x : ℕ). loss_at x (2 ^ (places - word - 1) * 2 ^ word)) (sym a)
     ∙ ap (λ (x : ℕ). loss_at (s % 2 ^ places) x) (sym p)
 
--- the folded rest is below `2 * half`
-pub folded_below : (n k upper some half : ℕ) → upper ≡ n % 2 ^ k → some ≤ 1 → half ≡ 2 ^ k
-    → 2 * upper + some < 2 * half
-folded_below n k upper some half u o h =
-    let m : n % 2 ^ k < 2 ^ k = mod_below n (2 ^ k) (pow_pos k) in
-    omega (arith, m, u, o, h)
-
 -- cutting off a word, then the remaining places, cuts off all the places
 pub upper_kept : (s word places : ℕ) → word < places → s / 2 ^ word / 2 ^ (places - word) ≡ s / 2 ^ places
 upper_kept s word places l =

@@ -77,11 +77,6 @@ pub fitting : (width : ℕ) (machine : Machine) (operation : MachineOperation) (
     → IsLeftBy (operation_fault_in width machine operation) Holds old new code
 fitting width machine operation Holds old new code e left = rw e left
 
-pub too_wide : (width : ℕ) (machine : Machine) (operation : MachineOperation) (Holds : Answer → Type 0)
-    (old : Answer) → operands_fit width operation ≡ false
-    → IsLeftBy (operation_fault_in width machine operation) Holds old old wide_operand
-too_wide width machine operation Holds old e = rw e (refl, refl)
-
 -- ---- results of numbers
 
 of_numbers : (c : Constants) (machine : Machine) (arithmetic : Arithmetic) (mode : Round) (b d : Bool) (m n : ℕ)
@@ -150,19 +145,6 @@ divisor_read c bits negative quanta fitting read some =
 
 some_quanta : (significand places : ℕ) → 0 < significand → 0 < significand * 2 ^ places
 some_quanta significand places some = mul-lt 0 0 significand (2 ^ places) some (pow_pos places)
-
--- a normal number whose exponent is not the greatest
-pub normal_is_divisor : (c : Constants) (bits biased : ℕ) → c.explicit_integer_bit ≡ false
-    → fits c.bits bits ≡ true → biased ≡ (fields_of (format_with c) (layout_with c) bits).biased_exponent
-    → 0 < biased → biased + 1 < 2 ^ c.exp_bits → is_divisor c bits ≡ true
-normal_is_divisor c bits biased implied fitting is some few =
-    let x = fields_of (format_with c) (layout_with c) bits in
-    let full : 0 < 2 ^ (c.precision - 1) + x.trailing =
-    let power = pow_pos (c.precision - 1) in omega (arith, power) in
-    divisor_read c bits x.negative (quanta_with c.precision x.biased_exponent x.trailing) fitting
-    (number_read c bits implied (subst (λ (n : ℕ). 0 < n) is some)
-    (subst (λ (n : ℕ). n + 1 < 2 ^ c.exp_bits) is few))
-    (some_quanta (2 ^ (c.precision - 1) + x.trailing) (x.biased_exponent - 1) full)
 
 written_of_fields : (f : Format) (layout : Layout) (negative : Bool) (biased trailing : ℕ) → eqb biased 0 ≡ false
     → eqb biased (all_ones layout.exponent_bits) ≡ false → leb (smallest_normalized f) trailing ≡ true
@@ -331,8 +313,3 @@ pub conversion_known : (kind : Option FlaggedKind) (target : MachineFormat) (x :
     → option_and_then machine_format kind ≡ Some target → conversion_call kind x ≡ Ok (Conversion x target)
 conversion_known None target x f = cc
 conversion_known (Some kind) target x f = rw f refl
-
--- only a fused sum has a third operand
-pub third_unused : (code to x y z w : ℕ) → eqb code 7 ≡ false
-    → machine_call code to x y z ≡ machine_call code to x y w
-third_unused code to x y z w e = rw e refl

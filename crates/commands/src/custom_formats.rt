@@ -5,7 +5,6 @@
 mod broad;
 mod deep;
 mod fused_limit;
-mod half_tiny_before;
 mod least;
 mod least_finite;
 mod precise;
@@ -19,7 +18,6 @@ mod x87_single;
 pub use broad::{Broad, BroadS};
 pub use deep::{Deep, DeepS};
 pub use fused_limit::{FusedLimit, FusedLimitS};
-pub use half_tiny_before::HalfTinyBeforeS;
 pub use least::{Least, LeastS};
 pub use least_finite::{LeastFinite, LeastFiniteS};
 pub use precise::{Precise, PreciseS};

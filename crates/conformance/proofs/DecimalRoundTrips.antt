@@ -9,12 +9,6 @@ use Rattle.apfloat_decimals.specs.declared.decimal.Decimal.{Decimal}
 use Rattle.apfloat_decimals.specs.ReadBack.{is_written_whole, written}
 use Rattle.apfloat_decimals.specs.ShortestSearch.{GivesShortest}
 
--- a value without a shortest decimal is not finite
-pub none_finite : (f : Format) (x : Datum) → GivesShortest f x None → is_finite x ≡ false
-none_finite f (finite b n) h = absurd h
-none_finite f (infinite b) h = refl
-none_finite f (nan b s) h = refl
-
 -- the text of a decimal has its sign
 pub written_sign : (x : Decimal) → (written x).negative ≡ x.negative
 written_sign x =

@@ -16,7 +16,7 @@ use Rattle.rustc_apfloat.specs.PairFormats.{double}
 use Rattle.rustc_apfloat.specs.Pairs.{Pair, alone, pair_of, pair_number}
 use Rattle.rustc_apfloat.specs.PairAccuracy.{sum_reach, HasZeroLow, IsExactPair, IsClosePair, IsErrorFreeSum, IsAccurateSum}
 use Rattle.apfloat_pair_theory.proofs.numbers.Signed.{magnitude_le, first_most}
-use Rattle.apfloat_pair_theory.proofs.numbers.SignedProducts.{times_one}
+use Rattle.apfloat_model.proofs.whole_numbers.SignedProducts.{times_one}
 use Rattle.apfloat_pair_theory.proofs.pairs.LawOperands.{magnitude_quanta, normalised_low, double_alone}
 use Rattle.apfloat_pair_theory.proofs.sums.PairSumLaws.{single_normalised}
 use Rattle.conformance.specs.Summands.{reach_of_three, IsPlainSummand}

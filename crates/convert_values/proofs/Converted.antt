@@ -19,14 +19,6 @@ total_push before (first ∷ parts) part = total_push (sum_of before first) part
 abbrev IsOneOf : BlockConversion → List ℕ → ℕ → List ℕ → Counts → Type 0
 IsOneOf q read index bytes part = IsConverted q (value_at (block_widths q).source index read) bytes part
 
-pub converted_none : (q : BlockConversion) (read written : List ℕ)
-    → AreBlocksConverted q 0 read written no_counts
-converted_none q read written = record {
-  parts = [];
-  places = places_none (IsOneOf q read) (block_widths q).target written;
-  counted = refl;
-}
-
 -- one more block
 pub converted_more : (q : BlockConversion) (index count : ℕ) (read written new : List ℕ) (counts part : Counts)
     → index < count → length written ≡ count * (block_widths q).target → length new ≡ (block_widths q).target

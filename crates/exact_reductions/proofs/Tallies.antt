@@ -225,11 +225,6 @@ not_infinite : (test : Bool) → (if test then Zero else Normal) ≡ Infinity �
 not_infinite true e = cc
 not_infinite false e = cc
 
-pub infinite_kind : (f : Format) (x : Datum) → category_of x ≡ Infinity → IsMember f x → f.nonfinite ≡ IEEE754
-infinite_kind f (finite b n) e h = absurd (not_infinite (eqb n 0) e)
-infinite_kind f (infinite b) e h = h
-infinite_kind f (nan b s) e h = absurd cc
-
 pub infinite_tally : (x : Datum) (flags : ℕ) → category_of x ≡ Infinity
     → special_tally x flags
     ≡ record no_terms { terms = 1; positive_infinity = not (is_negative x); negative_infinity = is_negative x }

@@ -94,6 +94,12 @@ impl Write for Failing {
     }
 }
 
+/// The first bytes of a text, as many as there is room for.
+fn that_fit(text: &str, room: usize) -> &[u8] {
+    let bytes = text.as_bytes();
+    &bytes[..bytes.len().min(room)]
+}
+
 /// Asserts that a run on writers with limited room writes the first bytes of `on_out` and of `on_err` that fit, and
 /// returns the status, or 1 if not all fit.
 fn expect_first_bytes<R: Abort + AllocGlobal>(
@@ -111,8 +117,8 @@ fn expect_first_bytes<R: Abort + AllocGlobal>(
     let got = (answered, out.taken.as_slice(), err.taken.as_slice());
     let expected = (
         wanted,
-        &on_out.as_bytes()[..on_out.len().min(out_room)],
-        &on_err.as_bytes()[..on_err.len().min(err_room)],
+        that_fit(on_out, out_room),
+        that_fit(on_err, err_room),
     );
     same(rt, got, expected, (command, out_room, err_room));
     Ok(())

@@ -71,33 +71,66 @@ fn changes_sets(rt: HostRuntime) {
     same(&rt, got, [0x1c, 0x0c, 0x18, 0x19, 0x11], "changes");
 }
 
+/// The bits of two statuses combined by each operator, and those of the complement of the first.
+fn combined(x: Status, y: Status) -> [u8; 5] {
+    [
+        (x | y).bits(),
+        (x & y).bits(),
+        (x ^ y).bits(),
+        (x - y).bits(),
+        (!x).bits(),
+    ]
+}
+
+/// In the second case the statuses share a flag and each has one of its own, so no two operators give the same result.
 #[test]
 fn combines_by_operators(rt: HostRuntime) {
-    let overflowed = overflowed();
     let underflowed = Status::UNDERFLOW | Status::INEXACT;
-    let got = [
-        underflowed.bits(),
-        (overflowed | underflowed).bits(),
-        (overflowed & underflowed).bits(),
-        (overflowed ^ underflowed).bits(),
-        (overflowed - underflowed).bits(),
-        (!overflowed).bits(),
+    let left = Status::INVALID_OP | Status::INEXACT;
+    let right = Status::INEXACT | Status::OVERFLOW;
+    let operands = [underflowed.bits(), left.bits(), right.bits()];
+    let got = [combined(overflowed(), underflowed), combined(left, right)];
+    let expected = [
+        [0x1c, 0x10, 0x0c, 0x04, 0x0b],
+        [0x15, 0x10, 0x05, 0x01, 0x0e],
     ];
-    same(&rt, got, [0x18, 0x1c, 0x10, 0x0c, 0x04, 0x0b], "operators");
+    same(
+        &rt,
+        (operands, got),
+        ([0x18, 0x11, 0x14], expected),
+        "operators",
+    );
+}
+
+/// The bits of a status after each of the assigning operators.
+fn assigned(first: Status, [or, and, xor, sub]: [Status; 4]) -> [u8; 4] {
+    let mut status = first;
+    status |= or;
+    let joined = status.bits();
+    status &= and;
+    let common = status.bits();
+    status ^= xor;
+    let in_one = status.bits();
+    status -= sub;
+    [joined, common, in_one, status.bits()]
 }
 
 #[test]
 fn changes_by_operators(rt: HostRuntime) {
-    let mut status = overflowed();
-    status |= Status::UNDERFLOW;
-    let joined = status.bits();
-    status &= Status::UNDERFLOW | Status::INEXACT | Status::INVALID_OP;
-    let common = status.bits();
-    status ^= Status::INEXACT | Status::INVALID_OP;
-    let in_one = status.bits();
-    status -= Status::UNDERFLOW | Status::DIV_BY_ZERO;
-    let got = [joined, common, in_one, status.bits()];
-    same(&rt, got, [0x1c, 0x18, 0x09, 0x01], "operators");
+    let invalid = Status::INEXACT | Status::INVALID_OP;
+    let others = [
+        Status::UNDERFLOW,
+        Status::UNDERFLOW | invalid,
+        invalid,
+        Status::UNDERFLOW | Status::DIV_BY_ZERO,
+    ];
+    let right = overflowed();
+    let got = [
+        assigned(right, others),
+        assigned(invalid, [right, right, invalid, right]),
+    ];
+    let expected = [[0x1c, 0x18, 0x09, 0x01], [0x15, 0x14, 0x05, 0x01]];
+    same(&rt, got, expected, "operators");
 }
 
 /// A larger value does not outweigh a smaller status.

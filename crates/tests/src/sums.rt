@@ -63,44 +63,30 @@ fn like_exponents(rt: HostRuntime) {
     same(&rt, got, expected, "totals");
 }
 
-#[test]
-fn less_the_lower(rt: HostRuntime) {
-    let got = [
-        less(7, 0x100, 3, 0x100),
-        less(7, 0x100, 3, 0x101),
-        less(7, 0x100, 3, 0x1000),
-        less(7, 0x100, 3, 0x1001),
-        less(7, 0x100, 3, 0x10000),
-        less(7, 0x100, 3, 0x10001),
-    ];
-    let expected = [
-        (false, 6, 0x1e0, 'Z'),
-        (false, 6, 0x1df, 'M'),
-        (false, 6, 0, 'Z'),
-        (true, 6, 0, 'L'),
-        (true, 6, 0x1e00, 'Z'),
-        (true, 6, 0x1e00, 'L'),
-    ];
-    same(&rt, got, expected, "totals");
+/// The difference of 0x100 at exponent 7 and `y` at exponent 3, and that of both the other way round.
+fn both_ways(y: u128) -> [Plain; 2]
+    requires { y < 2 ^ 17 }
+{
+    [less(7, 0x100, 3, y), less(3, y, 7, 0x100)]
 }
 
 #[test]
-fn less_the_higher(rt: HostRuntime) {
+fn unlike_exponents(rt: HostRuntime) {
     let got = [
-        less(3, 0x100, 7, 0x100),
-        less(3, 0x101, 7, 0x100),
-        less(3, 0x1000, 7, 0x100),
-        less(3, 0x1001, 7, 0x100),
-        less(3, 0x10000, 7, 0x100),
-        less(3, 0x10001, 7, 0x100),
+        both_ways(0x100),
+        both_ways(0x101),
+        both_ways(0x1000),
+        both_ways(0x1001),
+        both_ways(0x10000),
+        both_ways(0x10001),
     ];
     let expected = [
-        (true, 6, 0x1e0, 'Z'),
-        (true, 6, 0x1df, 'M'),
-        (false, 6, 0, 'Z'),
-        (false, 6, 0, 'L'),
-        (false, 6, 0x1e00, 'Z'),
-        (false, 6, 0x1e00, 'L'),
+        [(false, 6, 0x1e0, 'Z'), (true, 6, 0x1e0, 'Z')],
+        [(false, 6, 0x1df, 'M'), (true, 6, 0x1df, 'M')],
+        [(false, 6, 0, 'Z'), (false, 6, 0, 'Z')],
+        [(true, 6, 0, 'L'), (false, 6, 0, 'L')],
+        [(true, 6, 0x1e00, 'Z'), (false, 6, 0x1e00, 'Z')],
+        [(true, 6, 0x1e00, 'L'), (false, 6, 0x1e00, 'L')],
     ];
     same(&rt, got, expected, "totals");
 }

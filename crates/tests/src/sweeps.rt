@@ -5,6 +5,8 @@ mod agreements;
 #[cfg(test)]
 mod bits;
 #[cfg(test)]
+mod calls;
+#[cfg(test)]
 mod comparison;
 #[cfg(test)]
 mod constants;

@@ -66,11 +66,17 @@ static ENDLESS: [(&str, u64, &str, (u128, ExpInt, Status)); 5] = [
     ("0x1p+", 99, "1", (0x400, 1, Status::OK)),
 ];
 
-/// A text with this many zeros.
-fn with_zeros(alloc: Global, start: &str, zeros: u64, end: &str) -> Result<String, AllocError> {
+/// A text with a part that is repeated.
+pub fn repeated(
+    alloc: Global,
+    start: &str,
+    part: &str,
+    count: u64,
+    end: &str,
+) -> Result<String, AllocError> {
     let mut text = String::from_str(alloc, start)?;
-    for _ in 0..zeros {
-        text.push('0')?;
+    for _ in 0..count {
+        text.push_str(part)?;
     }
     text.push_str(end)?;
     Ok(text)
@@ -79,7 +85,7 @@ fn with_zeros(alloc: Global, start: &str, zeros: u64, end: &str) -> Result<Strin
 #[test]
 fn reads_endless_texts(rt: HostRuntime) -> Result<(), Fail> {
     for (start, zeros, end, wanted) in &ENDLESS {
-        let text = with_zeros(rt.alloc(), *start, *zeros, *end)?;
+        let text = repeated(rt.alloc(), *start, "0", *zeros, *end)?;
         same(&rt, read_up(text.as_str()), Ok(*wanted), (*start, *end));
     }
     Ok(())

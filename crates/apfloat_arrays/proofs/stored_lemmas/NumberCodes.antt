@@ -22,42 +22,6 @@ use Rattle.apfloat_arrays.proofs.stored_lemmas.Numbers.{number_read}
 
 -- ---- the formats
 
-e2m1fn_largest : (negative : Bool) → largest_code E2M1FN negative ≡ cond negative (2 ^ 3) 0 + (2 ^ 3 - 1)
-e2m1fn_largest true = refl
-e2m1fn_largest false = refl
-
-pub e2m1fn_has : HasConstants E2M1FN e2m1fn_constants
-e2m1fn_has = record {
-  into = λ f mode x code status loses h. h;
-  bits = refl;
-  largest = e2m1fn_largest;
-  no_nans = λ code. refl;
-}
-
-e2m3fn_largest : (negative : Bool) → largest_code E2M3FN negative ≡ cond negative (2 ^ 5) 0 + (2 ^ 5 - 1)
-e2m3fn_largest true = refl
-e2m3fn_largest false = refl
-
-pub e2m3fn_has : HasConstants E2M3FN e2m3fn_constants
-e2m3fn_has = record {
-  into = λ f mode x code status loses h. h;
-  bits = refl;
-  largest = e2m3fn_largest;
-  no_nans = λ code. refl;
-}
-
-e3m2fn_largest : (negative : Bool) → largest_code E3M2FN negative ≡ cond negative (2 ^ 5) 0 + (2 ^ 5 - 1)
-e3m2fn_largest true = refl
-e3m2fn_largest false = refl
-
-pub e3m2fn_has : HasConstants E3M2FN e3m2fn_constants
-e3m2fn_has = record {
-  into = λ f mode x code status loses h. h;
-  bits = refl;
-  largest = e3m2fn_largest;
-  no_nans = λ code. refl;
-}
-
 -- ---- overflow
 
 either_way : (b : Bool) (code largest : ℕ) → code ≡ largest → code ≡ cond b largest code

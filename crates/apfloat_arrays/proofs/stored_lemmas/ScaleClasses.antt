@@ -9,10 +9,6 @@ use Rattle.small_formats.specs.saturation.Saturation.{class_of}
 abbrev scale_if : Bool → ℕ → Datum
 scale_if none code = if none then nan false 0 else finite false (2 ^ code)
 
-nan_if : (none : Bool) (code : ℕ) → none ≡ is_nan (scale_if none code)
-nan_if true code = refl
-nan_if false code = refl
-
 class_nan_if : (none : Bool) (code : ℕ) → none ≡ true → NotANumber ≡ class_of (scale_if none code)
 class_nan_if true code e = refl
 class_nan_if false code e = cc
@@ -24,9 +20,6 @@ class_number_if false code e = refl
 sign_if : (none : Bool) (code : ℕ) → is_negative (scale_if none code) ≡ false
 sign_if true code = refl
 sign_if false code = refl
-
-pub scale_nan : (code : ℕ) → eqb code 255 ≡ is_nan (scale_of code)
-scale_nan code = nan_if (eqb code 255) code
 
 pub scale_class_nan : (code : ℕ) → eqb code 255 ≡ true → NotANumber ≡ class_of (scale_of code)
 scale_class_nan code e = class_nan_if (eqb code 255) code e

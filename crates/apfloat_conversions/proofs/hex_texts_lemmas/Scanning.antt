@@ -34,27 +34,7 @@ unmoved : (left : List ℕ) → begins is_digit_or_dot left ≡ false → after_
 unmoved [] h = refl
 unmoved (c ∷ left) h = rw h refl
 
--- if no dot is left to read, a significand has at most one
-one_at_most : (pointed : Bool) → ltb 1 ((if pointed then 1 else 0) + 0) ≡ false
-one_at_most true = refl
-one_at_most false = refl
-
 -- if nothing is left to read, no place after the dot is added
 no_more : (pointed : Bool) (places : ℕ) → places + (if pointed then 0 else 0) ≡ places
 no_more true places = omega arith
 no_more false places = omega arith
-
--- a scan that reaches the end of the digits and dots is the scan of the significand
-pub scan_ended : (rest left : List ℕ) (scan : Scan) → IsScan rest left scan → begins is_digit_or_dot left ≡ false
-    → IsScanned rest left scan
-scan_ended rest left scan s h =
-    let e = ended left h in
-    record {
-      kept = subst (λ (n : ℕ). IsKept n scan.digits) (sym (rw e at s.number_is)) s.kept;
-      places_are = rw e at s.places_is ∙ no_more scan.pointed scan.places;
-      one_dot = ap (λ (n : ℕ). ltb 1 n) (rw e at s.dots_are) ∙ one_at_most scan.pointed;
-      empty_is = rw e at s.empty_is ∙ and-true (not scan.some);
-      tail_is = s.tail_is ∙ unmoved left h;
-      cut_fits = omega (arith, s.cut_fits);
-      places_fit = omega (arith, s.places_fit);
-    }

@@ -39,10 +39,6 @@ pub record IsShortening (fraction places digits : ℕ) : Type 0 where
   pub few : places ≤ 31
   pub same : fraction ≡ digits * 16 ^ (31 - places)
 
-pub shortening_begins : (fraction : ℕ) → IsShortening fraction 31 fraction
-shortening_begins fraction =
-    let e : fraction ≡ fraction * 1 = omega arith in record { few = omega arith; same = e }
-
 pub shortening_goes_on : (fraction places digits : ℕ) → 0 < places → digits % 16 ≡ 0
     → IsShortening fraction places digits → IsShortening fraction (places - 1) (digits / 16)
 shortening_goes_on fraction places digits some none x =

@@ -25,9 +25,6 @@ sixteens (suc p) =
     let all : 16 ^ (p + 1) ≡ 2 ^ (4 * (p + 1)) = power ∙ ap (λ (x : ℕ). x * 16) (sixteens p) ∙ sym two in
     rw add-one at all
 
-pub sixteen_pos : (places : ℕ) → 0 < 16 ^ places
-sixteen_pos places = rw (sixteens places) (pow_pos (4 * places))
-
 -- the same number with other powers of two
 pub moved : (a b c d u d' u' s t : ℕ) → a * 2 ^ d ≡ b * 2 ^ u → b * 2 ^ s ≡ c * 2 ^ t → u + d' + t ≡ u' + d + s
     → a * 2 ^ d' ≡ c * 2 ^ u'

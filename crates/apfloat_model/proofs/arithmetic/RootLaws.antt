@@ -27,35 +27,6 @@ use Rattle.apfloat_model.proofs.Once.{below_root_unique, above_root_unique, deli
 pub square_whole : (n : ℕ) → square_of n 1 ≡ n * n
 square_whole n = omega arith
 
--- a number agrees with the root of its square
-square_agrees : (root : ℕ) → AgreesWithRoot (root * root) 4 root 1
-square_agrees root = record {
-  some = omega arith;
-  less = λ n h. let k : n < root * 4 = root_lt n (root * 4) (omega arith) in omega arith;
-  same = λ n h.
-      let k : n < root * 4 + 1 = root_lt n (root * 4 + 1) (omega arith) in
-      let l : root * 4 < n + 1 = root_lt (root * 4) (n + 1) (omega arith) in
-      omega arith;
-  more = λ n h. let k : root * 4 < n = root_lt (root * 4) n (omega arith) in omega arith;
-}
-
--- what is delivered for a number is delivered for the root of its square
-pub number_is_root : (format : Format) (mode : Round) (root : ℕ) (value : Datum) (status : ℕ)
-    → IsDelivered format mode false root 1 value status → IsDeliveredRoot format mode (root * root) 1 value status
-number_is_root format mode root value status d =
-    root_delivered (root * root) 1 root 1 (square_agrees root) format mode value status d
-
--- what is delivered for the root of the square of a number is delivered for the number
-pub root_of_square : (format : Format) (mode : Round) (root : ℕ) (value : Datum) (status : ℕ)
-    → 0 < format.precision
-    → IsDeliveredRoot format mode (root * root) 1 value status → IsDelivered format mode false root 1 value status
-root_of_square format mode root value status p d =
-    let r = delivered_exists format mode false root 1 p (omega arith) in
-    let e = delivered_root_once format mode (root * root) 1 r.0 value r.1.0 status
-    (number_is_root format mode root r.0 r.1.0 r.1.1) d in
-    subst (λ (v : Datum). IsDelivered format mode false root 1 v status) e.0
-    (subst (λ (s : ℕ). IsDelivered format mode false root 1 r.0 s) e.1 r.1.1)
-
 -- ---- no root is halfway between two neighbours
 
 -- the neighbours of a root: a significand at some place, and either the same or the next one

@@ -58,20 +58,6 @@ sum_zeros format mode true false = zero_delivered format mode _ 1 0 (lit< tt) re
 sum_zeros format mode false true = zero_delivered format mode _ 1 0 (lit< tt) refl
 sum_zeros format mode false false = zero_delivered format mode _ 1 0 (lit< tt) refl
 
--- a product with a zero factor
-pub product_zero : (format : Format) (mode : Round) (left right : Bool) (m n : ℕ) → m * n ≡ 0
-    → IsProduct format mode (finite left m) (finite right n)
-    (finite (zero_sign format.nonfinite (product_sign left right)) 0) ok_bits
-product_zero format mode b c m n e = zero_delivered format mode (product_sign b c) (2 ^ format.scale) (m * n)
-    (pow_pos format.scale) e
-
--- a zero divided by a nonzero number
-pub quotient_zero : (format : Format) (mode : Round) (left right : Bool) (n : ℕ) → 0 < n
-    → IsQuotient format mode (finite left 0) (finite right n)
-    (finite (zero_sign format.nonfinite (product_sign left right)) 0) ok_bits
-quotient_zero format mode b c n h =
-    rw (not_zero n h) (zero_delivered format mode (product_sign b c) n (0 * 2 ^ format.scale) h (omega arith))
-
 -- a zero times a power of two
 pub scaling_zero : (format : Format) (mode : Round) (negative : Bool) (j : ℤ)
     → IsScaling format mode (finite negative 0) j (finite (zero_sign format.nonfinite negative) 0)
@@ -88,54 +74,3 @@ fused_zero_finite format mode b c d l m n e h i =
     zero_and (product_sign b c) (signed d (n * 2 ^ format.scale)) in
     rounded_signed format mode _ d (n * 2 ^ format.scale) (2 ^ format.scale) _ _ _ z (mul-pos h p)
     (itself format mode d n (2 ^ format.scale) (n * 2 ^ format.scale) p h refl i)
-
--- the sum of two zeros, in any unit
-fused_zeros_at : (format : Format) (mode : Round) (product addend of_zero : Bool) (amount parts : ℕ) → amount ≡ 0
-    → 0 < parts
-    → IsRounded format mode of_zero (signed product amount +ℤ signed addend (0 * parts)) parts
-    (finite (zero_sign format.nonfinite of_zero) 0) ok_bits
-fused_zeros_at format mode b d o amount parts e p =
-    let z : signed b amount +ℤ signed d (0 * parts) ≡ pos 0 = ap (λ (x : ℕ). signed b x +ℤ signed d (0 * parts)) e ∙
-    zero_and b (signed d (0 * parts)) ∙ ap (λ (x : ℕ). signed d x) (omega arith) ∙ no_sign d in
-    subst (λ (x : ℤ). IsRounded format mode o x parts (finite (zero_sign format.nonfinite o) 0) ok_bits) (sym z)
-    (zero_delivered format mode o parts 0 p refl)
-
--- a product that is zero, plus a zero
-pub fused_zeros : (format : Format) (mode : Round) (left right addend : Bool) (l m : ℕ) → l * m ≡ 0
-    → IsFusedSum format mode (finite left l) (finite right m) (finite addend 0)
-    (finite (zero_sign format.nonfinite (zero_sum_sign mode (product_sign left right) addend)) 0) ok_bits
-fused_zeros format mode b c d l m e =
-    fused_zeros_at format mode (product_sign b c) d _ (l * m) (2 ^ format.scale) e (pow_pos format.scale)
-
--- ---- a right operand that is a NaN, and a left one that is not
-
--- what holds of numbers and of infinities holds of each datum that is not a NaN
-unless_nan : (P : Datum → Type 0) (x : Datum) → is_nan x ≡ false → ((b : Bool) (m : ℕ) → P (finite b m))
-    → ((b : Bool) → P (infinite b)) → P x
-unless_nan P (finite b m) e p q = p b m
-unless_nan P (infinite b) e p q = q b
-unless_nan P (nan b s) e p q = cc
-
-module _ (format : Format) (mode : Round) (negative : Bool) (t : ℕ) (value : Datum) (status : ℕ)
-    (is : IsOfNan format negative t value status) where
-  -- each of these operations returns the result for the NaN
-  pub sum_right_nan : (x : Datum) → is_nan x ≡ false → IsSum format mode x (nan negative t) value status
-  sum_right_nan x e =
-      unless_nan (λ y. IsSum format mode y (nan negative t) value status) x e (λ b m. is) (λ b. is)
-
-  pub difference_right_nan : (x : Datum) → is_nan x ≡ false → IsDifference format mode x (nan negative t) value status
-  difference_right_nan x e =
-      unless_nan (λ y. IsDifference format mode y (nan negative t) value status) x e (λ b m. is) (λ b. is)
-
-  pub product_right_nan : (x : Datum) → is_nan x ≡ false → IsProduct format mode x (nan negative t) value status
-  product_right_nan x e =
-      unless_nan (λ y. IsProduct format mode y (nan negative t) value status) x e (λ b m. is) (λ b. is)
-
-  pub quotient_right_nan : (x : Datum) → is_nan x ≡ false → IsQuotient format mode x (nan negative t) value status
-  quotient_right_nan x e =
-      unless_nan (λ y. IsQuotient format mode y (nan negative t) value status) x e (λ b m. is) (λ b. is)
-
-  pub remainder_right_nan : (quotient : ℕ → ℕ → ℕ) (x : Datum) → is_nan x ≡ false
-      → IsRemainder format quotient x (nan negative t) value status
-  remainder_right_nan quotient x e =
-      unless_nan (λ y. IsRemainder format quotient y (nan negative t) value status) x e (λ b m. is) (λ b. is)

@@ -151,17 +151,6 @@ parted P (x ∷ xs) h p =
     take_all (length xs) xs (omega arith) in
     subst (λ (l : List ℕ). P (x ∷ l)) (sym t) p
 
--- a list without items does not begin with one that passes a test
-pub begins_empty : (test : ℕ → Bool) (xs : List ℕ) → length xs < 1 → begins test xs ≡ false
-begins_empty test [] h = refl
-begins_empty test (x ∷ xs) h = absurd (omega (arith, h))
-
--- a list whose first item fails a test does not begin with one that passes
-pub begins_first : (test : ℕ → Bool) (xs : List ℕ) → 1 ≤ length xs → test (get_or xs 0 0) ≡ false
-    → begins test xs ≡ false
-begins_first test [] h e = refl
-begins_first test (x ∷ xs) h e = e
-
 -- ---- lists with items
 
 -- a list with an item is not empty

@@ -81,13 +81,6 @@ delivered_inexactly format mode negative amount parts p v s i a n w d =
 
 -- ---- exact, or not
 
--- either nothing was lost or something was
-pub loss_cases : (loss : Loss) → (loss ≡ ExactlyZero) ⊎ (loss ≡ ExactlyZero → ⊥)
-loss_cases ExactlyZero = inl refl
-loss_cases LessThanHalf = inr (λ e. cc)
-loss_cases ExactlyHalf = inr (λ e. cc)
-loss_cases MoreThanHalf = inr (λ e. cc)
-
 -- if nothing was lost, the pick is the magnitude
 pub exact_if : (precision : ℕ) (mode : Round) (negative : Bool) (half m c amount parts p : ℕ) (loss : Loss)
     → loss ≡ ExactlyZero → 0 < parts → IsEnclosed precision half m c amount parts

@@ -11,15 +11,6 @@ use Rattle.apfloat_model.specs.rounding.RoundingToOdd.{IsRoundedToOdd, odd_for_r
 
 -- ---- a number that is cut
 
--- if something is lost, the amount is strictly between two consecutive multiples of the unit
-stands_strictly : (q : ℕ) (loss : Loss) (amount u : ℕ) → 0 < u → (loss ≡ ExactlyZero → ⊥) → StandsFor q loss amount u
-    → (q * u < amount) × (amount < (q + 1) * u)
-stands_strictly q ExactlyZero amount u p n h = absurd (n refl)
-stands_strictly q LessThanHalf amount u p n h = let a = h.0 in let b = h.1 in (a, omega (arith, a, b))
-stands_strictly q ExactlyHalf amount zero p n h = absurd (omega arith)
-stands_strictly q ExactlyHalf amount (suc u) p n h = (omega (arith, h), omega (arith, h))
-stands_strictly q MoreThanHalf amount u p n h = let a = h.0 in let b = h.1 in (omega (arith, a, b), b)
-
 -- an even number of units below which something is lost is rounded up to the odd one
 pub raised_to_odd : (n u q : ℕ) → q * u < n → n < (q + 1) * u → q % 2 ≡ 0 → IsRoundedToOdd 1 (q + 1) n u
 raised_to_odd n u q a b e = inr (record {
@@ -96,28 +87,6 @@ to_odd_least least lower s amount u l (inl e) = inl e
 to_odd_least least lower s amount u l (inr b) =
     let m = b.long in
     inr (record { long = omega (arith, m, l); odd = b.odd; above = b.above; below = b.below })
-
--- a significand that represents an amount, with a loss, is rounded to odd by moving up if it is even
-pub lost_to_odd : (least q : ℕ) (loss : Loss) (amount u : ℕ) → least ≤ q → 0 < u
-    → (loss ≡ ExactlyZero → ⊥) → StandsFor q loss amount u
-    → (q % 2 ≡ 0 → IsRoundedToOdd least (q + 1) amount u) × (q % 2 ≡ 1 → IsRoundedToOdd least q amount u)
-lost_to_odd least q loss amount u l p n h =
-    let b = stands_strictly q loss amount u p n h in
-    let a = b.0 in
-    let t = b.1 in (
-      λ e. inr (record {
-        long = omega (arith, l);
-        odd = omega (arith, e);
-        above = omega (arith, a);
-        below = omega (arith, t);
-      }),
-      λ o. inr (record {
-        long = l;
-        odd = o;
-        above = omega (arith, a, t);
-        below = t;
-      }),
-    )
 
 -- ---- a quotient
 
@@ -212,16 +181,6 @@ to_odd_cancel least s amount u w p (inr b) =
     })
 
 -- ---- sums
-
--- the rounded number of units is at most the amount
-pub to_odd_at_most : (least s amount u : ℕ) → 0 < u → IsRoundedToOdd least s amount u → s ≤ amount
-to_odd_at_most least s amount zero p (inl e) = absurd (omega arith)
-to_odd_at_most least s amount (suc u) p (inl e) = omega (arith, e)
-to_odd_at_most least zero amount u p (inr b) = omega arith
-to_odd_at_most least (suc s) amount u p (inr b) =
-    let a = b.above in
-    let k : s * 1 ≤ s * u = mul-le-mul_left s p in
-    omega (arith, a, k)
 
 -- an even number of whole units can be added to an amount rounded to odd
 pub odd_together : (least high low j u : ℕ) → high % 2 ≡ 0 → least ≤ high → IsRoundedToOdd 1 j low u

@@ -29,27 +29,6 @@ pub kept_stayed : (mode : Round) (negative : Bool) (loss : Loss) (m : ℕ) (move
     → moved ≡ rounds_up mode negative loss (eqb (m % 2) 1) → moved ≡ false → m ≡ kept mode negative loss m
 kept_stayed mode negative loss m moved e t = ap (λ (b : Bool). cond b (m + 1) m) (sym t ∙ e)
 
--- the significand that is kept, at its place, is picked
-pub pick_stays : (precision : ℕ) (mode : Round) (negative : Bool) (half m c amount parts : ℕ) (loss : Loss) (s : ℕ)
-    → s ≡ kept mode negative loss m → 0 < parts → IsEnclosed precision half m c amount parts
-    → StandsFor m loss amount (2 ^ c * parts) → IsPick precision mode negative amount parts (s * 2 ^ c)
-pick_stays precision mode negative half m c amount parts loss s e p i h =
-    subst (λ (x : ℕ). IsPick precision mode negative amount parts (x * 2 ^ c)) (sym e)
-    (pick_is precision mode negative half m c amount parts loss p i h)
-
--- a significand that carries to the next power of two is picked as half of that, one place up
-pub pick_carries : (precision : ℕ) (mode : Round) (negative : Bool) (m c amount parts : ℕ) (loss : Loss)
-    (s whole half : ℕ) → 0 < precision → s ≡ kept mode negative loss m → s ≡ whole → whole ≡ 2 ^ precision
-    → half ≡ 2 ^ (precision - 1) → 0 < parts
-    → IsEnclosed precision (2 ^ (precision - 1)) m c amount parts → StandsFor m loss amount (2 ^ c * parts)
-    → IsPick precision mode negative amount parts (half * 2 ^ (c + 1))
-pick_carries precision mode negative m c amount parts loss s whole half l e w v k p i h =
-    let t : 2 * 2 ^ (precision - 1) ≡ 2 ^ precision = twice_half precision l in
-    let d : s ≡ 2 * half = omega arith in
-    let g : s * 2 ^ c ≡ half * 2 ^ (c + 1) = ap (λ (x : ℕ). x * 2 ^ c) d ∙ carried half c in
-    subst (λ (x : ℕ). IsPick precision mode negative amount parts x) g
-    (pick_stays precision mode negative (2 ^ (precision - 1)) m c amount parts loss s e p i h)
-
 -- ---- past the largest
 
 -- at the last place, a point is past the largest value if its significand is past the greatest

@@ -10,7 +10,7 @@ use Rattle.apfloat_model.proofs.rounding.Neighbours.{multiple_on_grid, next_on_g
 use Rattle.apfloat_model.proofs.general.Powers.{twice_half}
 use Rattle.apfloat_model.proofs.arithmetic.Signs.{magnitude_signed}
 use Rattle.apfloat_pair_theory.proofs.numbers.Signed.{grown, on_grid_as}
-use Rattle.apfloat_pair_theory.proofs.numbers.SignedProducts.{magnitude-times}
+use Rattle.apfloat_model.proofs.whole_numbers.SignedProducts.{magnitude-times}
 use Rattle.apfloat_pair_theory.proofs.numbers.Roundings.{apart, signed_exact, signed_away, IsNearestFraction}
 
 -- z quanta differ from exact / parts quanta by at most 2 ^ -precision of these plus half a quantum

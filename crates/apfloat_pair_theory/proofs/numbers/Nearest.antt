@@ -28,13 +28,6 @@ same_from_none x z h = omega (arith, ints, h, one_side (z -ℤ x), one_side (x -
 pub nearest_exact : (precision : ℕ) (x z : ℤ) → IsGridNumber precision x → IsNearest precision x z → z ≡ x
 nearest_exact precision x z g n = same_from_none x z (n.nearest x g)
 
--- a grid number is nearest to itself
-pub nearest_of_exact : (precision : ℕ) (x : ℤ) → IsGridNumber precision x → IsNearest precision x x
-nearest_of_exact precision x g = record {
-  on_grid = g;
-  nearest = λ other o. let e : magnitude (x -ℤ x) ≡ 0 = omega (arith, ints, one_side (x -ℤ x)) in omega arith;
-}
-
 -- a number no farther from x than a number below x is not below that number
 above_from : (g x z : ℤ) → g ≤ℤ x → magnitude (z -ℤ x) ≤ magnitude (g -ℤ x) → g ≤ℤ z
 above_from g x z l h = omega (arith, ints, h, one_side (z -ℤ x), one_side (g -ℤ x))

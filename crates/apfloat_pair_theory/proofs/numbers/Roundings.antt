@@ -25,7 +25,7 @@ use Rattle.apfloat_model.proofs.arithmetic.SumLaws.{signed_quanta_is}
 use Rattle.apfloat_model.proofs.rounding.ModesAgree.{either_on_grid}
 use Rattle.apfloat_model.proofs.rounding.Picks.{even_farther, even_nearer}
 use Rattle.apfloat_pair_theory.proofs.numbers.Signed.{IsGridNumber, on_grid_as}
-use Rattle.apfloat_pair_theory.proofs.numbers.SignedProducts.{difference_times, magnitude-times, times_one, signed_times}
+use Rattle.apfloat_model.proofs.whole_numbers.SignedProducts.{difference_times, magnitude-times, times_one, signed_times}
 use Rattle.apfloat_pair_theory.proofs.numbers.Nearest.{IsNearest}
 
 -- the distance of two numbers

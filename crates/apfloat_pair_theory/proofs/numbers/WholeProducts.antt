@@ -19,7 +19,7 @@ use Rattle.apfloat_model.specs.arithmetic.Products.{IsProduct}
 use Rattle.apfloat_model.specs.arithmetic.FusedSums.{IsFusedSum}
 use Rattle.apfloat_model.proofs.arithmetic.Signs.{magnitude_signed}
 use Rattle.apfloat_pair_theory.proofs.numbers.Signed.{magnitude-sub, IsMultiple, IsGridNumber, on_grid_as}
-use Rattle.apfloat_pair_theory.proofs.numbers.SignedProducts.{difference_times, neg_times, magnitude-mul, magnitude-times, signed_product, signed_times}
+use Rattle.apfloat_model.proofs.whole_numbers.SignedProducts.{difference_times, neg_times, magnitude-mul, magnitude-times, signed_product, signed_times}
 use Rattle.apfloat_pair_theory.proofs.numbers.Nearest.{IsNearest, nearest_exact, relative_error, error_at}
 use Rattle.apfloat_pair_theory.proofs.numbers.TwoSums.{positive}
 use Rattle.apfloat_pair_theory.proofs.sums.PairRoundings.{error_eighth}

@@ -23,7 +23,7 @@ use Rattle.apfloat_pair_theory.specs.PairFormats.{double, wide}
 use Rattle.apfloat_pair_theory.specs.Pairs.{Pair, pair_number, IsSplit, left_over, low_part, positive_zero}
 use Rattle.apfloat_pair_theory.specs.PairAccuracy.{IsExactPair, IsExactSplit, IsLosslessSplit}
 use Rattle.apfloat_pair_theory.proofs.numbers.Signed.{magnitude-sub, IsGridNumber, on_grid_as, IsMultiple, coarse_multiple, grid_bound}
-use Rattle.apfloat_pair_theory.proofs.numbers.SignedProducts.{times_one}
+use Rattle.apfloat_model.proofs.whole_numbers.SignedProducts.{times_one}
 use Rattle.apfloat_pair_theory.proofs.sums.PairRoundings.{error_eighth}
 use Rattle.apfloat_pair_theory.proofs.pairs.Normalised.{is_equal_by}
 use Rattle.apfloat_pair_theory.proofs.sums.ClosingSums.{wide_enough}

@@ -182,22 +182,3 @@ rest_by_steps (nan b q) high low status f s =
 -- the high part is a nonzero number, and inexact
 abbrev pub has_rest : Datum → ℕ → Bool
 has_rest high status = is_finite_non_zero high && not (eqb status ok_bits)
-
--- a split whose low part is the result of the steps
-pub split_with_rest : (x : Datum) (answer : Pair) (status : ℕ) → is_finite_non_zero answer.high ≡ true
-    → eqb status ok_bits ≡ false → IsRestBySteps x answer.high answer.low status → IsSplit x answer
-split_with_rest x answer status f e s =
-    let l = rest_by_steps x answer.high answer.low status f s in
-    record {
-      status = status;
-      loses_info = s.loses_info;
-      high_is = s.high_is;
-      low_is = rw (f, e) l;
-    }
-
--- a split with nothing left over
-pub split_alone : (x : Datum) (answer : Pair) (status : ℕ) (loses_info : Bool)
-    → IsConversion wide double NearestTiesToEven x answer.high status loses_info
-    → has_rest answer.high status ≡ false → answer.low ≡ positive_zero → IsSplit x answer
-split_alone x answer status loses_info h e z =
-    record { status = status; loses_info = loses_info; high_is = h; low_is = rw e z }

@@ -4,12 +4,3 @@ use Rattle.std.proofs.Common.{◌≡◌, ◌*◌, refl}
 use Rattle.apfloat_model.specs.formats.Lawful.{IsLawful}
 use Rattle.apfloat_model.proofs.formats.LawTest.{lawful_from_test}
 use Rattle.apfloat_pair_theory.specs.PairFormats.{wide_constants, double, wide}
-
-pub wide_is_lawful : IsLawful wide_constants
-wide_is_lawful = lawful_from_test wide_constants refl
-
-pub one_quantum : wide.scale ≡ double.scale
-one_quantum = refl
-
-pub twice_the_digits : wide.precision ≡ 2 * double.precision
-twice_the_digits = refl

@@ -41,7 +41,3 @@ is_denormal_is x =
     by_category (is_finite_non_zero x.high)
     (is_denormal double x.high || not (is_equal x.high (nearest_sum x.high x.low))) x
     (λ a e. record { sum = nearest_sum x.high x.low; status = n.0; is_sum = n.1; is = e })
-
--- only the value of the function satisfies the relation
-pub is_denormal_at : (x : Pair) (answer : Bool) → IsDenormalPair x answer → is_denormal_pair x ≡ answer
-is_denormal_at x answer d = pair_denormal_once x (is_denormal_pair x) answer (is_denormal_is x) d

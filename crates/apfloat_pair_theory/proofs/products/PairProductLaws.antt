@@ -16,7 +16,7 @@ use Rattle.apfloat_pair_theory.specs.Pairs.{Pair, pair_number, IsNormalised}
 use Rattle.apfloat_pair_theory.specs.PairProducts.{IsPairProduct}
 use Rattle.apfloat_pair_theory.specs.PairAccuracy.{HaveExponents, IsExactPair, IsErrorFreeProduct, IsAccurateProduct}
 use Rattle.apfloat_pair_theory.proofs.numbers.Signed.{magnitude-sub, magnitude_le, first_most, IsGridNumber, on_grid_as}
-use Rattle.apfloat_pair_theory.proofs.numbers.SignedProducts.{magnitude-mul}
+use Rattle.apfloat_model.proofs.whole_numbers.SignedProducts.{magnitude-mul}
 use Rattle.apfloat_pair_theory.proofs.numbers.Nearest.{IsNearest, nearest_exact}
 use Rattle.apfloat_pair_theory.proofs.sums.PairRoundings.{low_small}
 use Rattle.apfloat_pair_theory.proofs.sums.SumSteps.{size}

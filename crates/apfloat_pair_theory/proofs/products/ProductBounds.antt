@@ -10,7 +10,7 @@ use Rattle.apfloat_pair_theory.proofs.numbers.Signed.{magnitude-sub, magnitude_l
 use Rattle.apfloat_pair_theory.proofs.numbers.Nearest.{IsNearest, relative_error}
 use Rattle.apfloat_pair_theory.proofs.numbers.TwoSums.{positive}
 use Rattle.apfloat_pair_theory.proofs.sums.PairRoundings.{eighth}
-use Rattle.apfloat_pair_theory.proofs.numbers.SignedProducts.{sum_times, times_sum, difference_times, magnitude-mul, magnitude-times}
+use Rattle.apfloat_model.proofs.whole_numbers.SignedProducts.{sum_times, times_sum, difference_times, magnitude-mul, magnitude-times}
 use Rattle.apfloat_pair_theory.proofs.numbers.FractionErrors.{fraction_size}
 use Rattle.apfloat_pair_theory.proofs.products.ProductSteps.{IsLostNumber}
 

@@ -15,7 +15,7 @@ use Rattle.apfloat_model.specs.order.Order.{number}
 use Rattle.apfloat_model.specs.arithmetic.Products.{IsProduct}
 use Rattle.apfloat_model.specs.arithmetic.FusedSums.{IsFusedSum}
 use Rattle.apfloat_pair_theory.proofs.numbers.Signed.{grown, magnitude_le, magnitude-sub}
-use Rattle.apfloat_pair_theory.proofs.numbers.SignedProducts.{magnitude-mul}
+use Rattle.apfloat_model.proofs.whole_numbers.SignedProducts.{magnitude-mul}
 use Rattle.apfloat_pair_theory.proofs.numbers.Nearest.{IsNearest, relative_error}
 use Rattle.apfloat_pair_theory.proofs.numbers.TwoSums.{positive}
 use Rattle.apfloat_pair_theory.proofs.numbers.Roundings.{sum_within}

@@ -16,7 +16,7 @@ use Rattle.apfloat_pair_theory.specs.PairFormats.{double}
 use Rattle.apfloat_pair_theory.specs.Pairs.{Pair, pair_number, IsNormalised}
 use Rattle.apfloat_pair_theory.specs.PairSums.{sum_of_numbers, IsPairSum}
 use Rattle.apfloat_pair_theory.specs.PairAccuracy.{sum_reach, AreWithinReach, IsExactPair, IsClosePair, total_size, IsErrorFreeSum, IsAccurateSum, HasPlainStatus}
-use Rattle.apfloat_pair_theory.proofs.numbers.SignedProducts.{times_one}
+use Rattle.apfloat_model.proofs.whole_numbers.SignedProducts.{times_one}
 use Rattle.apfloat_pair_theory.proofs.sums.SumBounds.{opening_bound}
 use Rattle.apfloat_pair_theory.proofs.numbers.TwoSums.{IsShared, two_sum}
 use Rattle.apfloat_pair_theory.proofs.sums.PairRoundings.{exact_opening, closing_shared}

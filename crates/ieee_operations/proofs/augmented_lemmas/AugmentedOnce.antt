@@ -29,7 +29,7 @@ use Rattle.ieee_operations.proofs.augmented_lemmas.Multiples.{ties_of_times, wit
 use Rattle.apfloat_pair_theory.proofs.numbers.Nearest.{IsNearest}
 use Rattle.apfloat_pair_theory.proofs.numbers.Roundings.{signed_exact}
 use Rattle.apfloat_pair_theory.proofs.numbers.Signed.{magnitude-sub, on_grid_as}
-use Rattle.apfloat_pair_theory.proofs.numbers.SignedProducts.{magnitude-times, signed_product, sign_times}
+use Rattle.apfloat_model.proofs.whole_numbers.SignedProducts.{magnitude-times, signed_product, sign_times}
 use Rattle.apfloat_pair_theory.proofs.numbers.WholeProducts.{product_error_on_grid}
 
 -- three results are the same

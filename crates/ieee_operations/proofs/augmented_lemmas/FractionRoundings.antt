@@ -23,11 +23,11 @@ use Rattle.apfloat_model.proofs.rounding.Laws.{delivered_once, exact_delivered}
 use Rattle.apfloat_pair_theory.proofs.numbers.Nearest.{IsNearest}
 use Rattle.apfloat_pair_theory.proofs.numbers.Roundings.{signed_exact, pick_is_nearest, IsNearestFraction, whole_nearest}
 use Rattle.apfloat_pair_theory.proofs.numbers.Signed.{IsGridNumber, magnitude-sub, grown, on_grid_as}
-use Rattle.apfloat_pair_theory.proofs.numbers.SignedProducts.{difference_times, neg_times, magnitude-mul, magnitude-times, signed_product, signed_times}
+use Rattle.apfloat_model.proofs.whole_numbers.SignedProducts.{difference_times, neg_times, magnitude-mul, magnitude-times, signed_product, signed_times}
 use Rattle.apfloat_pair_theory.proofs.numbers.WholeProducts.{IsWholeProduct, whole_product, product_error_on_grid}
 use Rattle.apfloat_pair_theory.proofs.sums.PairRoundings.{error_eighth}
 use Rattle.apfloat_pair_theory.proofs.sums.DifferenceLaws.{minus_is}
-use Rattle.apfloat_pair_theory.proofs.numbers.SignedProducts.{sign_times}
+use Rattle.apfloat_model.proofs.whole_numbers.SignedProducts.{sign_times}
 use Rattle.ieee_operations.specs.augmented.Numbers.{IsAugmentedNumber}
 use Rattle.ieee_operations.proofs.augmented_lemmas.Multiples.{times_cancelled}
 use Rattle.ieee_operations.proofs.augmented_lemmas.Numbers.{IsRoundedExactly, signed_number, same_number, within_is}

@@ -11,8 +11,8 @@ use Rattle.apfloat_model.specs.rounding.Grid.{IsBelow, IsAbove}
 use Rattle.apfloat_model.specs.rounding.Rounding.{signed_quanta, ok_bits, inexact_bit, underflow_bit}
 use Rattle.apfloat_model.specs.arithmetic.Exact.{magnitude, signed, sign_of}
 use Rattle.apfloat_model.proofs.arithmetic.Signs.{one_side}
-use Rattle.apfloat_pair_theory.proofs.numbers.SignedProducts.{difference_times, magnitude-times, signed_times}
-use Rattle.apfloat_pair_theory.proofs.numbers.SignedProducts.{sign_times}
+use Rattle.apfloat_model.proofs.whole_numbers.SignedProducts.{difference_times, magnitude-times, signed_times}
+use Rattle.apfloat_model.proofs.whole_numbers.SignedProducts.{sign_times}
 use Rattle.ieee_operations.specs.augmented.TiesToZero.{nearer_between, IsTiesToZeroPick}
 use Rattle.ieee_operations.specs.augmented.Augmented.{left_of, IsPastLargest, IsWithTail, IsAugmented}
 use Rattle.ieee_operations.proofs.augmented_lemmas.TiesToZero.{takes_low, takes_high}

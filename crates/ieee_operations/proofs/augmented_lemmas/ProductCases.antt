@@ -32,7 +32,7 @@ use Rattle.apfloat_model.proofs.rounding.FarMagnitudes.{largest_on_grid}
 use Rattle.apfloat_model.proofs.whole_numbers.SignedNumbers.{largest_some}
 use Rattle.apfloat_pair_theory.proofs.numbers.Roundings.{signed_exact}
 use Rattle.apfloat_pair_theory.proofs.numbers.Signed.{on_grid_as}
-use Rattle.apfloat_pair_theory.proofs.numbers.SignedProducts.{sum_times, magnitude-mul, signed_product, signed_times}
+use Rattle.apfloat_model.proofs.whole_numbers.SignedProducts.{sum_times, magnitude-mul, signed_product, signed_times}
 use Rattle.ieee_operations.specs.augmented.Augmented.{IsPastLargest, IsWithTail, IsAugmented, IsAugmentedSum, IsAugmentedProduct}
 use Rattle.ieee_operations.specs.augmented.Numbers.{IsNonzeroIn, IsNearProduct}
 use Rattle.ieee_operations.specs.augmented.TiesToZero.{IsTiesToZeroPick}

@@ -27,7 +27,7 @@ use Rattle.apfloat_model.proofs.general.Powers.{twice_half, twice_power, half_at
 use Rattle.apfloat_model.proofs.rounding.Laws.{delivered_once, exact_delivered, pick_within}
 use Rattle.apfloat_pair_theory.proofs.numbers.Roundings.{signed_exact, signed_apart}
 use Rattle.apfloat_pair_theory.proofs.numbers.Signed.{on_grid_as}
-use Rattle.apfloat_pair_theory.proofs.numbers.SignedProducts.{sum_times, magnitude-mul, magnitude-times, signed_times}
+use Rattle.apfloat_model.proofs.whole_numbers.SignedProducts.{sum_times, magnitude-mul, magnitude-times, signed_times}
 use Rattle.apfloat_pair_theory.proofs.numbers.WholeProducts.{whole_product}
 use Rattle.apfloat_pair_theory.proofs.pairs.Normalised.{is_equal_by}
 use Rattle.ieee_operations.specs.augmented.Augmented.{left_of, IsPastLargest, IsWithTail, IsAugmentedProduct}

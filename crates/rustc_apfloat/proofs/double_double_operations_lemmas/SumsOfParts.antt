@@ -23,7 +23,7 @@ use Rattle.apfloat_model.proofs.rounding.Picks.{takes_scaled}
 use Rattle.apfloat_arithmetic.specs.other_formats.FormatOf.{IsSumTo, total_to}
 use Rattle.apfloat_pair_theory.specs.PairFormats.{double}
 use Rattle.apfloat_pair_theory.specs.Pairs.{Pair}
-use Rattle.apfloat_pair_theory.proofs.numbers.SignedProducts.{sum_times, magnitude-times, signed_times, sign_times}
+use Rattle.apfloat_model.proofs.whole_numbers.SignedProducts.{sum_times, magnitude-times, signed_times, sign_times}
 use Rattle.rustc_apfloat.specs.double_double_operations.PairConversions.{IsConvertedAnyway, IsPairTo, IsPairNumberTo}
 
 -- ---- a magnitude as a fraction with fewer parts

@@ -1,41 +1,31 @@
 //! The library's roundings compared with the plain program's.
 
-ghost use Rattle.std.specs.Prelude.{◌*◌, ◌^◌, ◌<◌, ◌≤◌, pos, negsuc, ◌≤ℤ◌};
+ghost use Rattle.std.specs.Prelude.{◌*◌, ◌^◌, ◌<◌, ◌≤◌};
 ghost use Rattle.rustc_apfloat.specs.FlaggedTypes.{format_of};
-ghost use Rattle.conformance.specs.Plain.{HasBounds};
+ghost use Rattle.tests.specs.Subjects.{IsSubject};
 
 use crate::asserts::same;
-use crate::sweeps::small::magnitude_bits;
+use crate::sweeps::small;
+use crate::sweeps::small::{HALF_BOUNDS, Layout, bits_of};
 use crate::sweeps::tables::MODES;
-use commands::custom_formats::{HalfTinyBeforeS, SevenS};
-use conformance::plain::{Bounds, RoundedValue, deliver};
+use commands::custom_formats::SevenS;
+use conformance::plain::{Bounds, deliver};
 use rustc_apfloat::ieee::{Flagged, Half, HalfS, IeeeFlags, Loss, NonfiniteBehavior, TinyBefore};
 use rustc_apfloat::{ExpInt, Float, Round, ieee};
 use std::process::Abort;
 
-/// A format with bits: its bounds, the exponent of an eighth of its quantum, the bits of a minus sign, and those of the
-/// infinity.
+/// A format with bits: its bounds, with its rule of flags, its layout, and the exponent of an eighth of its quantum.
 #[derive(Clone, Copy)]
 struct Subject {
     bounds: Bounds,
+    layout: Layout,
     exponent: ExpInt,
-    minus: u128,
-    infinity: u128,
 }
 
-/// The largest value is 65504, and a quantum is 2^-24.
 const HALF: Subject = Subject {
-    bounds: Bounds {
-        precision: 11,
-        largest: 65504 << 24,
-        smallest_normalized: 1 << 10,
-        tiny_before_rounding: false,
-        ieee_flags: false,
-        nonfinite: NonfiniteBehavior::IEEE754,
-    },
+    bounds: HALF_BOUNDS,
+    layout: small::HALF,
     exponent: -27,
-    minus: 0x8000,
-    infinity: 0x7c00,
 };
 
 const HALF_TINY_BEFORE: Subject = Subject {
@@ -47,9 +37,8 @@ const HALF_TINY_BEFORE: Subject = Subject {
         ieee_flags: false,
         nonfinite: NonfiniteBehavior::IEEE754,
     },
+    layout: small::HALF,
     exponent: -27,
-    minus: 0x8000,
-    infinity: 0x7c00,
 };
 
 const HALF_IEEE: Subject = Subject {
@@ -61,9 +50,8 @@ const HALF_IEEE: Subject = Subject {
         ieee_flags: true,
         nonfinite: NonfiniteBehavior::IEEE754,
     },
+    layout: small::HALF,
     exponent: -27,
-    minus: 0x8000,
-    infinity: 0x7c00,
 };
 
 const HALF_IEEE_TINY_BEFORE: Subject = Subject {
@@ -75,53 +63,37 @@ const HALF_IEEE_TINY_BEFORE: Subject = Subject {
         ieee_flags: true,
         nonfinite: NonfiniteBehavior::IEEE754,
     },
+    layout: small::HALF,
     exponent: -27,
-    minus: 0x8000,
-    infinity: 0x7c00,
 };
 
 /// The largest value is 30, and a quantum is 2^-4.
-const SEVEN: Subject = Subject {
-    bounds: Bounds {
-        precision: 4,
-        largest: 30 << 4,
-        smallest_normalized: 1 << 3,
-        tiny_before_rounding: false,
-        ieee_flags: false,
-        nonfinite: NonfiniteBehavior::IEEE754,
-    },
-    exponent: -7,
-    minus: 0x40,
-    infinity: 0x38,
+const SEVEN_BOUNDS: Bounds = Bounds {
+    precision: 4,
+    largest: 30 << 4,
+    smallest_normalized: 1 << 3,
+    tiny_before_rounding: false,
+    ieee_flags: false,
+    nonfinite: NonfiniteBehavior::IEEE754,
 };
 
-fn bits_of(subject: Subject, value: RoundedValue) -> u128
-    requires { 0 < subject.bounds.smallest_normalized }
-{
-    match value {
-        RoundedValue::Infinite { negative } | RoundedValue::NotANumber { negative } => {
-            sign_bit(subject, negative) | subject.infinity
-        }
-        RoundedValue::Finite { negative, quanta } => sign_bit(subject, negative)
-            | magnitude_bits(subject.bounds.smallest_normalized, quanta),
-    }
-}
-
-fn sign_bit(subject: Subject, negative: bool) -> u128 {
-    if negative { subject.minus } else { 0 }
-}
+const SEVEN: Subject = Subject {
+    bounds: SEVEN_BOUNDS,
+    layout: Layout {
+        bounds: SEVEN_BOUNDS,
+        one: 1 << 4,
+        minus: 0x40,
+        past: 0x38,
+        quiet: 0x04,
+    },
+    exponent: -7,
+};
 
 /// Compares the results of the library and of the plain program for `eighths / 8` quanta, in each mode and with each
 /// sign.
 fn compare<S: Flagged>(rt: &impl Abort, subject: Subject, eighths: u128)
     requires written { S.PRECISION < S.BITS }
-    requires bounds { HasBounds (format_of S.Flagged) subject.bounds }
-    requires some_digits { 3 ≤ subject.bounds.precision }
-    requires few_digits { subject.bounds.precision ≤ 60 }
-    requires some_normalized { 0 < subject.bounds.smallest_normalized }
-    requires few_normalized { subject.bounds.smallest_normalized < 2 ^ 60 }
-    requires far { negsuc 99 ≤ℤ subject.exponent }
-    requires near { subject.exponent ≤ℤ pos 0 }
+    requires subject { IsSubject (format_of S.Flagged) subject.bounds subject.exponent }
     requires eighths { eighths < 2 ^ 60 }
 {
     compare_parts::<S>(rt, subject, eighths, 8);
@@ -130,17 +102,15 @@ fn compare<S: Flagged>(rt: &impl Abort, subject: Subject, eighths: u128)
 /// The same for `amount / parts` quanta; the exponent of the subject is that of one part.
 fn compare_parts<S: Flagged>(rt: &impl Abort, subject: Subject, amount: u128, parts: u128)
     requires written { S.PRECISION < S.BITS }
-    requires bounds { HasBounds (format_of S.Flagged) subject.bounds }
-    requires some_digits { 3 ≤ subject.bounds.precision }
-    requires few_digits { subject.bounds.precision ≤ 60 }
-    requires some_normalized { 0 < subject.bounds.smallest_normalized }
-    requires few_normalized { subject.bounds.smallest_normalized < 2 ^ 60 }
-    requires far { negsuc 99 ≤ℤ subject.exponent }
-    requires near { subject.exponent ≤ℤ pos 0 }
+    requires subject { IsSubject (format_of S.Flagged) subject.bounds subject.exponent }
     requires amount { amount < 2 ^ 60 }
     requires some_parts { 0 < parts }
     requires few_parts { parts ≤ 16 }
 {
+    let layout = Layout {
+        bounds: subject.bounds,
+        ..subject.layout
+    };
     for mode in MODES {
         for negative in [false, true] {
             let plain = deliver(subject.bounds, mode, negative, amount, parts);
@@ -154,7 +124,7 @@ fn compare_parts<S: Flagged>(rt: &impl Abort, subject: Subject, amount: u128, pa
             same(
                 rt,
                 (answer.value.to_bits(), answer.status),
-                (bits_of(subject, plain.value), plain.status),
+                (bits_of(layout, plain.value), plain.status),
                 (amount, parts, mode, negative),
             );
         }
@@ -206,13 +176,7 @@ fn threshold_of_overflow(rt: HostRuntime) {
 /// Compares denormal results and the first normal ones.
 fn compare_denormals<S: Flagged>(rt: &impl Abort, subject: Subject)
     requires written { S.PRECISION < S.BITS }
-    requires bounds { HasBounds (format_of S.Flagged) subject.bounds }
-    requires some_digits { 3 ≤ subject.bounds.precision }
-    requires few_digits { subject.bounds.precision ≤ 60 }
-    requires some_normalized { 0 < subject.bounds.smallest_normalized }
-    requires few_normalized { subject.bounds.smallest_normalized < 2 ^ 60 }
-    requires far { negsuc 99 ≤ℤ subject.exponent }
-    requires near { subject.exponent ≤ℤ pos 0 }
+    requires subject { IsSubject (format_of S.Flagged) subject.bounds subject.exponent }
 {
     for eighths in 0..0x2800u64 {
         compare::<S>(rt, subject, u128::from(eighths));
@@ -221,7 +185,7 @@ fn compare_denormals<S: Flagged>(rt: &impl Abort, subject: Subject)
 
 #[test]
 fn denormals_by_other_rules_of_flags(rt: HostRuntime) {
-    compare_denormals::<HalfTinyBeforeS>(&rt, HALF_TINY_BEFORE);
+    compare_denormals::<TinyBefore<HalfS>>(&rt, HALF_TINY_BEFORE);
     compare_denormals::<IeeeFlags<HalfS>>(&rt, HALF_IEEE);
     compare_denormals::<IeeeFlags<TinyBefore<HalfS>>>(&rt, HALF_IEEE_TINY_BEFORE);
 }
@@ -260,7 +224,7 @@ fn whole_numbers(rt: HostRuntime) {
             same(
                 &rt,
                 (answer.value.to_bits(), answer.status),
-                (bits_of(HALF, plain.value), plain.status),
+                (bits_of(HALF.layout, plain.value), plain.status),
                 (number, mode),
             );
         }

@@ -12,87 +12,37 @@ use rustc_apfloat::ppc::{FallbackExtendedS, FallbackS};
 use rustc_apfloat::{Category, ExpInt, Float};
 use std::process::Abort;
 
-/// The bits of a format's named values.
-struct Named {
-    smallest: u128,
-    smallest_normalized: u128,
-    largest: u128,
-    infinity: u128,
-}
-
-/// Asserts that the named values of a format have the given bits.
-fn check<S: Semantics>(rt: &impl Abort, format: &str, named: &Named)
+/// Asserts the bits of zero, and of a format's smallest, smallest normalized and largest value and the one past it.
+fn check<S: Semantics>(rt: &impl Abort, format: &str, named: [u128; 4])
     requires { S.PRECISION < S.BITS }
 {
-    let got = [
+    let zeros = [
         IeeeFloat::<S>::zero().to_bits(),
         IeeeFloat::<S>::default().to_bits(),
+    ];
+    let got = [
         IeeeFloat::<S>::smallest().to_bits(),
         IeeeFloat::<S>::smallest_normalized().to_bits(),
         IeeeFloat::<S>::largest().to_bits(),
         IeeeFloat::<S>::infinity().to_bits(),
     ];
-    let expected = [
-        0,
-        0,
-        named.smallest,
-        named.smallest_normalized,
-        named.largest,
-        named.infinity,
-    ];
-    same(rt, got, expected, format);
+    same(rt, (zeros, got), ([0, 0], named), format);
 }
-
-static HALF: Named = Named {
-    smallest: 0x0001,
-    smallest_normalized: 0x0400,
-    largest: 0x7bff,
-    infinity: 0x7c00,
-};
-
-static SINGLE: Named = Named {
-    smallest: 0x00000001,
-    smallest_normalized: 0x00800000,
-    largest: 0x7f7fffff,
-    infinity: 0x7f800000,
-};
-
-static DOUBLE: Named = Named {
-    smallest: 0x0000000000000001,
-    smallest_normalized: 0x0010000000000000,
-    largest: 0x7fefffffffffffff,
-    infinity: 0x7ff0000000000000,
-};
-
-static SEVEN: Named = Named {
-    smallest: 0x01,
-    smallest_normalized: 0x08,
-    largest: 0x37,
-    infinity: 0x38,
-};
-
-static E4M3FN: Named = Named {
-    smallest: 0x01,
-    smallest_normalized: 0x08,
-    largest: 0x7e,
-    infinity: 0x7f,
-};
-
-static E4M3FNUZ: Named = Named {
-    smallest: 0x01,
-    smallest_normalized: 0x08,
-    largest: 0x7f,
-    infinity: 0x80,
-};
 
 #[test]
 fn named_values(rt: HostRuntime) {
-    check::<HalfS>(&rt, "half", &HALF);
-    check::<SingleS>(&rt, "single", &SINGLE);
-    check::<DoubleS>(&rt, "double", &DOUBLE);
-    check::<SevenS>(&rt, "seven", &SEVEN);
-    check::<Float8E4M3FNS>(&rt, "e4m3fn", &E4M3FN);
-    check::<Float8E4M3FNUZS>(&rt, "e4m3fnuz", &E4M3FNUZ);
+    check::<HalfS>(&rt, "half", [1, 0x0400, 0x7bff, 0x7c00]);
+    check::<SingleS>(&rt, "single", [1, 0x00800000, 0x7f7fffff, 0x7f800000]);
+    let double = [
+        1,
+        0x0010000000000000,
+        0x7fefffffffffffff,
+        0x7ff0000000000000,
+    ];
+    check::<DoubleS>(&rt, "double", double);
+    check::<SevenS>(&rt, "seven", [1, 0x08, 0x37, 0x38]);
+    check::<Float8E4M3FNS>(&rt, "e4m3fn", [1, 0x08, 0x7e, 0x7f]);
+    check::<Float8E4M3FNUZS>(&rt, "e4m3fnuz", [1, 0x08, 0x7f, 0x80]);
 }
 
 /// For a type without bits, only the categories are checked.

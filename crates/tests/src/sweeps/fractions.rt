@@ -8,9 +8,7 @@ use crate::sweeps::small::{
     Class, Small, decoded, layout_of, magnitude_bits, patterns_of, quieted, sign_bit,
 };
 use crate::sweeps::tables::MODES;
-use rustc_apfloat::ieee::{
-    Float8E4M3FNS, Float8E4M3FNUZS, Float8E5M2S, HalfS, IeeeFloat, Semantics,
-};
+use rustc_apfloat::ieee::{IeeeFloat, Semantics};
 use rustc_apfloat::{ExpInt, Float, IEK_INF, IEK_NAN, IEK_ZERO, Round};
 use std::process::Abort;
 
@@ -63,26 +61,32 @@ fn logarithm(format: Small, bits: u128, exponent: ExpInt) -> ExpInt {
     }
 }
 
+/// The bits of the fraction of a value and of the fraction scaled by the exponent, and the exponent and the logarithm.
+fn taken_apart<S: Semantics>(x: IeeeFloat<S>, mode: Round) -> ([u128; 2], [ExpInt; 2])
+    requires { S.PRECISION < S.BITS }
+{
+    let mut exponent = 0;
+    let fraction = x.frexp_r(&mut exponent, mode);
+    let whole = fraction.scalbn_r(exponent, mode);
+    ([fraction.to_bits(), whole.to_bits()], [exponent, x.ilogb()])
+}
+
 /// The fraction of a value, scaled by its exponent, is the value again, except for a signaling NaN.
 fn check<S: Semantics>(rt: &impl Abort, format: Small, mode: Round, bits: u128)
     requires { S.PRECISION < S.BITS }
 {
-    let x: IeeeFloat<S> = S::from_bits(bits);
-    let mut exponent = 0;
-    let fraction = x.frexp_r(&mut exponent, mode);
-    let whole = fraction.scalbn_r(exponent, mode);
-    let got = ([fraction.to_bits(), whole.to_bits()], [exponent, x.ilogb()]);
+    let (values, exponents) = taken_apart::<S>(S::from_bits(bits), mode);
     let fraction = expected(format, bits);
-    let logarithm = logarithm(format, bits, exponent);
+    let logarithm = logarithm(format, bits, exponents[0]);
     let expected = (
         [fraction.bits, quieted(format, bits)],
         [fraction.exponent, logarithm],
     );
-    same(rt, got, expected, (Bits(bits), mode));
+    same(rt, (values, exponents), expected, (Bits(bits), mode));
 }
 
 /// Every bit pattern of a format, in each mode.
-fn check_all<S: Semantics>(rt: &impl Abort, format: Small)
+pub fn check_all<S: Semantics>(rt: &impl Abort, format: Small)
     requires { S.PRECISION < S.BITS }
 {
     for pattern in 0..patterns_of(format) {
@@ -90,16 +94,4 @@ fn check_all<S: Semantics>(rt: &impl Abort, format: Small)
             check::<S>(rt, format, mode, u128::from(pattern));
         }
     }
-}
-
-#[test]
-fn half(rt: HostRuntime) {
-    check_all::<HalfS>(&rt, Small::Half);
-}
-
-#[test]
-fn eight_bits(rt: HostRuntime) {
-    check_all::<Float8E5M2S>(&rt, Small::Float8E5M2);
-    check_all::<Float8E4M3FNS>(&rt, Small::Float8E4M3FN);
-    check_all::<Float8E4M3FNUZS>(&rt, Small::Float8E4M3FNUZ);
 }

@@ -7,11 +7,11 @@ use crate::asserts::{Bits, same};
 use crate::sweeps::small::{Small, answered, integral, patterns_of};
 use crate::sweeps::tables::MODES;
 use rustc_apfloat::Float;
-use rustc_apfloat::ieee::{Float8E4M3FNS, Float8E4M3FNUZS, Float8E5M2S, HalfS, Semantics};
+use rustc_apfloat::ieee::Semantics;
 use std::process::Abort;
 
 /// Every bit pattern of a format, in each mode.
-fn check_all<S: Semantics>(rt: &impl Abort, format: Small)
+pub fn check_all<S: Semantics>(rt: &impl Abort, format: Small)
     requires { S.PRECISION < S.BITS }
 {
     for pattern in 0..patterns_of(format) {
@@ -22,16 +22,4 @@ fn check_all<S: Semantics>(rt: &impl Abort, format: Small)
             same(rt, answer, integral(format, mode, bits), (Bits(bits), mode));
         }
     }
-}
-
-#[test]
-fn half(rt: HostRuntime) {
-    check_all::<HalfS>(&rt, Small::Half);
-}
-
-#[test]
-fn eight_bits(rt: HostRuntime) {
-    check_all::<Float8E5M2S>(&rt, Small::Float8E5M2);
-    check_all::<Float8E4M3FNS>(&rt, Small::Float8E4M3FN);
-    check_all::<Float8E4M3FNUZS>(&rt, Small::Float8E4M3FNUZ);
 }

@@ -5,18 +5,20 @@ ghost use Rattle.std.specs.Prelude.{◌<◌, ◌≤◌};
 ghost use Rattle.rustc_apfloat.specs.Products.{product_limit};
 
 use crate::asserts::same;
+use crate::sweeps::calls::{
+    is_nonzero_number, is_number, next_down, of_integer, quiet_nan, scaled,
+};
 use crate::sweeps::tables::MODES;
 use commands::custom_formats::{
-    BroadS, DeepS, HalfTinyBeforeS, LeastFiniteS, LeastS, PreciseS, SevenS, TenS, VastS,
-    WrittenBitS,
+    BroadS, DeepS, LeastFiniteS, LeastS, PreciseS, SevenS, TenS, VastS, WrittenBitS,
 };
 use conformance::laws::{
     near_difference, opposite_products, sums_in_order, there_and_back, through_bits, through_value,
     up_and_down,
 };
 use conformance::widest::{WidestFusedSumsS, WidestProductsS};
-use rustc_apfloat::ieee::{IeeeFloat, NonfiniteBehavior, Semantics};
-use rustc_apfloat::{Float, Status};
+use rustc_apfloat::ieee::{HalfS, IeeeFloat, NonfiniteBehavior, Semantics, TinyBefore};
+use rustc_apfloat::{Float, Round, Status};
 use std::process::Abort;
 
 /// A value at a limit of a format.
@@ -66,10 +68,10 @@ fn limit_of<S: Semantics>(limit: Limit) -> IeeeFloat<S> {
         Limit::Zero => IeeeFloat::zero(),
         Limit::Smallest => IeeeFloat::smallest(),
         Limit::SmallestNormalized => IeeeFloat::smallest_normalized(),
-        Limit::One => IeeeFloat::from_u128(1).value,
+        Limit::One => of_integer(1).value,
         Limit::Largest => IeeeFloat::largest(),
         Limit::Infinity => IeeeFloat::infinity(),
-        Limit::QuietNan => IeeeFloat::nan(),
+        Limit::QuietNan => quiet_nan(),
         Limit::SignalingNan => IeeeFloat::snan(None),
     }
 }
@@ -80,23 +82,31 @@ fn value_at<S: Semantics>((limit, side): Place, negative: bool) -> IeeeFloat<S> 
     let x = match side {
         Side::At => x,
         Side::Above => x.next_up().value,
-        Side::Below => x.next_down().value,
+        Side::Below => next_down(x).value,
     };
     if negative { -x } else { x }
 }
 
+/// Whether a value is a positive number.
+fn is_positive<S: Semantics>(x: IeeeFloat<S>) -> bool {
+    is_number(x) & (x > IeeeFloat::zero())
+}
+
+/// Whether a number is at most twice another one.
+fn is_at_most_twice<S: Semantics>(x: IeeeFloat<S>, y: IeeeFloat<S>) -> bool {
+    !(x > scaled(y, 1))
+}
+
 /// Whether both are positive numbers, neither more than twice the other.
 fn are_near<S: Semantics>(x: IeeeFloat<S>, y: IeeeFloat<S>) -> bool {
-    let zero = IeeeFloat::zero();
-    let are_positive = x.is_finite() && y.is_finite() && x > zero && y > zero;
-    are_positive && !(x > y.scalbn(1)) && !(y > x.scalbn(1))
+    is_positive(x) & is_positive(y) & is_at_most_twice(x, y) & is_at_most_twice(y, x)
 }
 
 /// The difference of near numbers is exact: added to the right one, it gives the left one.
 fn check_difference<S: Semantics>(rt: &impl Abort, x: IeeeFloat<S>, y: IeeeFloat<S>) {
-    for mode in MODES {
-        let difference = near_difference(x, y, mode);
-        if are_near(x, y) {
+    if are_near(x, y) {
+        for mode in MODES {
+            let difference = near_difference(x, y, mode);
             let sum = difference.value.add_r(y, mode);
             let got = (difference.status, sum.status, sum.value == x);
             same(rt, got, (Status::OK, Status::OK, true), (x, y, mode));
@@ -104,13 +114,21 @@ fn check_difference<S: Semantics>(rt: &impl Abort, x: IeeeFloat<S>, y: IeeeFloat
     }
 }
 
-/// Adding a third number to two numbers keeps their order.
+/// Whether the format has infinities.
+fn has_infinities<S: Semantics>() -> bool {
+    S::NONFINITE_BEHAVIOR == NonfiniteBehavior::IEEE754
+}
+
+/// Whether both are numbers, the first at most the second.
+fn are_in_order<S: Semantics>(x: IeeeFloat<S>, y: IeeeFloat<S>) -> bool {
+    is_number(x) & is_number(y) & (x <= y)
+}
+
+/// In a format with infinities, adding a third number to two numbers keeps their order.
 fn check_sums<S: Semantics>(rt: &impl Abort, x: IeeeFloat<S>, y: IeeeFloat<S>, z: IeeeFloat<S>) {
-    let has_infinities = S::NONFINITE_BEHAVIOR == NonfiniteBehavior::IEEE754;
-    let are_finite = x.is_finite() && y.is_finite() && z.is_finite();
-    for mode in MODES {
-        let (left, right) = sums_in_order(x, y, z, mode);
-        if has_infinities && are_finite && x <= y {
+    if has_infinities::<S>() & are_in_order(x, y) & is_number(z) {
+        for mode in MODES {
+            let (left, right) = sums_in_order(x, y, z, mode);
             same(rt, left <= right, true, (x, y, z, mode));
         }
     }
@@ -120,45 +138,44 @@ fn check_sums<S: Semantics>(rt: &impl Abort, x: IeeeFloat<S>, y: IeeeFloat<S>, z
 fn check_product<S: Semantics>(rt: &impl Abort, x: IeeeFloat<S>, y: IeeeFloat<S>)
     requires { S.PRECISION ≤ product_limit }
 {
-    for mode in MODES {
-        let (product, opposite) = opposite_products(x, y, mode);
-        if x.is_finite_non_zero() && y.is_finite_non_zero() {
+    if is_nonzero_number(x) & is_nonzero_number(y) {
+        for mode in MODES {
+            let (product, opposite) = opposite_products(x, y, mode);
             let agrees = opposite.value.bitwise_eq(-product.value);
-            same(
-                rt,
-                (agrees, opposite.status),
-                (true, product.status),
-                (x, y, mode),
-            );
+            let got = (agrees, opposite.status);
+            same(rt, got, (true, product.status), (x, y, mode));
         }
     }
 }
 
-/// A number is unchanged by conversion to the format with the most digits and the widest exponents and back, and by
-/// conversion to a format of three digits and back, if that format has the number.
+/// A number is unchanged by conversion to a format and back, if the format `has_all` numbers, and otherwise if nothing
+/// is lost.
+fn check_conversion<S: Semantics, T: Semantics>(
+    rt: &impl Abort,
+    x: IeeeFloat<S>,
+    mode: Round,
+    has_all: bool,
+) {
+    let (back, lost) = there_and_back::<S, T>(x, mode);
+    let got = (back.bitwise_eq(x) | lost, lost & has_all);
+    same(rt, got, (true, false), (x, mode));
+}
+
+/// Conversion to the format with the most digits and the widest exponents and back, and to a format of three digits and
+/// back.
 fn check_conversions<S: Semantics>(rt: &impl Abort, x: IeeeFloat<S>) {
-    for mode in MODES {
-        let (from_vast, lost) = there_and_back::<S, VastS>(x, mode);
-        if x.is_finite() {
-            same(
-                rt,
-                (from_vast.bitwise_eq(x), lost),
-                (true, false),
-                (x, mode),
-            );
-        }
-        let (from_least, lost) = there_and_back::<S, LeastS>(x, mode);
-        if x.is_finite() && !lost {
-            same(rt, from_least.bitwise_eq(x), true, (x, mode));
+    if is_number(x) {
+        for mode in MODES {
+            check_conversion::<S, VastS>(rt, x, mode, true);
+            check_conversion::<S, LeastS>(rt, x, mode, false);
         }
     }
 }
 
 /// The next value up, and then the next down.
 fn check_steps<S: Semantics>(rt: &impl Abort, x: IeeeFloat<S>) {
-    let back = up_and_down(x);
-    if S::NONFINITE_BEHAVIOR == NonfiniteBehavior::IEEE754 && x.is_finite_non_zero() {
-        same(rt, back.bitwise_eq(x), true, x);
+    if has_infinities::<S>() & is_nonzero_number(x) {
+        same(rt, up_and_down(x).bitwise_eq(x), true, x);
     }
 }
 
@@ -189,11 +206,16 @@ fn check_laws_beside<S: Semantics>(rt: &impl Abort, x: IeeeFloat<S>) {
         for right_sign in SIGNS {
             let y = value_at::<S>(right, right_sign);
             check_difference(rt, x, y);
-            for third in PLACES {
-                check_sums(rt, x, y, value_at::<S>(third, false));
-                check_sums(rt, x, y, value_at::<S>(third, true));
-            }
+            check_all_sums(rt, x, y);
         }
+    }
+}
+
+/// The law of sums, with each third value.
+fn check_all_sums<S: Semantics>(rt: &impl Abort, x: IeeeFloat<S>, y: IeeeFloat<S>) {
+    for third in PLACES {
+        check_sums(rt, x, y, value_at::<S>(third, false));
+        check_sums(rt, x, y, value_at::<S>(third, true));
     }
 }
 
@@ -202,13 +224,18 @@ fn check_products<S: Semantics>(rt: &impl Abort)
     requires { S.PRECISION ≤ product_limit }
 {
     for left in PLACES {
-        for right in PLACES {
-            for negative in SIGNS {
-                let x = value_at::<S>(left, negative);
-                check_product(rt, x, value_at::<S>(right, false));
-                check_product(rt, x, value_at::<S>(right, true));
-            }
-        }
+        check_all_products(rt, value_at::<S>(left, false));
+        check_all_products(rt, value_at::<S>(left, true));
+    }
+}
+
+/// The same, with `x` as the left factor.
+fn check_all_products<S: Semantics>(rt: &impl Abort, x: IeeeFloat<S>)
+    requires { S.PRECISION ≤ product_limit }
+{
+    for right in PLACES {
+        check_product(rt, x, value_at::<S>(right, false));
+        check_product(rt, x, value_at::<S>(right, true));
     }
 }
 
@@ -223,45 +250,40 @@ fn check_values_and_bits<S: Semantics>(rt: &impl Abort)
     }
 }
 
+/// All laws, for a format of at most 64 digits without bits.
+fn check_without_bits<S: Semantics>(rt: &impl Abort)
+    requires { S.PRECISION ≤ product_limit }
+{
+    check_laws::<S>(rt);
+    check_products::<S>(rt);
+}
+
+/// All laws, for a format of at most 64 digits with bits.
+fn check_with_bits<S: Semantics>(rt: &impl Abort)
+    requires written { S.PRECISION < S.BITS }
+    requires products { S.PRECISION ≤ product_limit }
+{
+    check_without_bits::<S>(rt);
+    check_values_and_bits::<S>(rt);
+}
+
 #[test]
 fn formats_without_bits(rt: HostRuntime) {
-    check_laws::<LeastS>(&rt);
-    check_laws::<LeastFiniteS>(&rt);
-    check_laws::<DeepS>(&rt);
+    check_without_bits::<LeastS>(&rt);
+    check_without_bits::<LeastFiniteS>(&rt);
+    check_without_bits::<DeepS>(&rt);
+    check_without_bits::<WidestProductsS>(&rt);
+    check_without_bits::<WidestFusedSumsS>(&rt);
     check_laws::<PreciseS>(&rt);
     check_laws::<VastS>(&rt);
-    check_laws::<WidestProductsS>(&rt);
-    check_laws::<WidestFusedSumsS>(&rt);
 }
 
 #[test]
 fn formats_with_bits(rt: HostRuntime) {
-    check_laws::<SevenS>(&rt);
-    check_laws::<HalfTinyBeforeS>(&rt);
-    check_laws::<TenS>(&rt);
-    check_laws::<WrittenBitS>(&rt);
+    check_with_bits::<SevenS>(&rt);
+    check_with_bits::<TinyBefore<HalfS>>(&rt);
+    check_with_bits::<TenS>(&rt);
+    check_with_bits::<WrittenBitS>(&rt);
     check_laws::<BroadS>(&rt);
-}
-
-/// Formats of at most 64 digits.
-#[test]
-fn products(rt: HostRuntime) {
-    check_products::<LeastS>(&rt);
-    check_products::<LeastFiniteS>(&rt);
-    check_products::<DeepS>(&rt);
-    check_products::<WidestProductsS>(&rt);
-    check_products::<WidestFusedSumsS>(&rt);
-    check_products::<SevenS>(&rt);
-    check_products::<HalfTinyBeforeS>(&rt);
-    check_products::<TenS>(&rt);
-    check_products::<WrittenBitS>(&rt);
-}
-
-#[test]
-fn values_through_bits(rt: HostRuntime) {
-    check_values_and_bits::<SevenS>(&rt);
-    check_values_and_bits::<HalfTinyBeforeS>(&rt);
-    check_values_and_bits::<TenS>(&rt);
-    check_values_and_bits::<WrittenBitS>(&rt);
     check_values_and_bits::<BroadS>(&rt);
 }

@@ -3,6 +3,7 @@
 ghost use Rattle.std.specs.Prelude.{◌<◌};
 
 use crate::asserts::same;
+use crate::sweeps::calls::of_integer;
 use crate::sweeps::tables::{EVEN, INEXACT, OK, OVERFLOW_INEXACT, ZERO};
 use commands::custom_formats::{
     BroadS, DeepS, LeastFinite, LeastFiniteS, LeastS, PreciseS, Ten, TenS, VastS, WrittenBitS,
@@ -76,16 +77,42 @@ static TEN: [Row; 4] = [
     (126976, ZERO, Landed::Number(122880), INEXACT),
 ];
 
+/// The value that a row says.
+fn value_of<S: Semantics>(answer: Landed) -> IeeeFloat<S> {
+    match answer {
+        Landed::Number(value) => of_integer(value).value,
+        Landed::Past => IeeeFloat::infinity(),
+    }
+}
+
 fn check_rows<S: Semantics>(rt: &impl Abort, rows: &[Row]) {
     for (number, mode, answer, status) in rows {
         let got = IeeeFloat::<S>::from_u128_r(*number, *mode);
-        let value = match *answer {
-            Landed::Number(value) => IeeeFloat::<S>::from_u128(value).value,
-            Landed::Past => IeeeFloat::<S>::infinity(),
-        };
+        let value = value_of(*answer);
         let got = (got.value.bitwise_eq(value), got.status.bits());
         same(rt, got, (true, *status), (*number, *mode));
     }
+}
+
+/// Whether the ends of a format are in order, from zero up.
+fn are_in_order<S: Semantics>(
+    smallest: IeeeFloat<S>,
+    normalized: IeeeFloat<S>,
+    largest: IeeeFloat<S>,
+) -> [bool; 3] {
+    [
+        IeeeFloat::zero() < smallest,
+        smallest < normalized,
+        normalized < largest,
+    ]
+}
+
+/// Whether the minimum and the maximum of two values, the first of which is less, are these values.
+fn are_extrema<S: Semantics>(less: IeeeFloat<S>, greater: IeeeFloat<S>) -> [bool; 2] {
+    [
+        less.min(greater).bitwise_eq(less),
+        less.maximum(greater).bitwise_eq(greater),
+    ]
 }
 
 /// The order of the ends of a format, and its minima and maxima.
@@ -93,16 +120,10 @@ fn check_ends<S: Semantics>(rt: &impl Abort) {
     let smallest = IeeeFloat::<S>::smallest();
     let normalized = IeeeFloat::<S>::smallest_normalized();
     let largest = IeeeFloat::<S>::largest();
-    let holds = [
-        IeeeFloat::<S>::zero() < smallest,
-        smallest < normalized,
-        normalized < largest,
-        smallest.min(largest).bitwise_eq(smallest),
-        smallest.maximum(largest).bitwise_eq(largest),
-        smallest.is_denormal(),
-        normalized.is_normal(),
-    ];
-    same(rt, holds, [true; 7], "ends");
+    let ordered = are_in_order(smallest, normalized, largest);
+    let classes = [smallest.is_denormal(), normalized.is_normal()];
+    let got = (ordered, are_extrema(smallest, largest), classes);
+    same(rt, got, ([true; 3], [true; 2], [true; 2]), "ends");
 }
 
 /// The bits of 1, of the largest value and of the value past it.
@@ -111,7 +132,7 @@ fn check_bits<S: Semantics>(rt: &impl Abort, one: u128, largest: u128, past: u12
 {
     let greatest = IeeeFloat::<S>::largest();
     let bits = [
-        IeeeFloat::<S>::from_u128(1).value.to_bits(),
+        of_integer::<S>(1).value.to_bits(),
         greatest.to_bits(),
         IeeeFloat::<S>::infinity().to_bits(),
     ];

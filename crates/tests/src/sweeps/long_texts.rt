@@ -6,6 +6,7 @@ use crate::asserts::same;
 use crate::sweeps::tables::{
     AWAY, DOWN, EVEN, INEXACT, OK, OVERFLOW_INEXACT, UNDERFLOW_INEXACT, UP, ZERO,
 };
+use crate::texts::repeated;
 use rustc_apfloat::ieee::{Half, HalfS, Semantics};
 use rustc_apfloat::{Flags, Float, Round};
 use std::process::Abort;
@@ -59,17 +60,9 @@ fn read(text: &str, mode: Round) -> Result<(u128, u8), &'static str> {
 #[test]
 fn long_texts(rt: HostRuntime) -> Result<(), Fail> {
     for (front, digit, count, back, mode, value, flags) in &ROWS {
-        let mut text = String::from_str(rt.alloc(), *front)?;
-        for _ in 0..*count {
-            text.push_str(*digit)?;
-        }
-        text.push_str(*back)?;
-        same(
-            &rt,
-            read(text.as_str(), *mode),
-            Ok((*value, *flags)),
-            (*front, *back),
-        );
+        let text = repeated(rt.alloc(), *front, *digit, *count, *back)?;
+        let got = read(text.as_str(), *mode);
+        same(&rt, got, Ok((*value, *flags)), (*front, *back));
     }
     Ok(())
 }

@@ -4,6 +4,7 @@
 ghost use Rattle.std.specs.Prelude.{◌<◌};
 
 use crate::asserts::{Bits, same};
+use crate::sweeps::calls::{is_nonzero_number, next_down};
 use crate::sweeps::small::{
     Class, Expected, Layout, Small, answered, decoded, exactly, is_nan, layout_of, past_bits,
     patterns_of, signals,
@@ -11,9 +12,7 @@ use crate::sweeps::small::{
 use crate::sweeps::tables::INVALID_OP;
 use conformance::laws::up_and_down;
 use rustc_apfloat::Float;
-use rustc_apfloat::ieee::{
-    Float8E4M3FNS, Float8E4M3FNUZS, Float8E5M2S, HalfS, NonfiniteBehavior, Semantics,
-};
+use rustc_apfloat::ieee::{Float8E5M2S, HalfS, NonfiniteBehavior, Semantics};
 use std::process::Abort;
 
 /// The bits of a sign and a magnitude; in some formats a zero has no sign.
@@ -56,7 +55,7 @@ fn step(format: Small, bits: u128, upward: bool) -> Expected {
 }
 
 /// Every bit pattern of a format, in both directions.
-fn check_all<S: Semantics>(rt: &impl Abort, format: Small)
+pub fn check_all<S: Semantics>(rt: &impl Abort, format: Small)
     requires { S.PRECISION < S.BITS }
 {
     for pattern in 0..patterns_of(format) {
@@ -64,7 +63,7 @@ fn check_all<S: Semantics>(rt: &impl Abort, format: Small)
         let x = S::from_bits(bits);
         same(
             rt,
-            (answered(x.next_up()), answered(x.next_down())),
+            (answered(x.next_up()), answered(next_down(x))),
             (step(format, bits, true), step(format, bits, false)),
             Bits(bits),
         );
@@ -79,22 +78,10 @@ fn check_back<S: Semantics>(rt: &impl Abort, format: Small)
     for pattern in 0..patterns_of(format) {
         let bits = u128::from(pattern);
         let x = S::from_bits(bits);
-        if x.is_finite_non_zero() {
+        if is_nonzero_number(x) {
             same(rt, up_and_down(x).to_bits(), bits, Bits(bits));
         }
     }
-}
-
-#[test]
-fn half(rt: HostRuntime) {
-    check_all::<HalfS>(&rt, Small::Half);
-}
-
-#[test]
-fn eight_bits(rt: HostRuntime) {
-    check_all::<Float8E5M2S>(&rt, Small::Float8E5M2);
-    check_all::<Float8E4M3FNS>(&rt, Small::Float8E4M3FN);
-    check_all::<Float8E4M3FNUZS>(&rt, Small::Float8E4M3FNUZ);
 }
 
 #[test]

@@ -5,42 +5,66 @@ ghost use Rattle.std.specs.Prelude.{◌<◌, ◌≤◌};
 ghost use Rattle.rustc_apfloat.specs.Products.{product_limit};
 
 use crate::asserts::{Bits, same};
-use crate::sweeps::small::{Small, answered, difference, product, quotient, sum};
+use crate::sweeps::small::{Operation, Small, answered, result_of};
 use crate::sweeps::tables::{DOWN, EVEN, MODES};
-use rustc_apfloat::ieee::{Float8E4M3FNS, Float8E4M3FNUZS, Float8E5M2S, HalfS, Semantics};
-use rustc_apfloat::{Float, Round};
+use rustc_apfloat::ieee::{Flagged, Float8E4M3FNS, Float8E4M3FNUZS, Float8E5M2S, HalfS, IeeeFloat};
+use rustc_apfloat::{Float, Round, StatusAnd};
 use std::process::Abort;
 
-/// The four operations on two bit patterns: value and status are the expected ones.
-fn check_pair<S: Semantics>(rt: &impl Abort, format: Small, mode: Round, x: u128, y: u128)
+/// An operation of the library.
+fn answer<S: Flagged>(
+    operation: Operation,
+    mode: Round,
+    x: IeeeFloat<S>,
+    y: IeeeFloat<S>,
+) -> StatusAnd<IeeeFloat<S>>
+    requires { S.PRECISION ≤ product_limit }
+{
+    match operation {
+        Operation::Sum => x.add_r(y, mode),
+        Operation::Difference => x.sub_r(y, mode),
+        Operation::Product => x.mul_r(y, mode),
+        Operation::Quotient => x.div_r(y, mode),
+    }
+}
+
+/// Operations on two bit patterns: value and status are the expected ones.
+pub fn check_pair<S: Flagged>(
+    rt: &impl Abort,
+    format: Small,
+    operations: &[Operation],
+    mode: Round,
+    pair: (u128, u128),
+)
     requires written { S.PRECISION < S.BITS }
     requires multiplied { S.PRECISION ≤ product_limit }
 {
-    let left = S::from_bits(x);
-    let right = S::from_bits(y);
-    let got = [
-        answered(left.add_r(right, mode)),
-        answered(left.sub_r(right, mode)),
-        answered(left.mul_r(right, mode)),
-        answered(left.div_r(right, mode)),
-    ];
-    let expected = [
-        sum(format, mode, x, y),
-        difference(format, mode, x, y),
-        product(format, mode, x, y),
-        quotient(format, mode, x, y),
-    ];
-    same(rt, got, expected, (Bits(x), mode, Bits(y)));
+    let (x, y) = pair;
+    for operation in operations {
+        let left = IeeeFloat::<S>::from_bits(x);
+        let right = IeeeFloat::<S>::from_bits(y);
+        let got = answered(answer(*operation, mode, left, right));
+        let expected = result_of(format, *operation, mode, x, y);
+        same(rt, got, expected, (*operation, Bits(x), mode, Bits(y)));
+    }
 }
 
+static OPERATIONS: [Operation; 4] = [
+    Operation::Sum,
+    Operation::Difference,
+    Operation::Product,
+    Operation::Quotient,
+];
+
 /// All pairs of 8-bit patterns.
-fn check_all<S: Semantics>(rt: &impl Abort, format: Small, mode: Round)
+fn check_all<S: Flagged>(rt: &impl Abort, format: Small, mode: Round)
     requires written { S.PRECISION < S.BITS }
     requires multiplied { S.PRECISION ≤ product_limit }
 {
     for x in 0..256u64 {
         for y in 0..256u64 {
-            check_pair::<S>(rt, format, mode, u128::from(x), u128::from(y));
+            let pair = (u128::from(x), u128::from(y));
+            check_pair::<S>(rt, format, &OPERATIONS, mode, pair);
         }
     }
 }
@@ -56,8 +80,8 @@ fn check_half(rt: &impl Abort, mode: Round) {
     for pattern in 0..1u64 << 16 {
         let bits = u128::from(pattern);
         for partner in PARTNERS {
-            check_pair::<HalfS>(rt, Small::Half, mode, bits, partner);
-            check_pair::<HalfS>(rt, Small::Half, mode, partner, bits);
+            check_pair::<HalfS>(rt, Small::Half, &OPERATIONS, mode, (bits, partner));
+            check_pair::<HalfS>(rt, Small::Half, &OPERATIONS, mode, (partner, bits));
         }
     }
 }

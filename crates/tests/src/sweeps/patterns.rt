@@ -1,8 +1,11 @@
-//! Every bit pattern of the small formats: read and written, and with its sign changed.
+//! Every bit pattern of the small formats: read and written, with its sign changed, and its fraction, its integral
+//! values and its neighbours.
 
 ghost use Rattle.std.specs.Prelude.{◌<◌};
 
 use crate::asserts::{Bits, same};
+use crate::sweeps::small::Small;
+use crate::sweeps::{fractions, integral, neighbours};
 use rustc_apfloat::Float;
 use rustc_apfloat::ieee::{BFloatS, Float8E4M3FNS, Float8E4M3FNUZS, Float8E5M2S, HalfS, Semantics};
 use std::process::Abort;
@@ -65,4 +68,25 @@ fn signs_turn_where_zero_has_none(rt: HostRuntime) {
         let turned = if bits % 0x80 == 0 { bits } else { bits ^ 0x80 };
         check_sign::<Float8E4M3FNUZS>(&rt, bits, turned);
     }
+}
+
+/// Every bit pattern of a format: its fraction, its integral values and its neighbours.
+fn check_values<S: Semantics>(rt: &impl Abort, format: Small)
+    requires { S.PRECISION < S.BITS }
+{
+    fractions::check_all::<S>(rt, format);
+    integral::check_all::<S>(rt, format);
+    neighbours::check_all::<S>(rt, format);
+}
+
+#[test]
+fn values_of_half(rt: HostRuntime) {
+    check_values::<HalfS>(&rt, Small::Half);
+}
+
+#[test]
+fn values_of_eight_bits(rt: HostRuntime) {
+    check_values::<Float8E5M2S>(&rt, Small::Float8E5M2);
+    check_values::<Float8E4M3FNS>(&rt, Small::Float8E4M3FN);
+    check_values::<Float8E4M3FNUZS>(&rt, Small::Float8E4M3FNUZ);
 }

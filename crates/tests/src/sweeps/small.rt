@@ -1,17 +1,21 @@
 //! Small formats in integer arithmetic: reading and writing their bits, and the expected result of each operation on
 //! two bit patterns, by the rules for zeros, infinities and NaNs and by the plain program for one rounding.
 
-ghost use Rattle.std.specs.Prelude.{◌*◌, ◌^◌, ◌<◌, ◌≤◌};
+ghost use Rattle.std.specs.Prelude.{◌≡◌, ◌*◌, ◌^◌, ◌<◌, ◌≤◌};
 
 use crate::sweeps::tables::{DIV_BY_ZERO, INEXACT, INVALID_OP, OK};
 use conformance::plain::{Bounds, RoundedValue, deliver, whole};
-use rustc_apfloat::ieee::{IeeeFloat, NonfiniteBehavior, Semantics};
+use rustc_apfloat::ieee::{Flagged, IeeeFloat, NonfiniteBehavior};
 use rustc_apfloat::{Flags, Float, Round, StatusAnd};
 
 /// The small formats that tests sweep.
 #[derive(Clone, Copy)]
 pub enum Small {
     Half,
+    /// With the flags of IEEE 754-2019 (7.4, 7.5).
+    HalfIeee,
+    /// With these flags, and tininess detected before rounding.
+    HalfIeeeTinyBefore,
     Float8E5M2,
     Float8E4M3FN,
     Float8E4M3FNUZ,
@@ -31,7 +35,25 @@ pub struct Layout {
     pub quiet: u128,
 }
 
-/// The layout of a format.
+/// Binary16: the largest value is 65504, and a quantum is 2^-24.
+pub const HALF_BOUNDS: Bounds = Bounds {
+    precision: 11,
+    largest: 65504 << 24,
+    smallest_normalized: 1 << 10,
+    tiny_before_rounding: false,
+    ieee_flags: false,
+    nonfinite: NonfiniteBehavior::IEEE754,
+};
+
+pub const HALF: Layout = Layout {
+    bounds: HALF_BOUNDS,
+    one: 1 << 24,
+    minus: 0x8000,
+    past: 0x7c00,
+    quiet: 0x0200,
+};
+
+/// The layout of a format, with the flags of the built-in formats.
 pub fn layout_of(format: Small) -> Layout
     ensures some_digits { 3 ≤ result.bounds.precision }
     ensures few_digits { result.bounds.precision ≤ 11 }
@@ -44,20 +66,7 @@ pub fn layout_of(format: Small) -> Layout
     ensures few_exponents { result.minus ≤ 32 * result.bounds.smallest_normalized }
 {
     match format {
-        Small::Half => Layout {
-            bounds: Bounds {
-                precision: 11,
-                largest: 65504 << 24,
-                smallest_normalized: 1 << 10,
-                tiny_before_rounding: false,
-                ieee_flags: false,
-                nonfinite: NonfiniteBehavior::IEEE754,
-            },
-            one: 1 << 24,
-            minus: 0x8000,
-            past: 0x7c00,
-            quiet: 0x0200,
-        },
+        Small::Half | Small::HalfIeee | Small::HalfIeeeTinyBefore => HALF,
         Small::Float8E5M2 => Layout {
             bounds: Bounds {
                 precision: 3,
@@ -106,7 +115,7 @@ pub fn layout_of(format: Small) -> Layout
 /// How many bit patterns a format has.
 pub fn patterns_of(format: Small) -> u64 {
     match format {
-        Small::Half => 1 << 16,
+        Small::Half | Small::HalfIeee | Small::HalfIeeeTinyBefore => 1 << 16,
         Small::Float8E5M2 | Small::Float8E4M3FN | Small::Float8E4M3FNUZ => 1 << 8,
     }
 }
@@ -212,7 +221,7 @@ pub struct Expected {
 }
 
 /// The bits and the status of a result of the library.
-pub fn answered<S: Semantics>(answer: StatusAnd<IeeeFloat<S>>) -> Expected
+pub fn answered<S: Flagged>(answer: StatusAnd<IeeeFloat<S>>) -> Expected
     requires { S.PRECISION < S.BITS }
 {
     Expected {
@@ -241,7 +250,12 @@ fn rounded(format: Small, mode: Round, negative: bool, amount: u128, parts: u128
     requires few_parts { parts < 2 ^ 64 }
 {
     let layout = layout_of(format);
-    let answer = deliver(layout.bounds, mode, negative, amount, parts);
+    let bounds = Bounds {
+        tiny_before_rounding: matches!(format, Small::HalfIeeeTinyBefore),
+        ieee_flags: matches!(format, Small::HalfIeee | Small::HalfIeeeTinyBefore),
+        ..layout.bounds
+    };
+    let answer = deliver(bounds, mode, negative, amount, parts);
     Expected {
         bits: bits_of(layout, answer.value),
         status: answer.status.bits(),
@@ -314,8 +328,42 @@ fn rounded_sum(format: Small, mode: Round, x: Operand, y: Operand) -> Expected
     rounded(format, mode, mode == Round::TowardNegative, 0, 1)
 }
 
+/// An operation on two values.
+#[derive(Clone, Copy, Debug)]
+pub enum Operation {
+    Sum,
+    Difference,
+    Product,
+    Quotient,
+}
+
+/// The expected result of an operation on two bit patterns.
+pub fn result_of(format: Small, operation: Operation, mode: Round, x: u128, y: u128) -> Expected {
+    if is_nan(format, x) || is_nan(format, y) {
+        return of_nans(format, x, y);
+    }
+    let left = decoded(format, x);
+    let right = decoded(format, y);
+    match operation {
+        Operation::Sum => sum(format, mode, left, right),
+        Operation::Difference => sum(format, mode, left, turned(right)),
+        Operation::Product => product(format, mode, left, right),
+        Operation::Quotient => quotient(format, mode, left, right),
+    }
+}
+
+/// The operand with its sign changed.
+fn turned(x: Operand) -> Operand
+    ensures { result.quanta ≡ x.quanta }
+{
+    Operand {
+        negative: !x.negative,
+        ..x
+    }
+}
+
 /// The sum of numbers and infinities.
-fn sum_of(format: Small, mode: Round, x: Operand, y: Operand) -> Expected
+fn sum(format: Small, mode: Round, x: Operand, y: Operand) -> Expected
     requires left { x.quanta < 2 ^ 40 }
     requires right { y.quanta < 2 ^ 40 }
 {
@@ -329,65 +377,33 @@ fn sum_of(format: Small, mode: Round, x: Operand, y: Operand) -> Expected
     }
 }
 
-/// The expected sum.
-pub fn sum(format: Small, mode: Round, x: u128, y: u128) -> Expected {
-    if is_nan(format, x) || is_nan(format, y) {
-        return of_nans(format, x, y);
-    }
-    sum_of(format, mode, decoded(format, x), decoded(format, y))
-}
-
-/// The expected difference.
-pub fn difference(format: Small, mode: Round, x: u128, y: u128) -> Expected {
-    if is_nan(format, x) || is_nan(format, y) {
-        return of_nans(format, x, y);
-    }
-    let right = decoded(format, y);
-    let turned = Operand {
-        class: right.class,
-        negative: !right.negative,
-        quanta: right.quanta,
-    };
-    sum_of(format, mode, decoded(format, x), turned)
-}
-
-/// The expected product.
-pub fn product(format: Small, mode: Round, x: u128, y: u128) -> Expected {
-    if is_nan(format, x) || is_nan(format, y) {
-        return of_nans(format, x, y);
-    }
+/// The product of numbers and infinities.
+fn product(format: Small, mode: Round, x: Operand, y: Operand) -> Expected
+    requires left { x.quanta < 2 ^ 40 }
+    requires right { y.quanta < 2 ^ 40 }
+{
     let layout = layout_of(format);
-    let left = decoded(format, x);
-    let right = decoded(format, y);
-    let negative = left.negative != right.negative;
-    match (left.class, right.class) {
+    let negative = x.negative != y.negative;
+    match (x.class, y.class) {
         (Class::Number, Class::Number) => {
-            rounded(
-                format,
-                mode,
-                negative,
-                left.quanta * right.quanta,
-                layout.one,
-            )
+            rounded(format, mode, negative, x.quanta * y.quanta, layout.one)
         }
-        (Class::Number, _) if left.quanta == 0 => invalid(layout),
-        (_, Class::Number) if right.quanta == 0 => invalid(layout),
+        (Class::Number, _) if x.quanta == 0 => invalid(layout),
+        (_, Class::Number) if y.quanta == 0 => invalid(layout),
         (_, _) => exactly(past_bits(layout, negative)),
     }
 }
 
-/// The expected quotient.
-pub fn quotient(format: Small, mode: Round, x: u128, y: u128) -> Expected {
-    if is_nan(format, x) || is_nan(format, y) {
-        return of_nans(format, x, y);
-    }
+/// The quotient of numbers and infinities.
+fn quotient(format: Small, mode: Round, x: Operand, y: Operand) -> Expected
+    requires left { x.quanta < 2 ^ 40 }
+    requires right { y.quanta < 2 ^ 40 }
+{
     let layout = layout_of(format);
-    let left = decoded(format, x);
-    let right = decoded(format, y);
-    let negative = left.negative != right.negative;
-    match (left.class, right.class) {
+    let negative = x.negative != y.negative;
+    match (x.class, y.class) {
         (Class::Number, Class::Number) => {
-            quotient_of_numbers(format, mode, negative, left.quanta, right.quanta)
+            quotient_of_numbers(format, mode, negative, x.quanta, y.quanta)
         }
         (Class::Number, _) => exactly(sign_bit(layout, negative)),
         (_, Class::Number) => exactly(past_bits(layout, negative)),

@@ -12,8 +12,21 @@ use rustc_apfloat::ieee::{
     BFloatS, DoubleS, Float8E4M3FNS, Float8E4M3FNUZS, Float8E5M2S, HalfS, IeeeFloat,
     NonfiniteBehavior, Semantics, SingleS,
 };
-use rustc_apfloat::{Flags, Float, FloatConvert, StatusAnd};
+use rustc_apfloat::{Flags, Float, FloatConvert, Round, StatusAnd};
 use std::process::Abort;
+
+/// A value converted to another format and back, and whether each conversion lost information.
+fn there_and_back<S: Semantics, W: Semantics>(
+    x: IeeeFloat<S>,
+    mode: Round,
+) -> (StatusAnd<IeeeFloat<W>>, StatusAnd<IeeeFloat<S>>, [bool; 2]) {
+    let mut there_loses = true;
+    let there: StatusAnd<IeeeFloat<W>> = x.convert_r(mode, &mut there_loses);
+    let wide = there.value;
+    let mut back_loses = true;
+    let back: StatusAnd<IeeeFloat<S>> = wide.convert_r(mode, &mut back_loses);
+    (there, back, [there_loses, back_loses])
+}
 
 /// A value is unchanged by both conversions, without loss; a signaling NaN is quieted, and the first conversion raises
 /// INVALID_OP.
@@ -28,15 +41,8 @@ fn check<S: Semantics, W: Semantics>(rt: &impl Abort, patterns: u64, quiet: u128
         } else {
             (bits, OK)
         };
-        let mut there_loses = true;
-        let wide: StatusAnd<IeeeFloat<W>> = x.convert_r(EVEN, &mut there_loses);
-        let mut back_loses = true;
-        let narrow: StatusAnd<IeeeFloat<S>> = wide.value.convert_r(EVEN, &mut back_loses);
-        let got = (
-            wide.status.bits(),
-            answered(narrow),
-            [there_loses, back_loses],
-        );
+        let (wide, narrow, losses) = there_and_back::<S, W>(x, EVEN);
+        let got = (wide.status.bits(), answered(narrow), losses);
         same(rt, got, (flags, exactly(back), [false; 2]), Bits(bits));
     }
 }
@@ -74,7 +80,7 @@ fn scale_of(format: Small) -> u32
     ensures { result ≤ 24 }
 {
     match format {
-        Small::Half => 24,
+        Small::Half | Small::HalfIeee | Small::HalfIeeeTinyBefore => 24,
         Small::Float8E5M2 => 16,
         Small::Float8E4M3FN => 9,
         Small::Float8E4M3FNUZ => 10,
@@ -158,20 +164,12 @@ fn check_small<S: Semantics, W: Semantics>(rt: &impl Abort, format: Small, wide:
     for pattern in 0..patterns_of(format) {
         let bits = u128::from(pattern);
         for mode in MODES {
-            let x = S::from_bits(bits);
-            let mut there_loses = true;
-            let there: StatusAnd<IeeeFloat<W>> = x.convert_r(mode, &mut there_loses);
-            let wide_value = there.value;
-            let mut back_loses = true;
-            let back: StatusAnd<IeeeFloat<S>> = wide_value.convert_r(mode, &mut back_loses);
-            let answers = [answered(there), answered(back)];
-            let expected = [widened(format, wide, bits), exactly(quieted(format, bits))];
-            same(
-                rt,
-                (answers, [there_loses, back_loses]),
-                (expected, [false, loses_payload(format, bits)]),
-                (Bits(bits), mode),
-            );
+            let (there, back, losses) = there_and_back::<S, W>(S::from_bits(bits), mode);
+            let got = ([answered(there), answered(back)], losses);
+            let there = widened(format, wide, bits);
+            let back = exactly(quieted(format, bits));
+            let expected = ([there, back], [false, loses_payload(format, bits)]);
+            same(rt, got, expected, (Bits(bits), mode));
         }
     }
 }

@@ -1,17 +1,17 @@
 //! Products and fused sums in the formats of the most digits that have them.
 
 use crate::asserts::same;
+use crate::sweeps::calls::{of_integer, to_integer};
 use conformance::widest::{square, square_and_itself};
-use rustc_apfloat::ieee::IeeeFloat;
-use rustc_apfloat::{Float, Round, Status};
+use rustc_apfloat::{Round, Status};
 
 #[test]
 fn products_of_64_digits(rt: HostRuntime) {
-    let x = IeeeFloat::from_u128((1 << 40) + 1).value;
+    let x = of_integer((1 << 40) + 1).value;
     let above = square(x, Round::TowardPositive);
     same(
         &rt,
-        (above.status, above.value.to_u128(128).value),
+        (above.status, to_integer(above.value, 128).value),
         (Status::INEXACT, (1 << 80) + (1 << 41) + (1 << 17)),
         "2^40 + 1",
     );
@@ -19,11 +19,11 @@ fn products_of_64_digits(rt: HostRuntime) {
 
 #[test]
 fn fused_sums_of_63_digits(rt: HostRuntime) {
-    let x = IeeeFloat::from_u128((1 << 40) + 1).value;
+    let x = of_integer((1 << 40) + 1).value;
     let nearest = square_and_itself(x, Round::NearestTiesToEven);
     same(
         &rt,
-        (nearest.status, nearest.value.to_u128(128).value),
+        (nearest.status, to_integer(nearest.value, 128).value),
         (Status::INEXACT, (1 << 80) + (3 << 40)),
         "2^40 + 1",
     );

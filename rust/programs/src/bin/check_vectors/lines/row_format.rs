@@ -1,12 +1,12 @@
 //! The formats that rows can name, and calls in them.
 
 use crate::erased::commands::custom_formats::{
-    BroadS, DeepS, FusedLimitS, HalfTinyBeforeS, LeastFiniteS, LeastS, PreciseS, SevenS, TenS, VastS, WrittenBitS,
+    BroadS, DeepS, FusedLimitS, LeastFiniteS, LeastS, PreciseS, SevenS, TenS, VastS, WrittenBitS,
 };
 use crate::erased::formats_at_run_time::{
     BuiltInFormat, BuiltInKind, FlaggedFormat, IeeeFormat, InFlaggedFormat, InFormat,
 };
-use crate::erased::rustc_apfloat::ieee::{Flagged, Semantics};
+use crate::erased::rustc_apfloat::ieee::{Flagged, HalfS, Semantics, TinyBefore};
 use crate::erased::rustc_apfloat::ppc::{FallbackExtendedS, FallbackS};
 use crate::lines::table::found;
 
@@ -164,7 +164,7 @@ impl OtherFormat {
             OtherFormat::Broad => call.made_in::<BroadS>(),
             OtherFormat::WrittenBit => call.made_in::<WrittenBitS>(),
             OtherFormat::Ten => call.made_in::<TenS>(),
-            OtherFormat::HalfTinyBefore => call.made_in::<HalfTinyBeforeS>(),
+            OtherFormat::HalfTinyBefore => call.made_in::<TinyBefore<HalfS>>(),
             OtherFormat::FusedLimit => call.made_in::<FusedLimitS>(),
         }
     }
