@@ -12,7 +12,6 @@ use Rattle.rustc_apfloat.specs.Lawful.{Constants, format_with, layout_with}
 use Rattle.rustc_apfloat.specs.Layout.{Layout, all_ones, fields_of, trailing_bits, written_datum}
 use Rattle.rustc_apfloat.specs.Format.{Format, smallest_normalized}
 use Rattle.apfloat_model.proofs.bits.EncodedOnce.{fields_with}
-use Rattle.fast_bits.proofs.Reading.{number_read, quanta_with}
 use Rattle.rustc_apfloat.specs.declared.Round.{Round}
 use Rattle.rustc_apfloat.specs.declared.StatusAnd.{StatusAnd}
 use Rattle.apfloat_model.specs.arithmetic.Roots.{IsRoot}
@@ -42,8 +41,8 @@ use Rattle.coded_calls.specs.KnownCalls.{answered, without}
 use Rattle.coded_calls.specs.MachineCalls.{IsMachineAnswer, IsMachineCallAnswer, IsMachineOfTwo, IsMachineReply}
 use Rattle.coded_calls.specs.MachineCalls.{MachineRequest, are_usual, are_usual_of_three, conversion_call, divides}
 use Rattle.coded_calls.specs.MachineCalls.{fits, is_divisor, is_number, is_root_of, known_machine_call, lacking_operation}
-use Rattle.coded_calls.specs.MachineCalls.{machine_call, machine_fault, machine_format, operands_fit}
-use Rattle.coded_calls.specs.MachineCalls.{operation_fault, operation_fault_in, wide_operand}
+use Rattle.coded_calls.specs.MachineCalls.{machine_fault, machine_format, operands_fit}
+use Rattle.coded_calls.specs.MachineCalls.{operation_fault, operation_fault_in}
 use Rattle.coded_calls.proofs.WrittenAnswers.{answered_if}
 
 -- ---- tests

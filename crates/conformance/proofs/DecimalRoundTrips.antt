@@ -1,13 +1,9 @@
 -- Values that are read back from decimals, from the contracts on decimals.
-use Rattle.std.proofs.Common.{◌≡◌, true, false, refl, ⊎_elim, eqb, Result, Ok, Err, None}
+use Rattle.std.proofs.Common.{◌≡◌, true, false, refl, ⊎_elim, eqb, Result, Ok, Err}
 use Rattle.std.proofs.lemmas.Bool.{cases_Bool}
 use Rattle.std.specs.Result.{IsOkAnd}
-use Rattle.apfloat_model.specs.formats.Datum.{Datum, finite, infinite, nan}
-use Rattle.apfloat_model.specs.formats.Format.{Format}
-use Rattle.apfloat_model.specs.order.Classes.{is_finite}
 use Rattle.apfloat_decimals.specs.declared.decimal.Decimal.{Decimal}
 use Rattle.apfloat_decimals.specs.ReadBack.{is_written_whole, written}
-use Rattle.apfloat_decimals.specs.ShortestSearch.{GivesShortest}
 
 -- the text of a decimal has its sign
 pub written_sign : (x : Decimal) → (written x).negative ≡ x.negative

@@ -6,7 +6,7 @@ use Rattle.apfloat_arrays.specs.declared.Counts.{Counts}
 use Rattle.apfloat_arrays.specs.declared.Widths.{Widths}
 use Rattle.apfloat_arrays.specs.Blocks.{value_at}
 use Rattle.apfloat_arrays.specs.Outcomes.{sum_of}
-use Rattle.apfloat_arrays.proofs.Places.{places_more, places_none}
+use Rattle.apfloat_arrays.proofs.Places.{places_more}
 use Rattle.apfloat_arrays.specs.scaled_blocks.Quantized.{no_counts}
 use Rattle.convert_values.specs.declared.blocks.BlockConversion.{BlockConversion}
 use Rattle.convert_values.specs.Blocks.{AreBlocksConverted, IsConverted, block_widths, total_of}

@@ -43,7 +43,7 @@ use Rattle.apfloat_model.proofs.rounding.Deliveries.{signed_some}
 use Rattle.apfloat_model.proofs.rounding.FarMagnitudes.{far_above, largest_below, largest_on_grid}
 use Rattle.apfloat_model.proofs.rounding.Laws.{below_le_above, delivered_once, zero_delivered, zero_on_grid}
 use Rattle.apfloat_model.proofs.whole_numbers.SignedNumbers.{largest_some}
-use Rattle.apfloat_pair_theory.proofs.numbers.Roundings.{negated_is}
+use Rattle.apfloat_model.proofs.whole_numbers.SignedNumbers.{negated_is}
 use Rattle.apfloat_model.proofs.whole_numbers.SignedProducts.{magnitude-times, sign_times, signed_times, sum_times}
 use Rattle.round_to_odd.specs.Odd.{IsAnswerMadeOdd, IsToOdd, has_flag, is_odd_below, odd_between}
 use Rattle.round_to_odd.proofs.MadeOdd.{odd_of_truncated}

@@ -14,8 +14,7 @@ use Rattle.small_formats.specs.Storage.{StorageConstants}
 use Rattle.small_formats.specs.declared.saturation.Overflow.{Overflow}
 use Rattle.small_formats.specs.declared.saturation.Overflow.TheVariants.{Rounded, Saturated, Finite}
 use Rattle.apfloat_arrays.specs.declared.stored.formats.StoredFormat.{StoredFormat}
-use Rattle.apfloat_arrays.specs.declared.stored.formats.StoredFormat.TheVariants.{E2M1FN, E2M3FN, E3M2FN}
-use Rattle.apfloat_arrays.specs.stored.Formats.{e2m1fn_constants, e2m3fn_constants, e3m2fn_constants, largest_code}
+use Rattle.apfloat_arrays.specs.stored.Formats.{largest_code}
 use Rattle.apfloat_arrays.specs.stored.NumberCodes.{HasConstants, IsWordSource, biased_of, is_minus, significand_of}
 use Rattle.apfloat_arrays.specs.stored.Stored.{IsOwn, IsSaturatedCode, IsStoredBy, saturated_code}
 use Rattle.apfloat_arrays.proofs.stored_lemmas.Numbers.{number_read}

@@ -1,6 +1,6 @@
 -- The class and the sign of a scale.
 use Rattle.std.proofs.Common.{◌≡◌, ℕ, ◌^◌, Bool, true, false, eqb, if◌then◌else◌, refl}
-use Rattle.rustc_apfloat.specs.Classes.{is_nan, is_negative}
+use Rattle.rustc_apfloat.specs.Classes.{is_negative}
 use Rattle.rustc_apfloat.specs.Datum.{Datum, finite, nan}
 use Rattle.small_formats.specs.Scales.{scale_of}
 use Rattle.small_formats.specs.declared.saturation.ValueClass.TheVariants.{Number, NotANumber}

@@ -1,11 +1,10 @@
 -- A significand is read to its end.
-use Rattle.std.proofs.Common.{◌≡◌, ℕ, ◌+◌, Bool, true, false, not, if◌then◌else◌, refl, sym, ap, ◌∙◌, subst, arith, List, [], ◌∷◌, ltb}
-use Rattle.std.proofs.Math.Bool.{and-true}
+use Rattle.std.proofs.Common.{◌≡◌, ℕ, ◌+◌, Bool, true, false, if◌then◌else◌, refl, sym, subst, arith, List, [], ◌∷◌}
 use Rattle.std.specs.Prelude.{Result, Ok, Err, IsErrAnd, MatchResult}
 use Rattle.apfloat_model.specs.texts.Digits.{begins}
 use Rattle.apfloat_model.specs.texts.Faults.{is_digit_or_dot, significand_of, after_significand}
 use Rattle.apfloat_conversions.specs.declared.hex_texts.significand.Scan.{Scan}
-use Rattle.apfloat_conversions.specs.hex_texts.Scans.{IsKept, IsScan, IsScanned}
+use Rattle.apfloat_conversions.specs.hex_texts.Scans.{IsScan}
 
 -- ---- results
 

@@ -9,19 +9,18 @@ use Rattle.apfloat_model.specs.formats.Members.{IsMember}
 use Rattle.apfloat_model.specs.formats.Format.{Format, smallest_normalized, largest}
 use Rattle.apfloat_model.specs.formats.Datum.{Datum, finite, infinite, nan}
 use Rattle.apfloat_model.specs.rounding.Grid.{IsOnGrid}
-use Rattle.apfloat_model.specs.rounding.Rounding.{takes_above, IsDelivered, ok_bits, overflow_bit, underflow_bit, inexact_bit, raises_overflow}
+use Rattle.apfloat_model.specs.rounding.Rounding.{takes_above, ok_bits, overflow_bit, underflow_bit, inexact_bit, raises_overflow}
 use Rattle.apfloat_model.specs.rounding.Enclosure.{IsEnclosed}
 use Rattle.apfloat_model.specs.rounding.Outcome.{Outcome, rooted, exactly, invalid, Yields}
 use Rattle.apfloat_model.specs.arithmetic.Roots.{square_of, IsBelowRoot, IsAboveRoot, root_between, IsRootPick, root_rounds_below_normal, IsDeliveredRoot, IsRoot}
 use Rattle.apfloat_model.proofs.general.Choices.{either}
 use Rattle.apfloat_model.proofs.general.Powers.{two_pos, twice_power, twice_half}
-use Rattle.apfloat_model.proofs.rounding.Laws.{delivered_exists}
 use Rattle.apfloat_model.proofs.rounding.Neighbours.{below_is, above_is_same, above_is_next}
 use Rattle.apfloat_model.proofs.rounding.NeighboursExist.{enclosed_at}
 use Rattle.apfloat_model.proofs.rounding.Picks.{takes_less, takes_more}
-use Rattle.apfloat_model.proofs.arithmetic.RootSides.{AgreesWithRoot, root_lt, agreeing}
-use Rattle.apfloat_model.proofs.arithmetic.RootDeliveries.{below_root, above_root, root_delivered}
-use Rattle.apfloat_model.proofs.Once.{below_root_unique, above_root_unique, delivered_root_once}
+use Rattle.apfloat_model.proofs.arithmetic.RootSides.{agreeing}
+use Rattle.apfloat_model.proofs.arithmetic.RootDeliveries.{below_root, above_root}
+use Rattle.apfloat_model.proofs.Once.{below_root_unique, above_root_unique}
 
 -- divided by 1, the root is itself
 pub square_whole : (n : ℕ) → square_of n 1 ≡ n * n

@@ -1,27 +1,21 @@
 -- The rows for zeros, in the tables of special operands, are exact results rounded once; and the rows for a right NaN.
-use Rattle.std.proofs.Common.{◌≡◌, ℕ, ◌*◌, ◌^◌, ◌<◌, Bool, true, false, sym, refl, ap, ◌∙◌, subst, lit<, arith}
-use Rattle.std.specs.Prelude.{ℤ, pos, ◌+ℤ◌}
+use Rattle.std.proofs.Common.{◌≡◌, ℕ, ◌*◌, ◌^◌, ◌<◌, Bool, true, false, refl, ap, ◌∙◌, subst, lit<, arith}
+use Rattle.std.specs.Prelude.{ℤ, ◌+ℤ◌}
 use Rattle.std.proofs.lemmas.Nat.{pow_pos}
 use Rattle.std.proofs.Math.Nat.{mul-pos}
 use Rattle.apfloat_model.specs.declared.kinds.Round.{Round}
 use Rattle.apfloat_model.specs.formats.Format.{Format}
-use Rattle.apfloat_model.specs.formats.Datum.{Datum, finite, infinite, nan}
+use Rattle.apfloat_model.specs.formats.Datum.{Datum, finite}
 use Rattle.apfloat_model.specs.rounding.Rounding.{ok_bits, zero_sign, IsDelivered}
 use Rattle.apfloat_model.specs.formats.Members.{IsFiniteOf}
-use Rattle.apfloat_model.specs.arithmetic.Exact.{signed, product_sign, IsRounded}
-use Rattle.apfloat_model.specs.arithmetic.Sums.{zero_sum_sign, IsSum, IsDifference}
-use Rattle.apfloat_model.specs.arithmetic.Products.{IsProduct}
-use Rattle.apfloat_model.specs.formats.Nan.{IsOfNan}
-use Rattle.apfloat_model.specs.order.Classes.{is_nan}
-use Rattle.apfloat_model.specs.arithmetic.Remainders.{IsRemainder}
-use Rattle.apfloat_model.specs.arithmetic.Quotients.{IsQuotient}
+use Rattle.apfloat_model.specs.arithmetic.Exact.{signed, product_sign}
+use Rattle.apfloat_model.specs.arithmetic.Sums.{zero_sum_sign, IsSum}
 use Rattle.apfloat_model.specs.arithmetic.FusedSums.{IsFusedSum}
 use Rattle.apfloat_model.specs.arithmetic.Scaling.{IsScaling}
-use Rattle.apfloat_model.proofs.general.Choices.{not_zero}
 use Rattle.apfloat_model.proofs.texts.ZeroTexts.{zero_text}
 use Rattle.apfloat_model.proofs.rounding.Deliveries.{signed_some}
 use Rattle.apfloat_model.proofs.rounding.Laws.{exact_delivered, zero_delivered}
-use Rattle.apfloat_model.proofs.arithmetic.Signs.{no_sign, and_zero, zero_and, rounded_signed}
+use Rattle.apfloat_model.proofs.arithmetic.Signs.{and_zero, zero_and, rounded_signed}
 
 -- ---- a nonzero finite datum, delivered
 

@@ -1,16 +1,23 @@
 -- A signed integer in a format, from its magnitude.
-use Rattle.std.proofs.Common.{◌≡◌, ℕ, zero, suc, pos, neg_ℤ, ◌*◌, ◌^◌, ◌<◌, ◌≤◌, true, false, refl}
+use Rattle.std.proofs.Common.{◌≡◌, ℕ, zero, suc, pos, neg_ℤ, ◌*◌, ◌^◌, ◌<◌, ◌≤◌, Bool, true, false, not, eqb, refl, arith}
 use Rattle.std.proofs.Math.Nat.{mul-pos}
+use Rattle.std.proofs.lemmas.Bool.{ne_eqb}
 use Rattle.std.proofs.lemmas.Nat.{pow_pos}
 use Rattle.apfloat_model.specs.declared.kinds.Round.{Round}
 use Rattle.apfloat_model.specs.declared.kinds.Round.TheVariants.{NearestTiesToEven, TowardPositive, TowardNegative, TowardZero, NearestTiesToAway}
-use Rattle.apfloat_model.specs.formats.Datum.{Datum}
+use Rattle.apfloat_model.specs.declared.kinds.NonfiniteBehavior.TheVariants.{IEEE754}
+use Rattle.apfloat_model.specs.formats.Datum.{Datum, finite}
 use Rattle.apfloat_model.specs.formats.Format.{Format, largest}
 use Rattle.apfloat_model.specs.rounding.Negation.{negated, swapped}
 use Rattle.apfloat_model.specs.whole_numbers.WholeNumbers.{IsFromUnsigned, IsFromSigned}
 use Rattle.apfloat_model.proofs.rounding.Laws.{delivered_swapped}
 use Rattle.apfloat_model.proofs.formats.Greatest.{greatest_some}
 use Rattle.apfloat_model.proofs.arithmetic.Signs.{sign_signed, magnitude_signed}
+
+-- negation changes the sign, of a zero too
+pub negated_is : (negative : Bool) (n : ℕ) → negated IEEE754 (finite negative n) ≡ finite (not negative) n
+negated_is s zero = refl
+negated_is s (suc n) = let e : eqb (suc n) 0 ≡ false = ne_eqb (suc n) 0 (λ z. omega arith) in rw e refl
 
 -- a mode swapped twice is the mode itself
 swapped_back : (mode : Round) → swapped (swapped mode) ≡ mode

@@ -17,6 +17,7 @@ use Rattle.apfloat_model.specs.order.Classes.{is_finite}
 use Rattle.apfloat_model.specs.arithmetic.Exact.{magnitude, signed, sign_of, IsRounded}
 use Rattle.apfloat_model.specs.order.Order.{number}
 use Rattle.apfloat_model.specs.arithmetic.Sums.{IsSum, IsDifference, zero_sum_sign}
+use Rattle.apfloat_model.proofs.whole_numbers.SignedNumbers.{negated_is}
 use Rattle.apfloat_model.proofs.rounding.Neighbours.{multiple_on_grid}
 use Rattle.apfloat_model.proofs.rounding.Laws.{pick_within}
 use Rattle.apfloat_model.proofs.arithmetic.Signs.{magnitude_signed, one_side}
@@ -270,11 +271,6 @@ sum_within format (nan b m) y value status k p q h s = absurd (false≢true p)
 pub signed_not : (negative : Bool) (n : ℕ) → signed (not negative) n ≡ neg_ℤ (signed negative n)
 signed_not true n = omega (arith, ints)
 signed_not false n = refl
-
--- negation changes the sign, of a zero too
-pub negated_is : (negative : Bool) (n : ℕ) → negated IEEE754 (finite negative n) ≡ finite (not negative) n
-negated_is s zero = refl
-negated_is s (suc n) = let e : eqb (suc n) 0 ≡ false = ne_eqb (suc n) 0 (λ z. omega arith) in rw e refl
 
 -- the negation of a finite datum is finite, and has the negated number
 pub negated_finite : (datum : Datum) → is_finite datum ≡ true → is_finite (negated IEEE754 datum) ≡ true

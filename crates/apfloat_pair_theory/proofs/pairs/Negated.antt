@@ -21,7 +21,8 @@ use Rattle.apfloat_model.proofs.arithmetic.Signs.{no_sign}
 use Rattle.apfloat_pair_theory.specs.PairFormats.{double}
 use Rattle.apfloat_pair_theory.specs.Pairs.{Pair, pair_number, negated_pair, IsNormalised}
 use Rattle.apfloat_pair_theory.proofs.numbers.Signed.{magnitude-neg}
-use Rattle.apfloat_pair_theory.proofs.numbers.Roundings.{negated_is, negated_finite, negated_number}
+use Rattle.apfloat_model.proofs.whole_numbers.SignedNumbers.{negated_is}
+use Rattle.apfloat_pair_theory.proofs.numbers.Roundings.{negated_finite, negated_number}
 use Rattle.apfloat_pair_theory.proofs.calls.PairsOnce.{parts_same}
 use Rattle.apfloat_pair_theory.proofs.pairs.Normalised.{IsSameAnswer, IsHighOf, equal_finite, equal_number, is_equal_by}
 

@@ -19,7 +19,7 @@ use Rattle.apfloat_model.proofs.arithmetic.ExactConversions.{exactly_converted}
 use Rattle.apfloat_model.proofs.rounding.Laws.{delivered_once}
 use Rattle.apfloat_model.proofs.arithmetic.Signs.{magnitude_signed}
 use Rattle.apfloat_pair_theory.specs.PairFormats.{double, wide}
-use Rattle.apfloat_pair_theory.specs.Pairs.{Pair, positive_zero, IsWidened, left_over, IsSplit}
+use Rattle.apfloat_pair_theory.specs.Pairs.{IsWidened, left_over}
 use Rattle.apfloat_pair_theory.proofs.numbers.Signed.{magnitude-sub, IsGridNumber, on_grid_as}
 use Rattle.apfloat_pair_theory.proofs.sums.PairRoundings.{error_eighth}
 use Rattle.apfloat_pair_theory.proofs.sums.ClosingSums.{wide_enough}

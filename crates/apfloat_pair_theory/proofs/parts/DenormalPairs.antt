@@ -11,7 +11,6 @@ use Rattle.apfloat_pair_theory.specs.PairFormats.{double}
 use Rattle.apfloat_pair_theory.specs.Pairs.{Pair}
 use Rattle.apfloat_pair_theory.specs.NearestSums.{nearest_sum, nearest_sum_is}
 use Rattle.apfloat_pair_theory.specs.PairParts.{is_denormal_pair, IsDenormalByParts, IsDenormalPair}
-use Rattle.apfloat_pair_theory.proofs.calls.CallsOnce.{pair_denormal_once}
 
 -- any sum to nearest is the value of the function `nearest_sum`
 pub nearest_sum_at : (x y sum : Datum) (status : ℕ) → IsSum double NearestTiesToEven x y sum status
