@@ -1,6 +1,6 @@
 /* Correctly rounded software floating point, C99. Two libraries have these functions, with the same answers: the proved
- * one, which `rt lib` makes as libapfloat_c.a, and the same text by rustc, which cargo makes as libapfloat.a.
- * docs/C.md has their names once installed.
+ * one, and the same text by rustc. C.md, FORMATS.md and MACHINES.md, which the comments here name, are in docs/ beside
+ * the source, and in share/doc/apfloat where the library is installed.
  *
  * A function on values takes them as their bits, with a code for the format and, if it rounds, one for the rounding
  * mode, and writes its result through a pointer. It returns APFLOAT_ANSWERED, or the code of the first error, in the
@@ -21,17 +21,19 @@
  *   alignment and no terminating zero, since no byte after the last one is read.
  * - What holds for `text` holds for arrays of values: they are not null even if they are empty, and nothing writes to
  *   them during the call. It holds for `results` and `table` too, except that the call writes there; nothing else reads
- *   or writes them during the call, and they overlap no other argument. Arrays of operands may overlap each other.
+ *   or writes them during the call, and they overlap no other argument. The functions whose names end in _in_place take
+ *   results that are one of the operands. Arrays of operands may overlap each other.
  * - `answer` and `text` do not overlap. Values and integers are passed by value, so an answer may overwrite an operand:
  *   apfloat_add(f, m, a.bits, b, &a) is fine.
  *
- * The result of each function is stated by the contract of its export in crates/apfloat_c. Of the library that `rt lib`
- * makes it is proved; of the one by rustc no proof is claimed. */
+ * The result of each function is stated by the contract of its export, in the library's text. Of the proved library it
+ * is proved; of the one by rustc no proof is claimed. */
 #ifndef APFLOAT_H
 #define APFLOAT_H
 
 #include <stddef.h>
 #include <stdint.h>
+#include <string.h>
 
 /* The version of this header, by which the shared library is named as well: a program that was compiled with it needs a
  * library of the same major version. */
@@ -65,8 +67,10 @@ typedef struct apfloat_answer {
  * (-Wenum-conversion), and an error in C++. The last name of each type is no code; it is there for its width. */
 #ifdef __cplusplus
 #define APFLOAT_CODE : uint32_t
+#define APFLOAT_INLINE inline
 #else
 #define APFLOAT_CODE
+#define APFLOAT_INLINE static inline
 #endif
 
 /* Formats. */
@@ -87,7 +91,7 @@ typedef enum apfloat_format APFLOAT_CODE {
     APFLOAT_TF32 = 19,        /* 19 bits: the exponents of binary32 and the digits of binary16 */
 
     /* Storage formats, of apfloat_convert_array, of blocks and of the functions on storage formats alone
-     * (docs/FORMATS.md): for all other functions these codes are unknown. */
+     * (FORMATS.md): for all other functions these codes are unknown. */
     APFLOAT_E2M1FN = 32,  /* 4 bits: 0, 0.5, 1, 1.5, 2, 3, 4, 6 and their negatives */
     APFLOAT_E2M3FN = 33,  /* 6 bits, 2 of them the exponent, to 7.5 */
     APFLOAT_E3M2FN = 34,  /* 6 bits, 3 of them the exponent, to 28 */
@@ -149,16 +153,17 @@ typedef enum apfloat_flag APFLOAT_CODE {
 /* What a function returns. */
 typedef enum apfloat_error APFLOAT_CODE {
     APFLOAT_ANSWERED = 0,
-    APFLOAT_UNKNOWN_FORMAT = 1,     /* of the operands, or, after the mode, of a conversion's target */
+    APFLOAT_UNKNOWN_FORMAT = 1,      /* of the operands, or, after the mode, of a conversion's target */
     APFLOAT_UNKNOWN_MODE = 2,
-    APFLOAT_NO_SUCH_OPERATION = 3,  /* the format does not have the operation */
-    APFLOAT_WRONG_WIDTH = 4,        /* of an integer */
-    APFLOAT_REFUSED_TEXT = 5,       /* the text has no meaning */
-    APFLOAT_WRONG_LENGTH = 6,       /* of an array */
-    APFLOAT_UNKNOWN_ERROR = 7,      /* of a code: apfloat_error_text alone returns it */
+    APFLOAT_NO_SUCH_OPERATION = 3,   /* the format does not have the operation */
+    APFLOAT_WRONG_WIDTH = 4,         /* of an integer */
+    APFLOAT_REFUSED_TEXT = 5,        /* the text has no meaning */
+    APFLOAT_WRONG_LENGTH = 6,        /* of an array */
+    APFLOAT_UNKNOWN_ERROR = 7,       /* of a code: apfloat_error_text alone returns it */
     APFLOAT_UNKNOWN_MACHINE = 8,
-    APFLOAT_WIDE_OPERAND = 9,       /* bits at or above the width of its format are set */
-    APFLOAT_LACKING_OPERATION = 10, /* the machine does not have the operation */
+    APFLOAT_WIDE_OPERAND = 9,        /* bits at or above the width of its format are set */
+    APFLOAT_LACKING_OPERATION = 10,  /* the machine does not have the operation */
+    APFLOAT_OVERLAPPING_ARRAYS = 11, /* results of a call in place lie partly in an operand; it has no text */
     APFLOAT_ERROR_BITS = 0x7fffffff
 } apfloat_error;
 
@@ -522,7 +527,7 @@ apfloat_error apfloat_payload(apfloat_payload_operation operation, apfloat_forma
 /* ---- machines
  *
  * What a processor delivers where IEEE 754 leaves a choice or is not followed: the NaN, its sign and its payload, the
- * integer of an invalid conversion, minima and maxima, and when a result is tiny. docs/MACHINES.md has the rules of
+ * integer of an invalid conversion, minima and maxima, and when a result is tiny. MACHINES.md has the rules of
  * each machine, and what to call for each instruction. */
 typedef enum apfloat_machine_kind APFLOAT_CODE {
     APFLOAT_MACHINE_X86 = 1,             /* SSE, AVX, AVX-512 */
@@ -591,7 +596,7 @@ typedef struct apfloat_array_answer {
  * One of the two formats may be a storage format, with one value a byte: bits above those of the format are ignored,
  * and 0 in a result. From one storage format to another there is no conversion (APFLOAT_NO_SUCH_OPERATION); one to
  * APFLOAT_SINGLE, which is exact, and from there is rounded once. What the format has no value for, such as an
- * infinity, a NaN or a number below zero, becomes what a table in docs/FORMATS.md says. */
+ * infinity, a NaN or a number below zero, becomes what a table in FORMATS.md says. */
 apfloat_error apfloat_convert_array(apfloat_format format, apfloat_mode mode, apfloat_format to, const uint8_t *values,
                                     size_t values_length, uint8_t *results, size_t results_length,
                                     apfloat_array_answer *answer);
@@ -625,6 +630,112 @@ apfloat_error apfloat_map_array_by_table(apfloat_format format, apfloat_mode mod
                                          const uint8_t *zs, size_t zs_length, uint8_t *results, size_t results_length,
                                          uint8_t *table, size_t table_length, apfloat_array_answer *answer);
 
+/* ---- arrays in place
+ *
+ * apfloat_convert_array and apfloat_map_array, whose `results` may also begin where an operand does. Then these call
+ * the library for one block after another, with the results in 4 KiB of the stack, and copy them from there. Results
+ * that overlap an operand in another way are APFLOAT_OVERLAPPING_ARRAYS. The names that end in an underscore are for
+ * these functions alone. */
+
+/* Whether two arrays have no byte in common. */
+APFLOAT_INLINE int apfloat_apart_(const uint8_t *x, size_t x_length, const uint8_t *y, size_t y_length) {
+    const uintptr_t from = (uintptr_t)x, other = (uintptr_t)y;
+    return x_length == 0 || y_length == 0 || (from < other ? other - from >= x_length : from - other >= y_length);
+}
+
+/* Whether results can replace an operand, or are apart from it. */
+APFLOAT_INLINE int apfloat_replaces_(const uint8_t *results, size_t results_length, const uint8_t *operand,
+                                     size_t length) {
+    return results == operand || apfloat_apart_(results, results_length, operand, length);
+}
+
+/* How many bytes a value takes; 1 if the format is not known. */
+APFLOAT_INLINE size_t apfloat_bytes_(apfloat_format format) {
+    apfloat_facts facts;
+    if (format == APFLOAT_DOUBLE_PAIR) return 16;
+    return apfloat_format_facts(format, &facts) == APFLOAT_ANSWERED ? facts.bytes : 1;
+}
+
+APFLOAT_INLINE void apfloat_join_(apfloat_array_answer *all, const apfloat_array_answer *block) {
+    all->values += block->values;
+    all->inexact += block->inexact;
+    all->underflow += block->underflow;
+    all->overflow += block->overflow;
+    all->div_by_zero += block->div_by_zero;
+    all->invalid_op += block->invalid_op;
+    all->nans += block->nans;
+    all->status |= block->status;
+}
+
+APFLOAT_INLINE apfloat_error apfloat_convert_array_in_place(apfloat_format format, apfloat_mode mode, apfloat_format to,
+                                                            const uint8_t *values, size_t values_length,
+                                                            uint8_t *results, size_t results_length,
+                                                            apfloat_array_answer *answer) {
+    uint8_t block[4096];
+    apfloat_array_answer all, of_block;
+    size_t value, result, count, done, some, at;
+    apfloat_error error;
+    if (apfloat_apart_(values, values_length, results, results_length))
+        return apfloat_convert_array(format, mode, to, values, values_length, results, results_length, answer);
+    /* The errors that do not depend on lengths. */
+    error = apfloat_convert_array(format, mode, to, values, 0, block, 0, &all);
+    if (error != APFLOAT_ANSWERED) return error;
+    value = apfloat_bytes_(format);
+    result = apfloat_bytes_(to);
+    count = values_length / value;
+    if (values_length % value != 0 || results_length / result < count) return APFLOAT_WRONG_LENGTH;
+    if (!apfloat_replaces_(results, count * result, values, values_length)) return APFLOAT_OVERLAPPING_ARRAYS;
+    for (done = 0; done < count; done += some) {
+        some = count - done < sizeof block / result ? count - done : sizeof block / result;
+        /* Longer results are written from the last one on, so that each value is read before. */
+        at = result > value ? count - done - some : done;
+        error = apfloat_convert_array(format, mode, to, values + at * value, some * value, block, some * result,
+                                      &of_block);
+        if (error != APFLOAT_ANSWERED) return error;
+        memcpy(results + at * result, block, some * result);
+        apfloat_join_(&all, &of_block);
+    }
+    *answer = all;
+    return APFLOAT_ANSWERED;
+}
+
+APFLOAT_INLINE apfloat_error apfloat_map_array_in_place(apfloat_format format, apfloat_mode mode,
+                                                        apfloat_operation operation, const uint8_t *xs,
+                                                        size_t xs_length, const uint8_t *ys, size_t ys_length,
+                                                        const uint8_t *zs, size_t zs_length, uint8_t *results,
+                                                        size_t results_length, apfloat_array_answer *answer) {
+    uint8_t block[4096];
+    apfloat_array_answer all, of_block;
+    size_t value, second, third, done, some;
+    apfloat_error error;
+    if (apfloat_apart_(xs, xs_length, results, results_length) &&
+        apfloat_apart_(ys, ys_length, results, results_length) &&
+        apfloat_apart_(zs, zs_length, results, results_length))
+        return apfloat_map_array(format, mode, operation, xs, xs_length, ys, ys_length, zs, zs_length, results,
+                                 results_length, answer);
+    error = apfloat_map_array(format, mode, operation, xs, 0, ys, 0, zs, 0, block, 0, &all);
+    if (error != APFLOAT_ANSWERED) return error;
+    value = apfloat_bytes_(format);
+    second = operation == APFLOAT_SQRT ? 0 : xs_length;
+    third = operation == APFLOAT_FMA ? xs_length : 0;
+    if (xs_length % value != 0 || ys_length != second || zs_length != third || results_length < xs_length)
+        return APFLOAT_WRONG_LENGTH;
+    if (!apfloat_replaces_(results, xs_length, xs, xs_length) || !apfloat_replaces_(results, xs_length, ys, second) ||
+        !apfloat_replaces_(results, xs_length, zs, third))
+        return APFLOAT_OVERLAPPING_ARRAYS;
+    for (done = 0; done < xs_length; done += some) {
+        some = sizeof block / value * value;
+        if (xs_length - done < some) some = xs_length - done;
+        error = apfloat_map_array(format, mode, operation, xs + done, some, second ? ys + done : ys,
+                                  second ? some : 0, third ? zs + done : zs, third ? some : 0, block, some, &of_block);
+        if (error != APFLOAT_ANSWERED) return error;
+        memcpy(results + done, block, some);
+        apfloat_join_(&all, &of_block);
+    }
+    *answer = all;
+    return APFLOAT_ANSWERED;
+}
+
 /* ---- exact sums of arrays
  *
  * The exact sum of all terms, rounded once (IEEE 754-2019 9.4), in `bits`, with the flags of that rounding; `number` is
@@ -650,7 +761,7 @@ apfloat_error apfloat_dot(apfloat_format format, apfloat_mode mode, const uint8_
 
 /* ---- blocks with a common scale
  *
- * The microscaling formats of the OCP (OCP Microscaling Formats 1.0; docs/FORMATS.md): each block of `length`
+ * The microscaling formats of the OCP (OCP Microscaling Formats 1.0; FORMATS.md): each block of `length`
  * elements, 32 in those formats, has a scale, a code of APFLOAT_E8M0FNU. The elements are of APFLOAT_E5M2,
  * APFLOAT_E4M3FN, APFLOAT_E3M2FN, APFLOAT_E2M3FN or APFLOAT_E2M1FN; other formats of elements are unknown. A scale and
  * a code of an element take a byte each. APFLOAT_WRONG_LENGTH says that `length` is 0 or does not divide the number of
@@ -699,7 +810,7 @@ apfloat_error apfloat_from_storage(apfloat_format format, apfloat_mode mode, apf
 
 /* ---- storage formats, to odd and with random digits
  *
- * Two more modes, of these two functions alone (docs/FORMATS.md): a value between two neighbours becomes the one whose
+ * Two more modes, of these two functions alone (FORMATS.md): a value between two neighbours becomes the one whose
  * significand is odd, or the upper one in magnitude if a random number reaches the whole distance of the two together
  * with the value's distance from the lower one, in parts of which there are 2 to the power of `digits`. The caller
  * lends the random numbers, 32 bits for each value, of which the lowest `digits` are taken, 1 to 32 of them

@@ -20,7 +20,7 @@
 // returned, and ends the program with a message elsewhere.
 //
 // What needs no rounding is found from the bits alone, and is `constexpr`: signs, classes, order, minima and maxima,
-// NaNs and neighbours, of all formats but pairs of doubles. docs/CPP.md is an introduction.
+// NaNs and neighbours, of all formats but pairs of doubles. CPP.md is an introduction.
 #ifndef APFLOAT_HPP
 #define APFLOAT_HPP
 
@@ -143,7 +143,8 @@ enum class errc : std::uint32_t {
     wrong_length = APFLOAT_WRONG_LENGTH,
     unknown_machine = APFLOAT_UNKNOWN_MACHINE,
     wide_operand = APFLOAT_WIDE_OPERAND,
-    lacking_operation = APFLOAT_LACKING_OPERATION
+    lacking_operation = APFLOAT_LACKING_OPERATION,
+    overlapping_arrays = APFLOAT_OVERLAPPING_ARRAYS
 };
 
 /// An error in words: those of apfloat_error_text.
@@ -158,6 +159,7 @@ constexpr const char *message(errc error) noexcept {
     case errc::unknown_machine: return "unknown machine";
     case errc::wide_operand: return "an operand is wider than its format";
     case errc::lacking_operation: return "the machine does not have the operation";
+    case errc::overlapping_arrays: return "arrays overlap";
     }
     return "unknown error code";
 }
@@ -1593,7 +1595,7 @@ I to_integer(const value<F> &x, gather &with) noexcept {
     return made.value;
 }
 
-// ---- machines, which have the formats with a choice of flags (docs/MACHINES.md)
+// ---- machines, which have the formats with a choice of flags (MACHINES.md)
 
 /// A machine.
 enum class machine : std::uint32_t {
@@ -2704,7 +2706,7 @@ struct not_deduced {
 
 namespace detail {
 
-// A storage format: its values are only stored and converted, in arrays (docs/FORMATS.md).
+// A storage format: its values are only stored and converted, in arrays (FORMATS.md).
 template <apfloat_format Code, int Width>
 struct storage {
     static constexpr apfloat_format code = Code;
@@ -2773,7 +2775,7 @@ expected<array_counts> convert_values(const From *values, std::size_t count, To 
     const bool is_missing = count != 0 && (values == nullptr || results == nullptr);
     const std::size_t present = is_missing ? 0 : count;
     apfloat_array_answer answer = {0, 0, 0, 0, 0, 0, 0, 0, 0};
-    const apfloat_error code = apfloat_convert_array(
+    const apfloat_error code = apfloat_convert_array_in_place(
         From::format::code, code_of(mode) | static_cast<apfloat_mode>(large), To::format::code, bytes_of(values),
         present * sizeof(From), bytes_of(results), present * sizeof(To), &answer);
     if (code == APFLOAT_ANSWERED && is_missing) return errc::wrong_length;
@@ -2782,9 +2784,9 @@ expected<array_counts> convert_values(const From *values, std::size_t count, To 
 
 } // namespace detail
 
-/// Converts `count` values, each rounded once. The arrays do not overlap; if one is null and `count` is not 0, the
-/// error is wrong_length. `x87` has no such arrays, and on a processor that stores the highest byte first the error is
-/// no_such_operation.
+/// Converts `count` values, each rounded once. The results may begin where the values do; if they overlap in another
+/// way, the error is overlapping_arrays, and if an array is null and `count` is not 0, wrong_length. `x87` has no such
+/// arrays, and on a processor that stores the highest byte first the error is no_such_operation.
 template <class To, class From,
           std::enable_if_t<!detail::is_storage<To>::value && !detail::is_storage<From>::value, int> = 0>
 expected<array_counts> convert_array(const value<From> *values, std::size_t count, value<To> *results,
@@ -2833,8 +2835,8 @@ expected<array_counts> convert_array_by_table(const value<From> *values, std::si
 }
 
 /// Makes an operation on each element of xs, or on the elements of xs and ys, or of xs, ys and zs: as many arrays of
-/// `count` values as the operation has operands, else wrong_length, as for results that are null. `results` overlaps
-/// none of the operands.
+/// `count` values as the operation has operands, else wrong_length, as for results that are null. `results` may be one
+/// of the operands; if it overlaps one in another way, the error is overlapping_arrays.
 template <class F>
 expected<array_counts> map_array(array_operation operation, std::size_t count, value<F> *results, rounding mode,
                                  const typename detail::not_deduced<value<F>>::type *xs,
@@ -2845,7 +2847,7 @@ expected<array_counts> map_array(array_operation operation, std::size_t count, v
     const std::size_t present = is_missing ? 0 : count * sizeof(value<F>);
     const auto length = [&](const value<F> *operand) { return operand == nullptr ? 0 : present; };
     apfloat_array_answer answer = {0, 0, 0, 0, 0, 0, 0, 0, 0};
-    const apfloat_error code = apfloat_map_array(
+    const apfloat_error code = apfloat_map_array_in_place(
         F::code, detail::code_of(mode), static_cast<apfloat_operation>(operation), detail::bytes_of(xs), length(xs),
         detail::bytes_of(ys), length(ys), detail::bytes_of(zs), length(zs), detail::bytes_of(results), present,
         &answer);

@@ -111,7 +111,7 @@ static void remember(void) {
 
 /* What a call returned: only the results that it may write differ from before. */
 static void returned(const char *name, uint32_t error, const area *results, const area *more, const area *table) {
-    if (error > APFLOAT_LACKING_OPERATION || error == APFLOAT_UNKNOWN_ERROR) {
+    if (error > APFLOAT_OVERLAPPING_ARRAYS || error == APFLOAT_UNKNOWN_ERROR) {
         fail(name);
     }
     answered += error == APFLOAT_ANSWERED;
@@ -130,10 +130,15 @@ static void returned(const char *name, uint32_t error, const area *results, cons
 /* A length of an array of values of some bytes each: mostly one that fits. */
 static size_t fitting(size_t count, size_t width) { return count * width + (below(16) ? 0 : below(9)); }
 
-/* The bytes of a value, mostly; 1 of a storage format and of one that is not known. */
-static size_t width_of(uint32_t of) {
+/* The bytes of a value; 1 of a storage format and of one that is not known. */
+static size_t exact_width_of(uint32_t of) {
     static const uint8_t widths[20] = {1, 2, 4, 8, 16, 2, 1, 1, 1, 10, 16, 1, 1, 1, 1, 1, 1, 1, 1, 4};
-    return below(16) == 0 ? 1 + below(16) : (of & 255) < 20 ? widths[of & 255] : 1;
+    return (of & 255) < 20 ? widths[of & 255] : 1;
+}
+
+/* The same, mostly. */
+static size_t width_of(uint32_t of) {
+    return below(16) == 0 ? 1 + below(16) : exact_width_of(of);
 }
 
 /* Calls of single values: each with an answer that has to stay as it was after an error. */
@@ -143,7 +148,7 @@ static size_t width_of(uint32_t of) {
         memset(&before, (int)below(256), sizeof before);                                                               \
         answer = before;                                                                                               \
         uint32_t error = name(__VA_ARGS__, &answer);                                                                   \
-        if (error > APFLOAT_LACKING_OPERATION || error == APFLOAT_UNKNOWN_ERROR ||                                     \
+        if (error > APFLOAT_OVERLAPPING_ARRAYS || error == APFLOAT_UNKNOWN_ERROR ||                                     \
             (error && memcmp(&answer, &before, sizeof answer)) || (!error && answer.status > 31)) {                    \
             fail(#name);                                                                                               \
         }                                                                                                              \
@@ -242,7 +247,7 @@ static void texts(void) {
         break;
     }
     case 1: {
-        uint32_t error = apfloat_error_text(code(12), &text);
+        uint32_t error = apfloat_error_text(code(13), &text);
         if (error ? memcmp(&text, &before, sizeof text) != 0 : strlen(text.bytes) != text.length) {
             fail("apfloat_error_text");
         }
@@ -372,6 +377,64 @@ static void arrays(void) {
     }
 }
 
+/* Results in the place of an operand are those that a call with arrays apart from each other makes. */
+static void in_place(void) {
+    size_t count = below(3) ? below(20) : below(700), mapped = below(3), wide = below(2) ? count : below(20);
+    uint32_t from = format(), to = mapped ? from : format(), by = mode(), operation = code(10);
+    size_t width = width_of(from), room = mapped ? fitting(count, width) : fitting(wide, width_of(to));
+    size_t length = mapped && below(8) ? room : fitting(count, width);
+    size_t second = operation == APFLOAT_SQRT ? 0 : below(8) ? length : below(40);
+    size_t third = operation == APFLOAT_FMA ? length : 0;
+    area *place = lend(0, length > room ? length : room), *values = lend(1, length), *results = lend(2, room);
+    area *other = lend(3, second);
+    apfloat_array_answer wanted, answer, before;
+    uint32_t error, made;
+    memset(&before, (int)below(256), sizeof before);
+    wanted = answer = before;
+    memcpy(values->first, place->first, length);
+    /* The bytes after the results stay as they were. */
+    memcpy(results->first, place->first, room);
+    if (mapped) {
+        /* The place is the first operand, and with `mapped` 2 the second one, too, as far as it is as long. */
+        const uint8_t *apart = mapped == 2 && second == length ? values->first : other->first;
+        const uint8_t *same = mapped == 2 && second == length ? place->first : other->first;
+        error = apfloat_map_array(from, by, operation, LENT(values), apart, second, values->first, third, LENT(results),
+                                  &wanted);
+        remember();
+        made = apfloat_map_array_in_place(from, by, operation, place->first, length, same, second, place->first, third,
+                                          place->first, room, &answer);
+    } else {
+        error = apfloat_convert_array(from, by, to, LENT(values), LENT(results), &wanted);
+        remember();
+        made = apfloat_convert_array_in_place(from, by, to, place->first, length, place->first, room, &answer);
+    }
+    returned("a call in place", made, place, NULL, NULL);
+    if (made != error || memcmp(&answer, &wanted, sizeof answer)) {
+        fail("the answer in place");
+    }
+    if (error) {
+        return;
+    }
+    if (memcmp(place->first, results->first, room) ||
+        (length > room && memcmp(place->first + room, values->first + room, length - room))) {
+        fail("results in place");
+    }
+    /* A byte further on, an operand overlaps results of more than a byte. */
+    if ((size_t)answer.values * exact_width_of(to) > 1) {
+        place = lend(0, (length > room ? length : room) + 1);
+        answer = before;
+        remember();
+        made = mapped ? apfloat_map_array_in_place(from, by, operation, place->first + 1, length, other->first, second,
+                                                   values->first, third, place->first, room, &answer)
+                      : apfloat_convert_array_in_place(from, by, to, place->first + 1, length, place->first, room,
+                                                       &answer);
+        returned("an overlap", 1, NULL, NULL, NULL);
+        if (made != APFLOAT_OVERLAPPING_ARRAYS || memcmp(&answer, &before, sizeof answer)) {
+            fail("an overlap is not refused");
+        }
+    }
+}
+
 static void sums(void) {
     uint32_t of = format();
     area *xs = lend(0, fitting(below(3) ? below(20) : below(600), width_of(of)));
@@ -395,10 +458,11 @@ int main(int count, char **words) {
         fail("apfloat_version");
     }
     for (; calls % 1024 || time(NULL) < end; calls++) {
-        switch (below(8)) {
+        switch (below(9)) {
         case 0: arrays(); break;
         case 1: texts(); break;
         case 2: sums(); break;
+        case 3: in_place(); break;
         default: values();
         }
     }

@@ -403,6 +403,16 @@ void check_arrays() {
     const auto fused = map_array(array_operation::fma, 1, sums.data(), rounding::upward, pairs.data());
     CHECK(!fused && fused.error() == errc::no_such_operation);
     CHECK(map_array<binary64>(array_operation::sqrt, 0, nullptr, rounding::upward, nullptr)->values == 0);
+    // In the place of the dividends, and of values of as many bits.
+    std::vector<number> dividends = xs;
+    const auto replaced = map_array(array_operation::div, xs.size(), dividends.data(), rounding::upward,
+                                    dividends.data(), ys.data());
+    CHECK(replaced && replaced->values == 3 && replaced->inexact == 1 && replaced->nans == 1);
+    for (std::size_t i = 0; i < xs.size(); i++) CHECK(dividends[i].bits() == quotients[i].bits());
+    CHECK(map_array(array_operation::sqrt, 2, &dividends[0], rounding::upward, &dividends[1]).error() ==
+          errc::overlapping_arrays);
+    CHECK(convert_array(&dividends[0], 2, &dividends[1]).error() == errc::overlapping_arrays);
+    CHECK(convert_array(&dividends[0], 3, &dividends[0])->values == 3 && dividends[0].bits() == quotients[0].bits());
 
     // Each pair of bytes three times, by a table and without.
     std::vector<value<e4m3fn>> left, right;
