@@ -146,8 +146,8 @@ MISTAKES = {
     ],
     "one-quiet-nan-pattern": [("apfloat_rounding", "", "half add even 7e01 7d00\t7e01 INVALID_OP")],
     "quotient-rest-more-than-half": [
-        ("apfloat_words", "-word", THIRD),
-        ("apfloat_words", "-guessed", LONG_THIRD),
+        ("apfloat_arithmetic", "-word", THIRD),
+        ("apfloat_arithmetic", "-guessed", LONG_THIRD),
         ("apfloat_arithmetic", "-u128", QUAD_THIRD),
     ],
     "integer-always-truncates": [
