@@ -20,6 +20,7 @@ import sys
 import tempfile
 import time
 from concurrent.futures import ThreadPoolExecutor
+from itertools import cycle
 from pathlib import Path
 
 import rows
@@ -126,10 +127,7 @@ MISTAKES = {
         ("apfloat_arithmetic", "", "half rem even 7bff 4200\tbc00 OK"),
         ("apfloat_arithmetic", "-truncated", "half mod even 7bff 0003\t0002 OK"),
     ],
-    "conversion-drops-or-rounds-twice": [
-        ("apfloat_conversions", "", TO_HALF),
-        ("apfloat_conversions", "-rounding", TO_HALF),
-    ],
+    "conversion-drops-or-rounds-twice": [("apfloat_conversions", "", TO_HALF)],
     "nan-only-overflow-ignores-sign": [
         (
             "apfloat_rounding",
@@ -148,8 +146,8 @@ MISTAKES = {
     ],
     "one-quiet-nan-pattern": [("apfloat_rounding", "", "half add even 7e01 7d00\t7e01 INVALID_OP")],
     "quotient-rest-more-than-half": [
-        ("apfloat_words", "-word", THIRD),
-        ("apfloat_words", "-guessed", LONG_THIRD),
+        ("apfloat_arithmetic", "-word", THIRD),
+        ("apfloat_arithmetic", "-guessed", LONG_THIRD),
         ("apfloat_arithmetic", "-u128", QUAD_THIRD),
     ],
     "integer-always-truncates": [
@@ -162,8 +160,7 @@ MISTAKES = {
     ],
     "always-nan-or-left-operand": [
         ("apfloat_arithmetic", f"-{operation}{result}", row)
-        for operation, row in INEXACT.items()
-        for result in ("", "-nan")
+        for (operation, row), result in zip(INEXACT.items(), cycle(("", "-nan")))
     ],
     "status-always-ok": [
         ("apfloat_rounding", "", "half parse even 0x1p-25\t0000 UNDERFLOW|INEXACT"),
@@ -177,10 +174,7 @@ MISTAKES = {
     "remainder-subtracts-divisor-itself": [
         ("apfloat_arithmetic", "", call("c_fmod_steps", "e4m3fn", "-", "7e 3f", "3e", "OK", "steps=6 bound=9"))
     ],
-    "step-count-zero-or-bound": [
-        ("apfloat_arithmetic", "", STEPS),
-        ("apfloat_arithmetic", "-the-bound", STEPS),
-    ],
+    "step-count-zero-or-bound": [("apfloat_arithmetic", "", STEPS)],
     "conversion-drops-payload": [
         (
             "apfloat_rounding",

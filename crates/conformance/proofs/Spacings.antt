@@ -1,9 +1,9 @@
 -- A spacing that is doubled until the magnitude is less than 2 ^ precision spacings.
-use Rattle.std.proofs.Common.{◌≡◌, ℕ, ◌+◌, ◌-◌, ◌*◌, ◌/◌, ◌^◌, ◌<◌, ◌≤◌, ◌⊎◌, inr, sym, ap, subst, arith}
-use Rattle.std.proofs.Math.Nat.{mul-pos, mul-le-mul_right, le-div_iff_mul-le, div-lt_iff_lt-mul}
+use Rattle.std.proofs.Common.{◌≡◌, ℕ, ◌+◌, ◌-◌, ◌*◌, ◌^◌, ◌<◌, ◌≤◌, ◌⊎◌, inl, inr, sym, ap, ◌∙◌, subst, arith}
+use Rattle.std.proofs.Math.Nat.{mul-le-mul_right, pow-le-pow_right}
 use Rattle.std.proofs.lemmas.Nat.{pow_pos, pow-add}
-use Rattle.apfloat_model.proofs.general.Powers.{twice_half}
-use Rattle.conformance.specs.Plain.{IsSpacing}
+use Rattle.apfloat_model.proofs.general.Powers.{twice_half, two_pos}
+use Rattle.conformance.specs.Plain.{IsSmall, IsSpacing}
 
 -- the magnitude is at least half of 2 ^ precision spacings, unless this is the first spacing
 pub record IsReached (precision amount parts spacing : ℕ) : Type 0 where
@@ -15,23 +15,34 @@ pub record IsReached (precision amount parts spacing : ℕ) : Type 0 where
 pub spacing_some : (precision amount parts spacing : ℕ) → IsReached precision amount parts spacing → 0 < spacing
 spacing_some precision amount parts spacing r = subst (λ (x : ℕ). 0 < x) (sym r.is) (pow_pos r.place)
 
--- the multiple of a spacing that the amount is divided by is not zero
-divisor_some : (precision amount parts spacing : ℕ) → 0 < parts → IsReached precision amount parts spacing
-    → 0 < parts * spacing
-divisor_some precision amount parts spacing h r = mul-pos h (spacing_some precision amount parts spacing r)
+-- so many spacings fit in 128 bits
+spacings_fit : (precision amount parts spacing place : ℕ) → IsSmall precision amount parts → spacing ≡ 2 ^ place
+    → (place ≡ 0) ⊎ (2 ^ (precision - 1) * (parts * spacing) ≤ amount)
+    → 2 ^ precision * (parts * spacing) < 2 ^ 128
+spacings_fit precision amount parts spacing place small is (inl first) =
+    let one : spacing ≡ 1 = is ∙ ap (λ (n : ℕ). 2 ^ n) first in
+    let all : 2 ^ precision * (parts * spacing) ≡ 2 ^ precision * (parts * 1) =
+    ap (λ (n : ℕ). 2 ^ precision * (parts * n)) one in
+    let alone : 2 ^ precision * (parts * 1) ≡ 2 ^ precision * parts =
+    ap (λ (n : ℕ). 2 ^ precision * n) (omega arith) in
+    let few : 2 ^ precision ≤ 2 ^ 60 = pow-le-pow_right two_pos small.few_digits in
+    let most : 2 ^ precision * parts ≤ 2 ^ 60 * parts = mul-le-mul_right parts few in
+    omega (arith, all, alone, most, small.parts_bound)
+spacings_fit precision amount parts spacing place small is (inr many) =
+    let t : 2 * 2 ^ (precision - 1) ≡ 2 ^ precision = twice_half precision (omega (arith, small.some_digits)) in
+    let k : 2 * 2 ^ (precision - 1) * (parts * spacing) ≡ 2 ^ precision * (parts * spacing) =
+    ap (λ (x : ℕ). x * (parts * spacing)) t in
+    omega (arith, k, many, small.amount_bound)
 
--- the magnitude is 2 ^ precision spacings or more if the quotient is 2 ^ precision or more
-too_many : (precision amount parts spacing : ℕ) → 0 < parts → IsReached precision amount parts spacing
-    → 2 ^ precision ≤ amount / (parts * spacing) → 2 ^ precision * (parts * spacing) ≤ amount
-too_many precision amount parts spacing h r l =
-    (le-div_iff_mul-le (divisor_some precision amount parts spacing h r)).0 l
+pub reached_fits : (precision amount parts spacing : ℕ) → IsSmall precision amount parts
+    → IsReached precision amount parts spacing → 2 ^ precision * (parts * spacing) < 2 ^ 128
+reached_fits precision amount parts spacing small r =
+    spacings_fit precision amount parts spacing r.place small r.is r.many
 
 -- if the magnitude is 2 ^ precision spacings or more, it is at least half as many spacings of twice the size
-pub doubled : (precision amount parts spacing : ℕ) → 0 < precision → 0 < parts
-    → IsReached precision amount parts spacing → 2 ^ precision ≤ amount / (parts * spacing)
-    → IsReached precision amount parts (spacing * 2)
-doubled precision amount parts spacing p h r l =
-    let m : 2 ^ precision * (parts * spacing) ≤ amount = too_many precision amount parts spacing h r l in
+pub doubled : (precision amount parts spacing : ℕ) → 0 < precision → IsReached precision amount parts spacing
+    → 2 ^ precision * (parts * spacing) ≤ amount → IsReached precision amount parts (spacing * 2)
+doubled precision amount parts spacing p r m =
     let t : 2 * 2 ^ (precision - 1) ≡ 2 ^ precision = twice_half precision p in
     let e : 2 ^ (r.place + 1) ≡ 2 ^ r.place * 2 = pow-add 2 r.place 1 in
     let s : spacing ≡ 2 ^ r.place = r.is in
@@ -41,9 +52,8 @@ doubled precision amount parts spacing p h r l =
 
 -- a spacing at which the magnitude is 2 ^ precision spacings or more is below the amount
 pub spacing_below : (precision amount parts spacing : ℕ) → 0 < precision → 0 < parts
-    → IsReached precision amount parts spacing → 2 ^ precision ≤ amount / (parts * spacing) → spacing < amount
-spacing_below precision amount parts spacing p h r l =
-    let m : 2 ^ precision * (parts * spacing) ≤ amount = too_many precision amount parts spacing h r l in
+    → IsReached precision amount parts spacing → 2 ^ precision * (parts * spacing) ≤ amount → spacing < amount
+spacing_below precision amount parts spacing p h r m =
     let t : 2 * 2 ^ (precision - 1) ≡ 2 ^ precision = twice_half precision p in
     let q : 1 ≤ 2 ^ (precision - 1) = pow_pos (precision - 1) in
     let two : 2 ≤ 2 ^ precision = omega arith in
@@ -52,12 +62,7 @@ spacing_below precision amount parts spacing p h r l =
     let s : 0 < spacing = spacing_some precision amount parts spacing r in
     omega arith
 
--- a spacing with a quotient below 2 ^ precision is the last one
-pub last : (precision amount parts spacing : ℕ) → 0 < parts → IsReached precision amount parts spacing
-    → amount / (parts * spacing) < 2 ^ precision → IsSpacing precision amount parts spacing
-last precision amount parts spacing h r l = record {
-  place = r.place;
-  is = r.is;
-  few = (div-lt_iff_lt-mul (divisor_some precision amount parts spacing h r)).0 l;
-  many = r.many;
-}
+-- a spacing at which it is less is the last one
+pub last : (precision amount parts spacing : ℕ) → IsReached precision amount parts spacing
+    → amount < 2 ^ precision * (parts * spacing) → IsSpacing precision amount parts spacing
+last precision amount parts spacing r l = record { place = r.place; is = r.is; few = l; many = r.many }

@@ -13,4 +13,3 @@ pub mod plain;
 pub mod statuses;
 pub mod two_modes;
 pub mod wide;
-pub mod widest;

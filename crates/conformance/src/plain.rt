@@ -22,7 +22,7 @@ fn spacing_at(precision: u32, amount: u128, parts: u128) -> u128
 {
     let count = 2u128.pow(precision);
     let mut spacing = 1;
-    while amount / (parts * spacing) >= count {
+    while count * (parts * spacing) <= amount {
         spacing *= 2;
     }
     spacing

@@ -16,6 +16,4 @@ mod sums;
 #[cfg(test)]
 mod sweeps;
 #[cfg(test)]
-mod texts;
-#[cfg(test)]
 mod unpacked;

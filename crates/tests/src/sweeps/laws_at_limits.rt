@@ -10,13 +10,13 @@ use crate::sweeps::calls::{
 };
 use crate::sweeps::tables::MODES;
 use commands::custom_formats::{
-    BroadS, DeepS, LeastFiniteS, LeastS, PreciseS, SevenS, TenS, VastS, WrittenBitS,
+    BroadS, DeepS, FusedLimitS, LeastFiniteS, LeastS, PreciseS, ProductLimitS, SevenS, TenS, VastS,
+    WrittenBitS,
 };
 use conformance::laws::{
     near_difference, opposite_products, sums_in_order, there_and_back, through_bits, through_value,
     up_and_down,
 };
-use conformance::widest::{WidestFusedSumsS, WidestProductsS};
 use rustc_apfloat::ieee::{HalfS, IeeeFloat, NonfiniteBehavior, Semantics, TinyBefore};
 use rustc_apfloat::{Float, Round, Status};
 use std::process::Abort;
@@ -272,8 +272,7 @@ fn formats_without_bits(rt: HostRuntime) {
     check_without_bits::<LeastS>(&rt);
     check_without_bits::<LeastFiniteS>(&rt);
     check_without_bits::<DeepS>(&rt);
-    check_without_bits::<WidestProductsS>(&rt);
-    check_without_bits::<WidestFusedSumsS>(&rt);
+    check_without_bits::<ProductLimitS>(&rt);
     check_laws::<PreciseS>(&rt);
     check_laws::<VastS>(&rt);
 }
@@ -281,6 +280,7 @@ fn formats_without_bits(rt: HostRuntime) {
 #[test]
 fn formats_with_bits(rt: HostRuntime) {
     check_with_bits::<SevenS>(&rt);
+    check_with_bits::<FusedLimitS>(&rt);
     check_with_bits::<TinyBefore<HalfS>>(&rt);
     check_with_bits::<TenS>(&rt);
     check_with_bits::<WrittenBitS>(&rt);

@@ -2,7 +2,7 @@
 
 use crate::asserts::same;
 use crate::sweeps::calls::{of_integer, to_integer};
-use conformance::widest::{square, square_and_itself};
+use commands::custom_formats::{FusedLimit, square};
 use rustc_apfloat::{Round, Status};
 
 #[test]
@@ -19,8 +19,8 @@ fn products_of_64_digits(rt: HostRuntime) {
 
 #[test]
 fn fused_sums_of_63_digits(rt: HostRuntime) {
-    let x = of_integer((1 << 40) + 1).value;
-    let nearest = square_and_itself(x, Round::NearestTiesToEven);
+    let x: FusedLimit = of_integer((1 << 40) + 1).value;
+    let nearest = x.mul_add_r(x, x, Round::NearestTiesToEven);
     same(
         &rt,
         (nearest.status, to_integer(nearest.value, 128).value),
