@@ -113,38 +113,22 @@ lane_with bits inexact underflow overflow invalid is_nan =
 
 flags_counted : (bits : ℕ) (inexact underflow overflow invalid is_nan : Bool)
     → AreLanesCounted (lane_with bits inexact underflow overflow invalid is_nan)
-flags_counted bits true true true true is_nan =
-    record { inexact = refl; underflow = refl; overflow = refl; invalid = refl }
-flags_counted bits true true true false is_nan =
-    record { inexact = refl; underflow = refl; overflow = refl; invalid = refl }
-flags_counted bits true true false true is_nan =
-    record { inexact = refl; underflow = refl; overflow = refl; invalid = refl }
-flags_counted bits true true false false is_nan =
-    record { inexact = refl; underflow = refl; overflow = refl; invalid = refl }
-flags_counted bits true false true true is_nan =
-    record { inexact = refl; underflow = refl; overflow = refl; invalid = refl }
-flags_counted bits true false true false is_nan =
-    record { inexact = refl; underflow = refl; overflow = refl; invalid = refl }
-flags_counted bits true false false true is_nan =
-    record { inexact = refl; underflow = refl; overflow = refl; invalid = refl }
-flags_counted bits true false false false is_nan =
-    record { inexact = refl; underflow = refl; overflow = refl; invalid = refl }
-flags_counted bits false true true true is_nan =
-    record { inexact = refl; underflow = refl; overflow = refl; invalid = refl }
-flags_counted bits false true true false is_nan =
-    record { inexact = refl; underflow = refl; overflow = refl; invalid = refl }
-flags_counted bits false true false true is_nan =
-    record { inexact = refl; underflow = refl; overflow = refl; invalid = refl }
-flags_counted bits false true false false is_nan =
-    record { inexact = refl; underflow = refl; overflow = refl; invalid = refl }
-flags_counted bits false false true true is_nan =
-    record { inexact = refl; underflow = refl; overflow = refl; invalid = refl }
-flags_counted bits false false true false is_nan =
-    record { inexact = refl; underflow = refl; overflow = refl; invalid = refl }
-flags_counted bits false false false true is_nan =
-    record { inexact = refl; underflow = refl; overflow = refl; invalid = refl }
-flags_counted bits false false false false is_nan =
-    record { inexact = refl; underflow = refl; overflow = refl; invalid = refl }
+flags_counted b true true true true n = record { inexact = refl; underflow = refl; overflow = refl; invalid = refl }
+flags_counted b true true true false n = record { inexact = refl; underflow = refl; overflow = refl; invalid = refl }
+flags_counted b true true false true n = record { inexact = refl; underflow = refl; overflow = refl; invalid = refl }
+flags_counted b true true false false n = record { inexact = refl; underflow = refl; overflow = refl; invalid = refl }
+flags_counted b true false true true n = record { inexact = refl; underflow = refl; overflow = refl; invalid = refl }
+flags_counted b true false true false n = record { inexact = refl; underflow = refl; overflow = refl; invalid = refl }
+flags_counted b true false false true n = record { inexact = refl; underflow = refl; overflow = refl; invalid = refl }
+flags_counted b true false false false n = record { inexact = refl; underflow = refl; overflow = refl; invalid = refl }
+flags_counted b false true true true n = record { inexact = refl; underflow = refl; overflow = refl; invalid = refl }
+flags_counted b false true true false n = record { inexact = refl; underflow = refl; overflow = refl; invalid = refl }
+flags_counted b false true false true n = record { inexact = refl; underflow = refl; overflow = refl; invalid = refl }
+flags_counted b false true false false n = record { inexact = refl; underflow = refl; overflow = refl; invalid = refl }
+flags_counted b false false true true n = record { inexact = refl; underflow = refl; overflow = refl; invalid = refl }
+flags_counted b false false true false n = record { inexact = refl; underflow = refl; overflow = refl; invalid = refl }
+flags_counted b false false false true n = record { inexact = refl; underflow = refl; overflow = refl; invalid = refl }
+flags_counted b false false false false n = record { inexact = refl; underflow = refl; overflow = refl; invalid = refl }
 
 pub lane_counted : (lane : Lane) → AreLanesCounted lane
 lane_counted lane =

@@ -17,7 +17,7 @@ use Rattle.rustc_apfloat.specs.Lawful.{Constants, IsLawful, AreParameters, forma
 use Rattle.rustc_apfloat.specs.Layout.{fields_of}
 use Rattle.rustc_apfloat.specs.Rounding.{IsDelivered, ok_bits}
 use Rattle.rustc_apfloat.specs.Standing.{StandsFor, up, down}
-use Rattle.apfloat_model.proofs.general.Powers.{two_pos, twice_half}
+use Rattle.apfloat_model.proofs.general.Powers.{two_pos, twice_half, pow3}
 use Rattle.apfloat_model.proofs.rounding.FarMagnitudes.{far_above, far_below}
 use Rattle.fast_bits.proofs.Reading.{quanta_with, number_read, trailing_low, span_is}
 use Rattle.apfloat_arrays.specs.declared.converted.Converted.{Converted}
@@ -35,17 +35,13 @@ quanta_some precision biased trailing =
     let some : 0 < 2 ^ (precision - 1) + trailing = omega arith in
     mul-pos some (pow_pos (biased - 1))
 
--- three powers of two
-scaled : (c d e : ℕ) → 2 ^ (c + d + e) ≡ 2 ^ c * 2 ^ d * 2 ^ e
-scaled c d e = pow-add 2 (c + d) e ∙ ap (λ (n : ℕ). n * 2 ^ e) (pow-add 2 c d)
-
 past_by : (top from precision biased trailing scale : ℕ) → top + from ≤ precision - 1 + (biased - 1) + scale
     → 2 ^ top * 2 ^ from ≤ quanta_with precision biased trailing * 2 ^ scale
 past_by top from precision biased trailing scale far =
     let low : 2 ^ (top + from) ≤ 2 ^ (precision - 1 + (biased - 1) + scale) = pow-le-pow_right two_pos far in
     let left : 2 ^ (top + from) ≡ 2 ^ top * 2 ^ from = pow-add 2 top from in
     let right : 2 ^ (precision - 1 + (biased - 1) + scale) ≡ 2 ^ (precision - 1) * 2 ^ (biased - 1) * 2 ^ scale =
-    scaled (precision - 1) (biased - 1) scale in
+    pow3 (precision - 1) (biased - 1) scale in
     let more : 2 ^ (precision - 1) ≤ 2 ^ (precision - 1) + trailing = omega arith in
     let placed : 2 ^ (precision - 1) * 2 ^ (biased - 1) ≤ (2 ^ (precision - 1) + trailing) * 2 ^ (biased - 1) =
     mul-le-mul_right (2 ^ (biased - 1)) more in
@@ -60,7 +56,7 @@ little_by : (from precision biased trailing scale : ℕ) → 1 ≤ precision →
 little_by from precision biased trailing scale some low far =
     let high : 2 ^ (precision + (biased - 1) + scale + 1) ≤ 2 ^ from = pow-le-pow_right two_pos far in
     let right : 2 ^ (precision + (biased - 1) + scale) ≡ 2 ^ precision * 2 ^ (biased - 1) * 2 ^ scale =
-    scaled precision (biased - 1) scale in
+    pow3 precision (biased - 1) scale in
     let twice : 2 ^ (precision + (biased - 1) + scale + 1) ≡ 2 ^ (precision + (biased - 1) + scale) * 2 =
     pow-add 2 (precision + (biased - 1) + scale) 1 in
     let halves : 2 * 2 ^ (precision - 1) ≡ 2 ^ precision = twice_half precision some in

@@ -7,13 +7,14 @@ use Rattle.std.proofs.lemmas.List.{drop-drop, drop-take, length-append, take-tak
 use Rattle.std.proofs.lemmas.List.Edits.{length-between}
 use Rattle.std.proofs.lemmas.List.Sums.{count_by-le-length, sum_by-append}
 use Rattle.std.proofs.lemmas.Option.{slice_get_past}
-use Rattle.std.proofs.lemmas.Slice.{between-put_mid, between_is, take-put_mid_below}
+use Rattle.std.proofs.lemmas.Slice.{between-put_mid}
 use borrow.Rule.Slice.PartMut.{put_mid}
 use Rattle.apfloat_model.proofs.general.ListLaws.{get_left}
 use Rattle.apfloat_arrays.specs.declared.counts.Counts.{Counts}
 use Rattle.apfloat_arrays.specs.declared.counts.Outcome.{Outcome}
 use Rattle.apfloat_arrays.specs.Blocks.{IsBlock, value_at}
 use Rattle.apfloat_arrays.specs.Outcomes.{became_nan, counts_of, raised, sum_of, sum_to_top}
+use Rattle.apfloat_arrays.proofs.Places.{before_write}
 
 -- ---- lists
 
@@ -65,19 +66,6 @@ counts_join first second few =
     cc
 
 -- ---- values in their places
-
--- the value of an index before the write, and of one in it
-before_write : (target index from to k : ℕ) (output new : List ℕ) → from ≡ index * target → k < index
-    → from ≤ length output
-    → value_at target k (put_mid from (to - from) output new) ≡ value_at target k output
-before_write target index from to k output new is before within =
-    let next : suc k * target ≤ index * target = mul-le-mul_right target before in
-    let one_more : suc k * target ≡ k * target + target = suc-mul k target in
-    let below : k * target + target ≤ from = omega (arith, next, one_more, is) in
-    between_is (put_mid from (to - from) output new) (k * target) (k * target + target)
-    ∙ ap (drop (k * target))
-    (take-put_mid_below from (to - from) output new (k * target + target) below within)
-    ∙ sym (between_is output (k * target) (k * target + target))
 
 -- the value of an index from the start of a range on is a value of the range
 pub in_range : (width index more k : ℕ) (bytes : List ℕ) → k < more

@@ -24,6 +24,7 @@ use Rattle.rustc_apfloat.specs.Rounding.{zero_sign}
 use Rattle.rustc_apfloat.specs.declared.Round.{Round}
 use Rattle.apfloat_model.specs.declared.kinds.NonfiniteBehavior.{NonfiniteBehavior}
 use Rattle.apfloat_model.specs.declared.kinds.NonfiniteBehavior.TheVariants.{IEEE754, NanOnly, NanNegativeZero}
+use Rattle.apfloat_model.proofs.arithmetic.Signs.{plus_zero}
 use Rattle.small_formats.specs.saturation.Saturation.{IsConversionBy, saturated}
 use Rattle.small_formats.specs.declared.saturation.saturation.Overflow.{Overflow}
 use Rattle.small_formats.specs.declared.saturation.saturation.Overflow.TheVariants.{Rounded, Saturated, Finite}
@@ -217,11 +218,6 @@ quiet_from o none number = record {
   invalid = rw none refl;
   nans = number;
 }
-
-plus_zero : (kind : NonfiniteBehavior) → zero_sign kind false ≡ false
-plus_zero IEEE754 = refl
-plus_zero NanOnly = refl
-plus_zero NanNegativeZero = refl
 
 -- a positive zero is converted exactly, and stays one
 zero_kept : (f g : Format) (mode : Round) (value : Datum) (status : ℕ) (loses : Bool)

@@ -35,14 +35,9 @@ use Rattle.small_formats.specs.saturation.Saturation.{IsConversionBy}
 use Rattle.apfloat_arrays.specs.ShortSources.{IsCoarseFor, IsShortFor, is_nan_of, short_of}
 use Rattle.apfloat_arrays.specs.Values.{IsAnswerFrom}
 use Rattle.apfloat_arrays.proofs.FarNumbers.{scale_is}
+use Rattle.fast_bits.proofs.lanes_lemmas.Cuts.{exact_odd, inexact_odd}
 
 -- ---- the quotient rounded to odd
-
-odd_for_some : (q r : ℕ) → (r ≡ 0 → ⊥) → odd_for_rest q r ≡ q + 1 - q % 2
-odd_for_some q r some = ap (λ (b : Bool). cond b q (q + 1 - q % 2)) (ne_eqb r 0 some)
-
-odd_for_none : (q r : ℕ) → r ≡ 0 → odd_for_rest q r ≡ q
-odd_for_none q r none = ap (λ (b : Bool). cond b q (q + 1 - q % 2)) (eq-eqb r 0 none)
 
 -- the odd one of two consecutive multiples
 odd_of_two : (q w : ℕ) (odd : Bool) → eqb (q % 2) 1 ≡ odd → cond odd (q * w) ((q + 1) * w) ≡ (q + 1 - q % 2) * w
@@ -86,7 +81,7 @@ module _ (u m c : ℕ) (unit : 0 < u) (fits : m < 64 * u) (full : (c ≡ 0) ⊎ 
       exact_above 6 (m / u * 2 ^ c) (m * 2 ^ c) u unit below.on_grid e in
       let same : odd_between (m / u * 2 ^ c) (m / u * 2 ^ c) ≡ odd_quotient m u * 2 ^ c =
       sym (cond_same (is_odd_below (m / u * 2 ^ c) (m / u * 2 ^ c)) (m / u * 2 ^ c))
-      ∙ ap (λ (n : ℕ). n * 2 ^ c) (sym (odd_for_none (m / u) (m % u) none)) in
+      ∙ ap (λ (n : ℕ). n * 2 ^ c) (sym (exact_odd (m / u) (m % u) none)) in
       let six : 0 < 6 = omega arith in
       subst (λ (n : ℕ). AgreesAtEven 5 (m * 2 ^ c) u n) same
       (odd_agrees 6 (m / u * 2 ^ c) (m / u * 2 ^ c) (m * 2 ^ c) u six unit below above)
@@ -102,7 +97,7 @@ module _ (u m c : ℕ) (unit : 0 < u) (fits : m < 64 * u) (full : (c ≡ 0) ⊎ 
       let same : odd_between (m / u * 2 ^ c) ((m / u + 1) * 2 ^ c) ≡ odd_quotient m u * 2 ^ c =
       odd_of_two (m / u) (2 ^ c) (is_odd_below (m / u * 2 ^ c) ((m / u + 1) * 2 ^ c))
       (sym (odd_below_is (m / u) c))
-      ∙ ap (λ (n : ℕ). n * 2 ^ c) (sym (odd_for_some (m / u) (m % u) some)) in
+      ∙ ap (λ (n : ℕ). n * 2 ^ c) (sym (inexact_odd (m / u) (m % u) some)) in
       let six : 0 < 6 = omega arith in
       subst (λ (n : ℕ). AgreesAtEven 5 (m * 2 ^ c) u n) same
       (odd_agrees 6 (m / u * 2 ^ c) ((m / u + 1) * 2 ^ c) (m * 2 ^ c) u six unit below above)
@@ -246,11 +241,11 @@ odd_above u h t unit =
     ap (λ (n : ℕ). odd_for_rest n ((2 * h * u + t) % u)) q ∙ ap (λ (n : ℕ). odd_for_rest (2 * h + t / u) n) r
     ∙ ⊎_elim {C = odd_for_rest (2 * h + t / u) (t % u) ≡ 2 * h + odd_for_rest (t / u) (t % u)}
     (λ (z : t % u ≡ 0).
-    odd_for_none (2 * h + t / u) (t % u) z ∙ ap (λ (n : ℕ). 2 * h + n) (sym (odd_for_none (t / u) (t % u) z)))
+    exact_odd (2 * h + t / u) (t % u) z ∙ ap (λ (n : ℕ). 2 * h + n) (sym (exact_odd (t / u) (t % u) z)))
     (λ (n : t % u ≡ 0 → ⊥).
-    odd_for_some (2 * h + t / u) (t % u) n
+    inexact_odd (2 * h + t / u) (t % u) n
     ∙ (let s : 2 * h + t / u + 1 - (2 * h + t / u) % 2 ≡ 2 * h + (t / u + 1 - t / u % 2) = even_apart h (t / u) in s)
-    ∙ ap (λ (k : ℕ). 2 * h + k) (sym (odd_for_some (t / u) (t % u) n)))
+    ∙ ap (λ (k : ℕ). 2 * h + k) (sym (inexact_odd (t / u) (t % u) n)))
     (cases_eq (t % u) 0)
   where
     even_apart : (h a : ℕ) → 2 * h + a + 1 - (2 * h + a) % 2 ≡ 2 * h + (a + 1 - a % 2)
@@ -259,20 +254,20 @@ odd_above u h t unit =
 odd_of_zero : (u t : ℕ) → 0 < u → t ≡ 0 → odd_quotient t u ≡ 0
 odd_of_zero u t unit z =
     ap (λ (n : ℕ). odd_quotient n u) z
-    ∙ odd_for_none (0 / u) (0 % u) (zero-mod u) ∙ zero-div u
+    ∙ exact_odd (0 / u) (0 % u) (zero-mod u) ∙ zero-div u
 
 odd_of_some : (u t : ℕ) → 0 < u → (t ≡ 0 → ⊥) → 0 < odd_quotient t u
 odd_of_some u t unit some =
     ⊎_elim
     (λ (z : t % u ≡ 0).
-    let e = odd_for_none (t / u) (t % u) z in
+    let e = exact_odd (t / u) (t % u) z in
     let parts : t / u * u + t % u ≡ t = div-add-mod' t u in
     let p : 0 < t / u = ⊎_elim (λ (none : t / u ≡ 0).
     let gone : t / u * u ≡ 0 * u = ap (λ (n : ℕ). n * u) none in absurd (some (omega (arith, parts, gone, z))))
     (λ (more : t / u ≡ 0 → ⊥). omega (arith, more)) (cases_eq (t / u) 0) in
     omega (arith, e, p))
     (λ (n : t % u ≡ 0 → ⊥).
-    let e = odd_for_some (t / u) (t % u) n in
+    let e = inexact_odd (t / u) (t % u) n in
     let k : 0 < t / u + 1 - t / u % 2 = odd_some (t / u) in
     omega (arith, e, k))
     (cases_eq (t % u) 0)
@@ -368,8 +363,8 @@ odd_high : (q r : ℕ) → odd_for_rest q r / 32 ≡ q / 32
 odd_high q r = by_rest (cases_eq r 0)
   where
     by_rest : (r ≡ 0) ⊎ (r ≡ 0 → ⊥) → odd_for_rest q r / 32 ≡ q / 32
-    by_rest (inl z) = ap (λ (n : ℕ). n / 32) (odd_for_none q r z)
-    by_rest (inr n) = let e = odd_for_some q r n in ap (λ (k : ℕ). k / 32) e ∙ same q
+    by_rest (inl z) = ap (λ (n : ℕ). n / 32) (exact_odd q r z)
+    by_rest (inr n) = let e = inexact_odd q r n in ap (λ (k : ℕ). k / 32) e ∙ same q
       where
         same : (a : ℕ) → (a + 1 - a % 2) / 32 ≡ a / 32
         same a = omega arith
@@ -378,9 +373,9 @@ odd_low : (q r : ℕ) → odd_for_rest q r % 32 ≡ odd_for_rest (q % 32) r
 odd_low q r = by_rest (cases_eq r 0)
   where
     by_rest : (r ≡ 0) ⊎ (r ≡ 0 → ⊥) → odd_for_rest q r % 32 ≡ odd_for_rest (q % 32) r
-    by_rest (inl z) = ap (λ (n : ℕ). n % 32) (odd_for_none q r z) ∙ sym (odd_for_none (q % 32) r z)
+    by_rest (inl z) = ap (λ (n : ℕ). n % 32) (exact_odd q r z) ∙ sym (exact_odd (q % 32) r z)
     by_rest (inr n) =
-        ap (λ (k : ℕ). k % 32) (odd_for_some q r n) ∙ same q ∙ sym (odd_for_some (q % 32) r n)
+        ap (λ (k : ℕ). k % 32) (inexact_odd q r n) ∙ same q ∙ sym (inexact_odd (q % 32) r n)
       where
         same : (a : ℕ) → (a + 1 - a % 2) % 32 ≡ a % 32 + 1 - a % 32 % 2
         same a = omega arith

@@ -6,15 +6,14 @@ use Rattle.std.specs.Bool.{MatchBool}
 use Rattle.std.specs.Int.RustNames.{bit_and}
 use Rattle.std.proofs.Math.Nat.{add-mul-mod_self_right, div-eq_of_lt, min-eq_left, min-eq_right, min-le_right}
 use Rattle.std.proofs.Math.Nat.{mod-eq_of_lt, mul-le-mul_right, mul-lt-mul_of_pos_right, pow-le-pow_right}
-use Rattle.std.proofs.lemmas.Bool.{cases_eq, cases_lt, cond-false, eq-eqb, eqb-true, le-leb, le-ltb, lt-leb, lt-ltb}
+use Rattle.std.proofs.lemmas.Bool.{cases_eq, cases_lt, cond-false, eq-eqb, eqb-true, le-leb, le-ltb, lt-leb, lt-ltb, eqb-false}
 use Rattle.std.proofs.lemmas.Bool.{ne_eqb}
 use Rattle.std.proofs.lemmas.Nat.{div-add-mod', mod_below, pow-add, pow_pos}
-use Rattle.apfloat_model.specs.bits.Layout.{Layout, all_ones, datum_of, datum_of_fields, implied_datum}
-use Rattle.apfloat_model.specs.bits.Layout.{implied_number, trailing_bits}
+use Rattle.apfloat_model.specs.bits.Layout.{Layout, all_ones, datum_of, datum_of_fields}
+use Rattle.apfloat_model.specs.bits.Layout.{trailing_bits}
 use Rattle.apfloat_model.specs.declared.kinds.NonfiniteBehavior.{NonfiniteBehavior}
 use Rattle.apfloat_model.specs.declared.kinds.NonfiniteBehavior.TheVariants.{IEEE754}
 use Rattle.apfloat_model.specs.declared.kinds.Round.{Round}
-use Rattle.apfloat_model.specs.declared.loss.Loss.TheVariants.{ExactlyZero, LessThanHalf, ExactlyHalf, MoreThanHalf}
 use Rattle.apfloat_model.specs.formats.Datum.{finite}
 use Rattle.apfloat_model.specs.formats.Format.{Format, largest, smallest_normalized}
 use Rattle.apfloat_model.specs.formats.Lawful.{Constants, format_with as constants_format, layout_with}
@@ -25,9 +24,10 @@ use Rattle.apfloat_model.proofs.bits.EncodedOnce.{fields_with}
 use Rattle.apfloat_model.proofs.general.Powers.{twice_half, two_pos}
 use Rattle.apfloat_model.proofs.rounding.KeptDigits.{enclosed_from, fits_cut, full_cut}
 use Rattle.apfloat_rounding.specs.Cuts.{loss_at}
-use Rattle.apfloat_rounding.proofs.CutRests.{loss_zero, rest_stands}
+use Rattle.apfloat_rounding.proofs.CutRests.{loss_zero, rest_stands, loss_some}
 use Rattle.fast_bits.specs.Addends.{rounded_by}
 use Rattle.fast_bits.proofs.lanes_lemmas.Cuts.{far_below, in_quanta}
+use Rattle.fast_bits.proofs.lanes_lemmas.Singles.{fields_number, zero_factor}
 use Rattle.small_formats.specs.Codes.{datum_of as number_of_code, largest_index, magnitude_of, point}
 use Rattle.small_formats.specs.Conversions.{IsGiven, IsInto, IsSaturated, IsStoredNumber}
 use Rattle.small_formats.specs.Picks.{IsPickedAt}
@@ -159,17 +159,6 @@ moved_sum : (up : Bool) (kept more : ℕ) → cond up (kept + 1) kept + more ≡
 moved_sum true kept more = omega arith
 moved_sum false kept more = refl
 
-some_loss : (less equal : Bool) → cond less LessThanHalf (cond equal ExactlyHalf MoreThanHalf) ≡ ExactlyZero → ⊥
-some_loss true equal e = cc
-some_loss false true e = cc
-some_loss false false e = cc
-
-inexact_loss : (rest half : ℕ) → eqb rest 0 ≡ false → loss_at rest half ≡ ExactlyZero → ⊥
-inexact_loss rest half other e =
-    some_loss (ltb rest half) (eqb rest half)
-    (sym (ap (λ (b : Bool). cond b ExactlyZero (cond (ltb rest half) LessThanHalf (cond (eqb rest half) ExactlyHalf
-    MoreThanHalf))) other) ∙ e)
-
 pub picked : (p low place t amount parts index : ℕ) (mode : Round) (negative : Bool) → 0 < p → 0 < parts
     → IsCutAt p low place t amount parts → index ≡ rounded_by low mode negative t + place * 2 ^ (p - 1)
     → IsPickedAt p mode negative amount parts index (eqb (t % 2 ^ low) 0)
@@ -181,7 +170,7 @@ picked p low place t amount parts index mode negative some any it is =
     picked_at p mode negative kept place amount parts index loss up (eqb rest 0) some any it.enclosed it.stands refl
     (is ∙ moved_sum up kept (place * 2 ^ (p - 1)))
     (λ e. loss_zero rest (2 ^ (low - 1)) (eqb-true rest 0 e))
-    (inexact_loss rest (2 ^ (low - 1)))
+    (λ e. let some = eqb-false rest 0 e in loss_some rest (2 ^ (low - 1)) (omega (arith, some)))
 
 -- ---- what is delivered
 
@@ -297,13 +286,6 @@ overflow_only_past c negative leads exact index code status is flags =
 
 -- ---- zeros and other numbers
 
-zero_factor : (m unit : ℕ) → 0 < unit → m * unit ≡ 0 → m ≡ 0
-zero_factor m unit some none =
-    ⊎_elim {C = m ≡ 0} (λ (z : m < 1). omega (arith, z))
-    (λ (any : 1 ≤ m).
-    let more : 1 * unit ≤ m * unit = mul-le-mul_right unit any in absurd (omega (arith, more, some, none)))
-    (cases_lt m 1)
-
 zero_rounded : (low : ℕ) (mode : Round) (negative : Bool) (t : ℕ) → t ≡ 0
     → rounded_by low mode negative t ≡ 0
 zero_rounded low mode negative t none =
@@ -381,33 +363,6 @@ number_into c f mode negative leads P low first e m index code status law more f
     (cases_eq (m * 2 ^ e) 0)
 
 -- ---- from bits
-
--- the number that fields below the greatest exponent encode
-fields_number : (f : Format) (layout : Layout) (negative : Bool) (biased trailing : ℕ) → f.nonfinite ≡ IEEE754
-    → f.explicit_integer_bit ≡ false → eqb biased (all_ones layout.exponent_bits) ≡ false
-    → datum_of_fields f layout (fields_with negative biased trailing)
-    ≡ finite negative ((trailing + min biased 1 * 2 ^ (f.precision - 1)) * 2 ^ (biased - 1))
-fields_number f layout negative biased trailing kind implied few =
-    cond-false f.explicit_integer_bit _ _ implied
-    ∙ ap (λ (k : NonfiniteBehavior). implied_datum k f layout (fields_with negative biased trailing)) kind
-    ∙ rw few
-    (⊎_elim {C = implied_number f (fields_with negative biased trailing)
-    ≡ finite negative ((trailing + min biased 1 * 2 ^ (f.precision - 1)) * 2 ^ (biased - 1))}
-    (λ (none : biased ≡ 0).
-    let same : trailing ≡ (trailing + min biased 1 * 2 ^ (f.precision - 1)) * 2 ^ (biased - 1) =
-    rw none (let e : trailing ≡ (trailing + 0 * 2 ^ (f.precision - 1)) * 2 ^ 0 = omega arith in e) in
-    rw (eq-eqb biased 0 none) (ap (finite negative) same))
-    (λ (some : biased ≡ 0 → ⊥).
-    let least : 1 ≤ biased =
-    ⊎_elim {C = 1 ≤ biased} (λ (z : biased < 1). absurd (some (omega (arith, z)))) (λ (q : 1 ≤ biased). q)
-    (cases_lt biased 1) in
-    let one : min biased 1 ≡ 1 = min-eq_right least in
-    let times : min biased 1 * 2 ^ (f.precision - 1) ≡ 1 * 2 ^ (f.precision - 1) =
-    ap (λ (n : ℕ). n * 2 ^ (f.precision - 1)) one in
-    let significand : smallest_normalized f + trailing ≡ trailing + min biased 1 * 2 ^ (f.precision - 1) =
-    omega (arith, times) in
-    rw (ne_eqb biased 0 some) (ap (λ (n : ℕ). finite negative (n * 2 ^ (biased - 1))) significand))
-    (cases_eq biased 0))
 
 pub number_read : (c : Constants) (x : ℕ) → c.nonfinite ≡ IEEE754 → c.explicit_integer_bit ≡ false
     → (biased_of c x ≡ 2 ^ c.exp_bits - 1 → ⊥)

@@ -1,5 +1,5 @@
 -- The conversion of a value into a storage format or out of it is unique.
-use Rattle.std.proofs.Common.{◌≡◌, ℕ, ◌^◌, ◌<◌, Bool, true, false, List, sym, refl, ap, ◌∙◌, subst, lit≤}
+use Rattle.std.proofs.Common.{◌≡◌, ℕ, ◌^◌, ◌<◌, Bool, true, false, List, sym, refl, ap, ◌∙◌, subst}
 use Rattle.std.specs.Bool.{MatchBool}
 use Rattle.std.specs.Prelude.{⊤}
 use Rattle.rustc_apfloat.specs.declared.Round.{Round}
@@ -9,7 +9,6 @@ use Rattle.rustc_apfloat.specs.Flags.{bits_of}
 use Rattle.rustc_apfloat.specs.Format.{Format}
 use Rattle.rustc_apfloat.specs.Lawful.{Constants, IsLawful, format_with, layout_with}
 use Rattle.rustc_apfloat.specs.Layout.{datum_of, IsEncodedBy}
-use Rattle.apfloat_model.specs.bits.Interchange.{IsInterchange}
 use Rattle.apfloat_model.proofs.Once.{conversion_once}
 use Rattle.apfloat_model.proofs.bits.EncodedOnce.{encoded_once}
 use Rattle.apfloat_model.proofs.bits.Encodings.{lawful_interchange}
@@ -17,6 +16,7 @@ use Rattle.small_formats.specs.Float8E3M4.{e3m4_datum, e3m4_format, e3m4_layout}
 use Rattle.small_formats.specs.LawTest.{lawful_from_test}
 use Rattle.small_formats.proofs.OneAnswer.{into_once, unsigned_once}
 use Rattle.small_formats.proofs.ScaleModes.{scale_once}
+use Rattle.small_formats.proofs.NarrowCodes.{e3m4_encoded, e3m4_interchange}
 use Rattle.formats_at_run_time.specs.BuiltIns.{constants_in}
 use Rattle.formats_at_run_time.specs.FlaggedKinds.{flagged_constants}
 use Rattle.small_formats.specs.declared.saturation.FiniteNan.{FiniteNan}
@@ -36,19 +36,6 @@ use Rattle.apfloat_arrays.specs.stored.Formats.{format_in, keeps_infinity}
 use Rattle.apfloat_arrays.specs.stored.Stored.{IsFiniteCode, IsLargest, IsOwn, IsSaturatedCode, IsStoredBy, saturated_code}
 
 -- ---- the format's own conversion
-
-e3m4_interchange : IsInterchange e3m4_format e3m4_layout
-e3m4_interchange = record {
-  precise = lit≤ tt;
-  some = lit≤ tt;
-  bits = refl;
-  within = lit≤ tt;
-  span = refl;
-  explicit = tt;
-}
-
-e3m4_encoded : (code : ℕ) → code < 256 → IsEncodedBy e3m4_format e3m4_layout code (e3m4_datum code)
-e3m4_encoded code l = record { below = l; canonical = refl; is = refl }
 
 own_once : (format : StoredFormat) (f : Format) (mode : Round) (x : Datum) (code other status flags : ℕ)
     → code < 2 ^ bits_in format → other < 2 ^ bits_in format → IsOwn format f mode x code status

@@ -9,6 +9,7 @@ use Rattle.std.specs.Fmt.{signed_decimal}
 use Rattle.apfloat_model.specs.rounding.Bounds.{IsWithin}
 use Rattle.apfloat_decimals.specs.Texts.{sign_text}
 use Rattle.apfloat_decimals.proofs.spelled.WrittenNumbers.{length_more}
+use Rattle.apfloat_decimals.proofs.spelled.Lines.{sign_length}
 use Rattle.apfloat_digits.specs.hexadecimal.HexTexts.{character, digits_text, dotted, magnitude_text, number_text}
 use Rattle.apfloat_digits.proofs.hexadecimal_lemmas.Characters.{digits_length}
 
@@ -30,10 +31,6 @@ dotted_length (suc p) fraction =
     let both = length-append (codes ".") (digits_text (suc p) fraction) in
     subst (λ (b : Bool). length (cond b [] (codes "." ++ digits_text (suc p) fraction)) ≤ suc p + 1) (sym some)
     (omega (arith, digits, both))
-
-pub sign_length : (negative : Bool) → length (sign_text negative) ≤ 1
-sign_length true = lit≤ tt
-sign_length false = lit≤ tt
 
 pub number_length : (negative : Bool) (first places fraction : ℕ) (e : ℤ) → places ≤ 31 → IsWithin (2 ^ 23) e
     → length (number_text negative first places fraction e) ≤ 45

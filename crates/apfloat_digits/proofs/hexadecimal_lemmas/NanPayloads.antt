@@ -12,6 +12,7 @@ use Rattle.std.proofs.lemmas.Bool.{cases_Bool, cases_lt, cond_both, eqb-true, eq
 use Rattle.std.proofs.lemmas.Bool.{and_parts}
 use Rattle.std.proofs.lemmas.Nat.{and_comm, and_mask, div-add-mod', or_disjoint, pow_pos}
 use Rattle.std.proofs.lemmas.Nat.Bits.{and_pow}
+use Rattle.std.proofs.lemmas.List.{append-nil}
 use Rattle.apfloat_model.specs.bits.Layout.{Layout, Fields, trailing_bits, fields_of, has_all_ones, implied_number}
 use Rattle.apfloat_model.specs.bits.Layout.{implied_datum, written_number, written_datum, datum_of}
 use Rattle.apfloat_model.specs.declared.kinds.Category.{Category}
@@ -151,10 +152,6 @@ pub prefixed : (text digits : List ℕ)
 prefixed text digits =
     append_assoc (text ++ (48 ∷ [])) (120 ∷ []) digits ∙ append_assoc text (48 ∷ []) (120 ∷ digits)
 
-append_none : (xs : List ℕ) → xs ++ [] ≡ xs
-append_none [] = refl
-append_none (x ∷ xs) = ap (λ (t : List ℕ). x ∷ t) (append_none xs)
-
 -- a value without a payload
 pub full_of : (f : Format) (x : Datum) (text : List ℕ) → payload_of f x ≡ 0 → IsHexText f x text
     → IsFullText f x text
@@ -163,7 +160,7 @@ full_of f x text none is = record {
   rest = [];
   is_front = is;
   is_rest = subst (λ (n : ℕ). IsPayloadText n []) (sym none) payload_of_none;
-  text_is = sym (append_none text);
+  text_is = sym (append-nil text);
 }
 
 -- ---- one text
@@ -380,7 +377,7 @@ without_payload : (f : Format) (x : Datum) (text : List ℕ) → payload_of f x 
     → IsHexText f x text
 without_payload f x text none t =
     let rest = t.is_rest.none none in
-    let same : text ≡ t.front = t.text_is ∙ ap (λ (r : List ℕ). t.front ++ r) rest ∙ append_none t.front in
+    let same : text ≡ t.front = t.text_is ∙ ap (λ (r : List ℕ). t.front ++ r) rest ∙ append-nil t.front in
     subst (λ (s : List ℕ). IsHexText f x s) (sym same) t.is_front
 
 nan_means_full : (negative signaling : Bool) (payload : ℕ) (front rest text : List ℕ) → payload < 2 ^ 128
@@ -399,7 +396,7 @@ nan_means_full negative signaling payload front rest text few is x e =
     let rest_is = x.none zero_is in
     let plain = nan_means negative signaling in
     let longer : nan_text negative signaling ++ rest ≡ nan_text negative signaling =
-    ap (λ (t : List ℕ). nan_text negative signaling ++ t) rest_is ∙ append_none (nan_text negative signaling) in
+    ap (λ (t : List ℕ). nan_text negative signaling ++ t) rest_is ∙ append-nil (nan_text negative signaling) in
     subst (λ (t : List ℕ). Means t (not_a_number negative signaling payload)) (sym longer)
     (subst (λ (n : ℕ). Means (nan_text negative signaling) (not_a_number negative signaling n)) (sym zero_is) plain))
     (cases_lt 0 payload))

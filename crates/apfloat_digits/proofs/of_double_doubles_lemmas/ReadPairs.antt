@@ -14,6 +14,7 @@ use Rattle.apfloat_model.specs.rounding.Rounding.{IsPick, IsDelivered, leads_out
 use Rattle.apfloat_model.specs.texts.Specials.{TextMeaning, infinity, not_a_number, hexadecimal}
 use Rattle.apfloat_model.specs.texts.Readings.{IsMeant}
 use Rattle.apfloat_model.proofs.rounding.Laws.{zero_on_grid}
+use Rattle.apfloat_model.proofs.rounding.ModesAgree.{pick_on_grid}
 use Rattle.apfloat_pair_theory.specs.PairFormats.{wide}
 use Rattle.apfloat_pair_theory.specs.Pairs.{Pair, IsJoined, IsSplit, IsSumOfParts, IsWidened}
 use Rattle.apfloat_pair_theory.proofs.numbers.Roundings.{largest_on_grid}
@@ -25,16 +26,6 @@ use Rattle.apfloat_digits.specs.of_double_doubles.PairShortest.{GivesPairShortes
 use Rattle.apfloat_digits.proofs.of_double_doubles_lemmas.SplitsJoined.{joined_has_decimal, split_has_decimal}
 
 -- ---- what is delivered in the wide format belongs to it
-
-either_on_grid : (test : Bool) (precision x y : ℕ) → IsOnGrid precision x → IsOnGrid precision y
-    → IsOnGrid precision (cond test x y)
-either_on_grid true precision x y g h = g
-either_on_grid false precision x y g h = h
-
-pick_on_grid : (precision : ℕ) (mode : Round) (negative : Bool) (amount parts p : ℕ)
-    → IsPick precision mode negative amount parts p → IsOnGrid precision p
-pick_on_grid precision mode negative amount parts p x =
-    on_grid_as (sym x.is) (either_on_grid _ precision _ _ x.is_above.on_grid x.is_below.on_grid)
 
 at_least_zero : (n : ℕ) → 0 ≤ n
 at_least_zero n = omega arith

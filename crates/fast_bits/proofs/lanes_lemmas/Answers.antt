@@ -4,7 +4,7 @@ use Rattle.std.specs.Prelude.{⊤}
 use Rattle.std.proofs.Math.Nat.{min-eq_left, min-eq_right, mod-eq_of_lt, mod_self, mul-le-mul_right}
 use Rattle.std.proofs.lemmas.Nat.{pow-add, pow_pos}
 use Rattle.std.proofs.lemmas.Bool.{cases_eq, cases_lt, cond-false, eq-eqb, le-leb, le-ltb, lt-leb, lt-ltb, ltb-false, ltb-true, ne_eqb, true≢false}
-use Rattle.apfloat_model.specs.bits.Interchange.{IsInterchange, bits_of_fields}
+use Rattle.apfloat_model.specs.bits.Interchange.{IsInterchange, bits_of_fields, AreFieldsOf}
 use Rattle.apfloat_model.specs.bits.Layout.{IsEncodedBy, Layout, all_ones, trailing_bits}
 use Rattle.apfloat_model.specs.declared.kinds.NonfiniteBehavior.{NonfiniteBehavior}
 use Rattle.apfloat_model.specs.declared.kinds.NonfiniteBehavior.TheVariants.{IEEE754, NanOnly, NanNegativeZero}
@@ -34,6 +34,7 @@ use Rattle.fast_bits.specs.lanes.Sides.{greatest_code}
 use Rattle.fast_bits.specs.lanes.Targets.{has_no_sign, is_ieee, largest_code, signed_code}
 use Rattle.fast_bits.proofs.lanes_lemmas.Interchanges.{spans}
 use Rattle.fast_bits.proofs.lanes_lemmas.Codes.{code_encoded, past_by_code}
+use Rattle.fast_bits.proofs.lanes_lemmas.Singles.{zero_factor}
 
 -- ---- what is picked
 
@@ -62,9 +63,7 @@ moved_least true kept least full = omega (arith, full)
 moved_least false kept least full = omega (arith, full)
 
 some_rest : (rest : ℕ) → (rest ≡ 0 → ⊥) → 0 < rest
-some_rest rest more = ⊎_elim (λ (z : rest < 1). absurd (more (omega (arith, z))))
-    (λ (p : 1 ≤ rest). omega (arith, p))
-    (cases_lt rest 1)
+some_rest rest more = omega (arith, more)
 
 -- a scaled number, rounded to a whole number, is the code of what is picked
 picked_code : (precision low : ℕ) (mode : Round) (negative : Bool) (t amount parts : ℕ) → 3 ≤ precision
@@ -233,27 +232,35 @@ infinity_code f layout law is =
     ap (λ (n : ℕ). n * half) biased in
     omega (arith, ones, top, twice, some)
 
+-- the greatest exponent, with these digits
+top_encoded : (f : Format) (layout : Layout) (negative : Bool) (s bits : ℕ) (datum : Datum) → IsInterchange f layout
+    → f.explicit_integer_bit ≡ false
+    → AreFieldsOf f layout (fields_with negative (all_ones layout.exponent_bits) s) datum
+    → bits ≡ cond negative (2 ^ (layout.bits - 1)) 0 + (all_ones layout.exponent_bits * 2 ^ (f.precision - 1) + s)
+    → IsEncodedBy f layout bits datum
+top_encoded f layout negative s bits datum law implied are bits_are =
+    let x = fields_with negative (all_ones layout.exponent_bits) s in
+    let width : trailing_bits f ≡ f.precision - 1 = cond-false f.explicit_integer_bit _ _ implied in
+    let sized = law.bits in
+    let same : bits_of_fields f layout x ≡ bits =
+    rw width (top_bits negative layout.exponent_bits (f.precision - 1) (all_ones layout.exponent_bits) s bits
+    (layout.bits - 1) (omega (arith, sized, width)) bits_are) in
+    subst (λ (b : ℕ). IsEncodedBy f layout b datum) same (fields_encode f layout x datum law are)
+
 -- an infinity: the greatest exponent without digits
 infinity_encoded : (f : Format) (layout : Layout) (negative : Bool) (bits : ℕ) → IsInterchange f layout
     → f.nonfinite ≡ IEEE754 → f.explicit_integer_bit ≡ false
     → bits ≡ cond negative (2 ^ (layout.bits - 1)) 0 + (largest_code f + 1)
     → IsEncodedBy f layout bits (infinite negative)
 infinity_encoded f layout negative bits law is implied bits_are =
-    let half : ℕ = 2 ^ (f.precision - 1) in
-    let x = fields_with negative (all_ones layout.exponent_bits)
-    (cond f.explicit_integer_bit (smallest_normalized f) 0) in
-    let width : trailing_bits f ≡ f.precision - 1 = cond-false f.explicit_integer_bit _ _ implied in
-    let none : cond f.explicit_integer_bit (smallest_normalized f) 0
-    ≡ 0 = cond-false f.explicit_integer_bit _ _ implied in
+    let none : cond f.explicit_integer_bit (smallest_normalized f) 0 ≡ 0 =
+    cond-false f.explicit_integer_bit _ _ implied in
     let top = infinity_code f layout law is in
     let code : largest_code f + 1 ≡ all_ones layout.exponent_bits * 2 ^ (f.precision - 1) + 0 = omega (arith, top) in
-    let sized = law.bits in
-    let same : bits_of_fields f layout x ≡ bits =
-    rw (width, none) (top_bits negative layout.exponent_bits (f.precision - 1) (all_ones layout.exponent_bits) 0 bits
-    (layout.bits - 1)
-    (omega (arith, sized, width)) (bits_are ∙ ap (λ (n : ℕ). cond negative (2 ^ (layout.bits - 1)) 0 + n) code)) in
-    subst (λ (b : ℕ). IsEncodedBy f layout b (infinite negative)) same
-    (fields_encode f layout x (infinite negative) law (infinity_fields_of f layout negative law is))
+    top_encoded f layout negative 0 bits (infinite negative) law implied
+    (subst (λ (s : ℕ). AreFieldsOf f layout (fields_with negative (all_ones layout.exponent_bits) s) (infinite negative))
+    none (infinity_fields_of f layout negative law is))
+    (bits_are ∙ ap (λ (n : ℕ). cond negative (2 ^ (layout.bits - 1)) 0 + n) code)
 
 abbrev Only : NonfiniteBehavior → Type 0
 Only IEEE754 = ⊥
@@ -270,8 +277,6 @@ nan_encoded : (f : Format) (layout : Layout) (negative : Bool) (bits : ℕ) → 
     → IsEncodedBy f layout bits (nan negative (nan_base f))
 nan_encoded f layout negative bits law is implied bits_are =
     let half : ℕ = 2 ^ (f.precision - 1) in
-    let x = fields_with negative (all_ones layout.exponent_bits) (nan_base f) in
-    let width : trailing_bits f ≡ f.precision - 1 = cond-false f.explicit_integer_bit _ _ implied in
     let base : nan_base f ≡ 2 ^ (f.precision - 1) - 1 = ap (λ (k : NonfiniteBehavior). nan_base_of k f.precision) is
     in
     let span : f.span + 3 ≡ 2 ^ layout.exponent_bits + 1 =
@@ -286,17 +291,11 @@ nan_encoded f layout negative bits law is implied bits_are =
     ap (λ (n : ℕ). n * half) biased in
     let code : largest_code f + 1 ≡ all_ones layout.exponent_bits * 2 ^ (f.precision - 1) + nan_base f =
     omega (arith, ones, top, twice, some, base) in
-    let sized = law.bits in
-    let same : bits_of_fields f layout x ≡ bits =
-    rw width (top_bits negative layout.exponent_bits (f.precision - 1) (all_ones layout.exponent_bits)
-    (nan_base f) bits (layout.bits - 1)
-    (omega (arith, sized, width)) (bits_are ∙ ap (λ (n : ℕ). cond negative (2 ^ (layout.bits - 1)) 0 + n) code)) in
-    subst (λ (b : ℕ). IsEncodedBy f layout b (nan negative (nan_base f))) same
-    (fields_encode f layout x (nan negative (nan_base f)) law
+    top_encoded f layout negative (nan_base f) bits (nan negative (nan_base f)) law implied
     (nan_fields_of f layout negative (nan_base f) law (differs f.nonfinite is)
     (subst (λ (k : NonfiniteBehavior). IsNanSignificand k f.explicit_integer_bit f.precision
-    (nan_base_of k f.precision))
-    (sym is) refl)))
+    (nan_base_of k f.precision)) (sym is) refl))
+    (bits_are ∙ ap (λ (n : ℕ). cond negative (2 ^ (layout.bits - 1)) 0 + n) code)
 
 -- a NaN beside infinities: the greatest exponent with digits
 pub digits_encoded : (f : Format) (layout : Layout) (negative : Bool) (s bits : ℕ) → IsInterchange f layout
@@ -304,23 +303,15 @@ pub digits_encoded : (f : Format) (layout : Layout) (negative : Bool) (s bits : 
     → bits ≡ cond negative (2 ^ (layout.bits - 1)) 0 + (largest_code f + 1) + s
     → IsEncodedBy f layout bits (nan negative s)
 digits_encoded f layout negative s bits law is implied some below bits_are =
-    let half : ℕ = 2 ^ (f.precision - 1) in
-    let x = fields_with negative (all_ones layout.exponent_bits) s in
-    let width : trailing_bits f ≡ f.precision - 1 = cond-false f.explicit_integer_bit _ _ implied in
     let code = infinity_code f layout law is in
-    let sized = law.bits in
     let sum : cond negative (2 ^ (layout.bits - 1)) 0 + (largest_code f + 1) + s
     ≡ cond negative (2 ^ (layout.bits - 1)) 0 + (all_ones layout.exponent_bits * 2 ^ (f.precision - 1) + s) =
     omega (arith, code) in
-    let same : bits_of_fields f layout x ≡ bits =
-    rw width (top_bits negative layout.exponent_bits (f.precision - 1) (all_ones layout.exponent_bits) s bits
-    (layout.bits - 1)
-    (omega (arith, sized, width)) (bits_are ∙ sum)) in
-    subst (λ (b : ℕ). IsEncodedBy f layout b (nan negative s)) same
-    (fields_encode f layout x (nan negative s) law
+    top_encoded f layout negative s bits (nan negative s) law implied
     (nan_fields_of f layout negative s law (λ one. true≢false (sym (ap is_ieee is) ∙ ap is_ieee one))
     (subst (λ (k : NonfiniteBehavior). IsNanSignificand k f.explicit_integer_bit f.precision s) (sym is)
-    (subst (λ (b : Bool). IsNanSignificand IEEE754 b f.precision s) (sym implied) (some, below)))))
+    (subst (λ (b : Bool). IsNanSignificand IEEE754 b f.precision s) (sym implied) (some, below))))
+    (bits_are ∙ sum)
 
 -- the one NaN: the sign bit alone
 one_nan_encoded : (f : Format) (layout : Layout) (bits : ℕ) → IsInterchange f layout
@@ -376,12 +367,7 @@ number_given f layout negative place next code law implied full fits within is l
     let some : 0 < 2 ^ (f.precision - 1) = pow_pos (f.precision - 1) in
     let unit : 0 < 2 ^ place = pow_pos place in
     let forth : next * 2 ^ place ≡ 0 → code ≡ 0 = λ none.
-    let no_digits : next ≡ 0 =
-    ⊎_elim {C = next ≡ 0} (λ (z : next < 1). omega (arith, z))
-    (λ (p : 1 ≤ next).
-    let more : 1 * 2 ^ place ≤ next * 2 ^ place = mul-le-mul_right (2 ^ place) p in
-    absurd (omega (arith, more, none, unit)))
-    (cases_lt next 1) in
+    let no_digits = zero_factor next (2 ^ place) unit none in
     let last : place ≡ 0 =
     ⊎_elim (λ (z : place ≡ 0). z) (λ (h : 2 ^ (f.precision - 1) ≤ next). absurd
     (omega (arith, h, no_digits, some))) full in
@@ -468,15 +454,12 @@ past_given NanNegativeZero f layout negative is law implied =
           ∙ lt-ltb (largest_code f) (largest_code f + 1) (omega arith);
     }
   where
-    rest_none : (n : ℕ) → 0 < n → n % n ≡ 0
-    rest_none n some = mod_self n
-
     bare : (kind : NonfiniteBehavior) (negative : Bool) (bits code : ℕ) → kind ≡ NanNegativeZero
         → code ≡ 2 ^ (bits - 1)
         → cond (negative && not (has_no_sign kind bits code)) (2 ^ (bits - 1)) 0 + code ≡ 2 ^ (bits - 1)
     bare kind true bits code e same =
         let rest : code % 2 ^ (bits - 1) ≡ 0 =
-        ap (λ (x : ℕ). x % 2 ^ (bits - 1)) same ∙ rest_none (2 ^ (bits - 1)) (pow_pos (bits - 1)) in
+        ap (λ (x : ℕ). x % 2 ^ (bits - 1)) same ∙ mod_self (2 ^ (bits - 1)) in
         let has : has_no_sign kind bits code ≡ true =
         ap (λ (k : NonfiniteBehavior). has_no_sign k bits code) e ∙ eq-eqb (code % 2 ^ (bits - 1)) 0 rest in
         rw has (omega (arith, same))
@@ -498,19 +481,6 @@ beyond_given false true f layout mode negative e law implied = rw e
     (past_given f.nonfinite f layout negative refl law implied)
 beyond_given false false f layout mode negative e law implied = rw e (largest_given f layout negative law implied)
 
--- the cap is the largest code, or the one after it
-cap_least : (saturates out : Bool) (top : ℕ) → top ≤ cond (out && not saturates) (top + 1) top
-cap_least true true top = omega arith
-cap_least true false top = omega arith
-cap_least false true top = omega arith
-cap_least false false top = omega arith
-
-cap_most : (saturates out : Bool) (top : ℕ) → cond (out && not saturates) (top + 1) top ≤ top + 1
-cap_most true true top = omega arith
-cap_most true false top = omega arith
-cap_most false true top = omega arith
-cap_most false false top = omega arith
-
 -- the code that is delivered is that of the value that is delivered
 value_given : (saturates : Bool) (f : Format) (layout : Layout) (mode : Round) (negative : Bool)
     (amount parts r rest : ℕ)
@@ -522,8 +492,9 @@ value_given : (saturates : Bool) (f : Format) (layout : Layout) (mode : Round) (
 value_given saturates f layout mode negative amount parts r rest law implied picked =
     let top = largest_code f in
     let pick = picked.next * 2 ^ picked.place in
-    let least = cap_least saturates (leads_out mode negative) top in
-    let most = cap_most saturates (leads_out mode negative) top in
+    -- the cap is the largest code, or the one after it
+    let least = moved_least (leads_out mode negative && not saturates) top top (omega arith) in
+    let most = moved_most (leads_out mode negative && not saturates) top (top + 1) (omega arith) in
     let past_is : ltb (largest f) pick ≡ ltb top r =
     past_by_code f picked.next picked.place law.precise picked.full picked.fits
     ∙ ap (λ (x : ℕ). ltb top x) (sym picked.code_is) in
