@@ -8,7 +8,7 @@ use Rattle.std.specs.declared.cmp.Ordering.{Ordering}
 use Rattle.std.specs.declared.cmp.Ordering.TheVariants.{Less}
 use Rattle.std.specs.Cmp.{int_cmp_is, int_ranks}
 use Rattle.std.specs.Ordering.{MatchOrdering}
-use Rattle.std.proofs.lemmas.Bool.{and_parts, cases_eq, cases_lt, eq-eqb, false≢true, ne_eqb}
+use Rattle.std.proofs.lemmas.Bool.{and_parts, cases_eq, eq-eqb, false≢true, ne_eqb, eqb-false}
 use Rattle.std.proofs.lemmas.Int.{ints}
 use Rattle.std.proofs.lemmas.Nat.{mod_below, pow_pos}
 use Rattle.apfloat_model.specs.arithmetic.Exact.{signed}
@@ -126,15 +126,9 @@ last_at true true negative codes code m four l is sign other = omega (arith, fou
 last_at true false negative codes code m four l is sign other = omega (arith, four, l)
 last_at false extended true codes code m four l is sign other = absurd (false≢true sign)
 last_at false true false codes code m four l is sign other =
-    ⊎_elim (λ (k : m < codes - 1). omega (arith, k, four))
-    (λ (k : codes - 1 ≤ m).
-    absurd (false≢true (sym other ∙ eq-eqb code (codes - 1) (omega (arith, k, l, is)))))
-    (cases_lt m (codes - 1))
+    let no_nan = eqb-false code (codes - 1) other in omega (arith, four, l, is, no_nan)
 last_at false false false codes code m four l is sign other =
-    ⊎_elim (λ (k : m < codes - 1). omega (arith, k, four))
-    (λ (k : codes - 1 ≤ m).
-    absurd (false≢true (sym other ∙ eq-eqb code (codes - 1) (omega (arith, k, l, is)))))
-    (cases_lt m (codes - 1))
+    let no_nan = eqb-false code (codes - 1) other in omega (arith, four, l, is, no_nan)
 
 pub at_most_last : (c : Projection) (code : ℕ) → IsProjection c → code < 2 ^ c.bits → eqb code (nan_code c) ≡ false
     → magnitude_of c code ≤ last_index c
@@ -167,16 +161,11 @@ negative_code c code law l isnt e =
     parts_of_code c code law l ∙ ap (λ (b : Bool). cond b (unsigned_codes c) 0 + magnitude_of c code) e in
     let unknown : nan_code c ≡ unsigned_codes c =
     ap (λ (b : Bool). cond b (unsigned_codes c) (unsigned_codes c - 1)) sign in
-    let some : 0 < magnitude_of c code =
-    ⊎_elim
-    (λ (k : magnitude_of c code < 1).
-    absurd (false≢true (sym isnt ∙ eq-eqb code (nan_code c) (omega (arith, is, unknown, k)))))
-    (λ (k : 1 ≤ magnitude_of c code). omega (arith, k))
-    (cases_lt (magnitude_of c code) 1) in
+    let known = eqb-false code (nan_code c) isnt in
     record {
       signed = sign;
       is = is;
-      some = some;
+      some = omega (arith, is, unknown, known);
       at = ap (λ (b : Bool). signed b (magnitude_of c code)) e;
     }
 

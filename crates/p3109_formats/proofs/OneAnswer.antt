@@ -4,7 +4,7 @@ use Rattle.std.proofs.Common.{true, false, cond, not}
 use Rattle.std.proofs.Common.{◌&&◌, eqb, leb, ltb, sym, refl, ap, ◌∙◌, ⊎_elim, arith}
 use Rattle.std.specs.Bool.{MatchBool}
 use Rattle.std.proofs.Math.Nat.{mod-eq_of_lt}
-use Rattle.std.proofs.lemmas.Bool.{cases_eq, cases_lt, eq-eqb, eqb-true, false≢true, ltb-true, ne_eqb}
+use Rattle.std.proofs.lemmas.Bool.{cases_eq, eq-eqb, eqb-true, false≢true, ltb-true, ne_eqb, eqb-false}
 use Rattle.std.proofs.lemmas.Bool.{MatchBool-at_false}
 use Rattle.std.proofs.lemmas.Nat.{mod_below, pow_pos}
 use Rattle.apfloat_model.specs.declared.kinds.Round.{Round}
@@ -105,8 +105,7 @@ infinity_index c code law l other past =
     last : (code codes m : ℕ) → 4 ≤ codes → m < codes → code ≡ 0 + m → codes - 1 - 1 - 1 < m → (code ≡ codes - 1 → ⊥)
         → m ≡ codes - 1 - 1 - 1 + 1
     last code codes m four below is past n =
-        ⊎_elim (λ (k : m < codes - 1). omega (arith, k, past, four))
-        (λ (k : codes - 1 ≤ m). absurd (n (omega (arith, k, below, is)))) (cases_lt m (codes - 1))
+        omega (arith, four, below, is, past, n)
 
     by_cases : (signed extended : Bool) (codes m : ℕ) (negative : Bool) → 4 ≤ codes → m < codes
         → code ≡ cond negative codes 0 + m → (signed && leb codes code) ≡ negative
@@ -116,11 +115,9 @@ infinity_index c code law l other past =
     by_cases true false codes m negative four below is sign other past = absurd (omega (arith, below, past))
     by_cases false extended codes m true four below is sign other past = absurd (false≢true sign)
     by_cases false true codes m false four below is sign other past =
-        let no_nan : code ≡ codes - 1 → ⊥ = λ e. absurd (false≢true (sym other ∙ eq-eqb code (codes - 1) e)) in
-        last code codes m four below is past no_nan
+        last code codes m four below is past (eqb-false code (codes - 1) other)
     by_cases false false codes m false four below is sign other past =
-        let e : code ≡ codes - 1 = omega (arith, below, is, past) in
-        absurd (false≢true (sym other ∙ eq-eqb code (codes - 1) e))
+        absurd (eqb-false code (codes - 1) other (omega (arith, below, is, past)))
 
 -- no two codes mean one datum
 pub projected_code_once : (c : Projection) (code other : ℕ) → IsProjection c → code < 2 ^ c.bits → other < 2 ^ c.bits

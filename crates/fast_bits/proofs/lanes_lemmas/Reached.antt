@@ -1,6 +1,6 @@
 -- A single's significand at its place is scaled to a target.
 use Rattle.std.proofs.Common.{◌≡◌, ℕ, ◌+◌, ◌-◌, ◌*◌, ◌/◌, ◌%◌, ◌^◌, ◌<◌, ◌≤◌, ◌⊎◌, min, refl, sym, ap, ◌∙◌, subst, inl, inr, ⊎_elim, arith, ℤ, pos, ◌+ℤ◌, ◌-ℤ◌}
-use Rattle.std.proofs.Math.Nat.{min-eq_left, min-eq_right, mod-eq_of_lt, mul-le-mul_left, mul-le-mul_right, pow-le-pow_right, zero-div, zero-mod}
+use Rattle.std.proofs.Math.Nat.{min-eq_left, min-eq_right, mod-eq_of_lt, mul-le-mul_left, mul-le-mul_right, pow-le-pow_right, zero-div, zero-mod, min-le_right}
 use Rattle.std.proofs.lemmas.Int.{ints}
 use Rattle.std.proofs.lemmas.Nat.{pow-add, pow_pos}
 use Rattle.std.proofs.lemmas.Bool.{cases_lt}
@@ -167,13 +167,8 @@ steps_below f layout min_exp max_exp m place first is fits =
     mul-le-mul_right (2 ^ (p + 1 - (first - place))) odd_most in
     let left_most : 2 ^ 15 * 2 ^ (p + 1 - (first - place)) ≤ 2 ^ 15 * 2 ^ 12 = mul-le-mul_left (2 ^ 15) up in
     let places = places_below f layout min_exp max_exp is in
-    let above : min (place - first) (f.span + 1) ≤ f.span + 2 =
-    ⊎_elim {C = min (place - first) (f.span + 1) ≤ f.span + 2}
-    (λ (l : place - first < f.span + 1).
-    let le : place - first ≤ f.span + 1 = omega (arith, l) in
-    let e = min-eq_left le in omega (arith, e, l))
-    (λ (l : f.span + 1 ≤ place - first). let e = min-eq_right l in omega (arith, e))
-    (cases_lt (place - first) (f.span + 1)) in
+    let most = min-le_right (place - first) (f.span + 1) in
+    let above : min (place - first) (f.span + 1) ≤ f.span + 2 = omega (arith, most) in
     let right : min (place - first) (f.span + 1) * 2 ^ (p - 1) ≤ (f.span + 2) * 2 ^ (p - 1) =
     mul-le-mul_right (2 ^ (p - 1)) above in
     (omega (arith, left, left_most), omega (arith, right, places))

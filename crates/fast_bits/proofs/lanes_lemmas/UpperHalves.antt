@@ -79,13 +79,7 @@ half_alone h =
 
 -- the places that a significand is moved up, counted from the first number that is not
 up_is : (n first : ℕ) → 1 ≤ first → 7 - (first + 6 - (n - 1)) ≡ min (n - first) 7
-up_is n first some =
-    ⊎_elim {C = 7 - (first + 6 - (n - 1)) ≡ min (n - first) 7}
-    (λ (l : n - first < 7).
-    let le : n - first ≤ 7 = omega (arith, l) in
-    let e = min-eq_left le in omega (arith, e, l, some))
-    (λ (l : 7 ≤ n - first). let e = min-eq_right l in omega (arith, e, l))
-    (cases_lt (n - first) 7)
+up_is n first some = omega (arith, some)
 
 -- a significand, by its integer bit
 significand_fits : (a : ℕ) → (significand_of a < 2 ^ 24) × ((place_of a ≡ 0) ⊎ (2 ^ 23 ≤ significand_of a))

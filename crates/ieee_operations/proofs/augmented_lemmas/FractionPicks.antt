@@ -19,7 +19,6 @@ use Rattle.apfloat_model.proofs.rounding.Picks.{even_nearer, even_farther}
 use Rattle.apfloat_pair_theory.proofs.numbers.Roundings.{apart}
 use Rattle.apfloat_pair_theory.proofs.numbers.Signed.{coarse_multiple, grid_bound_at, on_grid_as}
 use Rattle.ieee_operations.specs.augmented.TiesToZero.{nearer_between, IsTiesToZeroPick}
-use Rattle.ieee_operations.proofs.augmented_lemmas.Heads.{half_unit}
 use Rattle.ieee_operations.proofs.augmented_lemmas.Multiples.{takes_low_by, takes_high_by}
 
 -- the magnitude is not an integral number of quanta
@@ -36,22 +35,16 @@ IsHalfPast low amount parts = 2 * amount ≡ (2 * low + 1) * parts
 pub above_fraction : (precision below amount parts : ℕ) → IsFractionPick amount parts
     → IsBelow precision below amount parts → below * parts < amount
 above_fraction precision below amount parts n b =
-    ⊎_elim
-    (λ (q : below * parts < amount). q)
-    (λ (q : amount ≤ below * parts).
-    let l = b.not_above in
-    absurd (n.not_whole below (omega (arith, q, l))))
-    (cases_lt (below * parts) amount)
+    let other = n.not_whole below in
+    let most = b.not_above in
+    omega (arith, other, most)
 
 pub below_fraction : (precision above amount parts : ℕ) → IsFractionPick amount parts
     → IsAbove precision above amount parts → amount < above * parts
 below_fraction precision above amount parts n a =
-    ⊎_elim
-    (λ (q : amount < above * parts). q)
-    (λ (q : above * parts ≤ amount).
-    let l = a.not_below in
-    absurd (n.not_whole above (omega (arith, q, l))))
-    (cases_lt amount (above * parts))
+    let other = n.not_whole above in
+    let least = a.not_below in
+    omega (arith, other, least)
 
 -- A magnitude below 2 ^ (2 * precision - 1) quanta has neighbours that are at most 2 ^ (precision - 1) quanta apart.
 unit_at_most : (precision half m c amount parts : ℕ) → 0 < precision → half ≡ 2 ^ (precision - 1)
@@ -322,16 +315,17 @@ distance_half_past head amount parts i e =
 pub distance_at_most : (precision head below above amount parts : ℕ) → above ≤ below + 2 ^ (precision - 1)
     → below * parts ≤ amount → amount ≤ above * parts → (head ≡ above) ⊎ (head ≡ below)
     → distance head amount parts ≤ 2 ^ (precision - 1) * parts
-distance_at_most precision head below above amount parts g l h (inl e) =
-    let w : head * parts ≡ above * parts = ap (λ (x : ℕ). x * parts) e in
+distance_at_most precision head below above amount parts g l h side =
     let v : above * parts ≤ (below + 2 ^ (precision - 1)) * parts = mul-le-mul_right parts g in
-    omega (arith, w, v, l, h)
-distance_at_most precision head below above amount parts g l h (inr e) =
-    let w : head * parts ≡ below * parts = ap (λ (x : ℕ). x * parts) e in
-    let v : above * parts ≤ (below + 2 ^ (precision - 1)) * parts = mul-le-mul_right parts g in
-    omega (arith, w, v, l, h)
+    let w : (head * parts ≡ above * parts) ⊎ (head * parts ≡ below * parts) =
+    ⊎_elim (λ e. inl (ap (λ (x : ℕ). x * parts) e)) (λ e. inr (ap (λ (x : ℕ). x * parts) e)) side in
+    ⊎_elim (λ e. omega (arith, e, v, l, h)) (λ e. omega (arith, e, v, l, h)) w
 
 -- ---- past the largest value
+
+-- half a unit in the last place of the largest value
+abbrev pub half_unit : Format → ℕ
+half_unit f = 2 ^ (f.span - 1)
 
 -- a pick past the largest value is that of a greater magnitude
 pub beyond_in : (f : Format) (s : Bool) (amount parts e : ℕ) → 0 < parts → largest f < e

@@ -1,6 +1,6 @@
 -- Finite results by their numbers: delivered values, exact roundings, differences, comparisons.
 use Rattle.std.proofs.Common.{◌≡◌, ℕ, zero, suc, ◌+◌, ◌*◌, ◌<◌, ◌≤◌, Bool, true, false, not, cond, ltb, eqb, sym, refl, ap, ◌∙◌, subst, ⊎_elim, arith, lit<}
-use Rattle.std.specs.Prelude.{ℤ, pos, neg_ℤ, ◌+ℤ◌, ◌-ℤ◌, ◌≤ℤ◌}
+use Rattle.std.specs.Prelude.{ℤ, pos, neg_ℤ, ◌+ℤ◌, ◌-ℤ◌, ◌≤ℤ◌, ◌*ℤ◌}
 use Rattle.std.specs.Ordering.{int_cmp, is_eq, is_lt}
 use Rattle.std.specs.declared.cmp.Ordering.{Ordering}
 use Rattle.std.specs.declared.cmp.Ordering.TheVariants.{Less, Equal, Greater}
@@ -28,6 +28,7 @@ use Rattle.apfloat_model.proofs.arithmetic.Signs.{no_sign, magnitude_signed}
 use Rattle.apfloat_model.proofs.general.Choices.{not_zero}
 use Rattle.apfloat_model.proofs.rounding.Deliveries.{signed_some, past_not_finite}
 use Rattle.apfloat_model.proofs.rounding.Laws.{delivered_once, exact_delivered}
+use Rattle.apfloat_model.proofs.whole_numbers.SignedProducts.{magnitude-times, sign_times, signed_times}
 use Rattle.apfloat_pair_theory.proofs.numbers.Roundings.{signed_exact, signed_not}
 use Rattle.apfloat_pair_theory.proofs.numbers.Signed.{magnitude-neg}
 use Rattle.ieee_operations.specs.augmented.Numbers.{HasNumber, IsAugmentedNumber}
@@ -88,20 +89,33 @@ pub record IsRoundedExactly (exact : ℤ) (value : Datum) (status : ℕ) : Type 
   pub status_is : status ≡ ok_bits
 
 -- a number of the format is rounded exactly
+pub fraction_exactly : (f : Format) (mode : Round) (of_zero : Bool) (z exact : ℤ) (parts : ℕ) (value : Datum)
+    (status : ℕ) → 0 < parts → IsOnGrid f.precision (magnitude z) → magnitude z ≤ largest f → (z *ℤ pos parts) ≡ exact
+    → IsRounded f mode of_zero exact parts value status → IsRoundedExactly z value status
+fraction_exactly f mode of_zero z exact parts value status p g l e h =
+    let m : magnitude exact ≡ magnitude z * parts = ap magnitude (sym e) ∙ magnitude-times z parts in
+    let s : sign_of of_zero exact ≡ sign_of of_zero z =
+    ap (λ (i : ℤ). sign_of of_zero i) (sym e) ∙ sign_times of_zero z parts p in
+    let r = delivered_once f mode (sign_of of_zero exact) (magnitude exact) parts value
+    (signed_quanta f.nonfinite (sign_of of_zero exact) (magnitude z)) status ok_bits h
+    (exact_delivered f mode (sign_of of_zero exact) (magnitude z) (magnitude exact) parts p g l m) in
+    let k = signed_number f.nonfinite (sign_of of_zero exact) (magnitude z) in
+    record {
+      has = same_number z value _ r.0 (record {
+        is_finite = k.is_finite;
+        number_is = k.number_is ∙ ap (λ (c : Bool). signed c (magnitude z)) s ∙ signed_exact of_zero z;
+      });
+      status_is = r.1;
+    }
+
+times_one : (z : ℤ) → (z *ℤ pos 1) ≡ z
+times_one z = omega (arith, ints)
+
 pub rounded_exactly : (f : Format) (mode : Round) (of_zero : Bool) (z : ℤ) (value : Datum) (status : ℕ)
     → IsOnGrid f.precision (magnitude z) → magnitude z ≤ largest f → IsRounded f mode of_zero z 1 value status
     → IsRoundedExactly z value status
 rounded_exactly f mode of_zero z value status g l h =
-    let s = sign_of of_zero z in
-    let r = delivered_once f mode (sign_of of_zero z) (magnitude z) 1 value
-    (signed_quanta f.nonfinite (sign_of of_zero z) (magnitude z)) status ok_bits h
-    (exact_delivered f mode (sign_of of_zero z) (magnitude z) (magnitude z) 1 (lit< tt) g l (omega arith)) in
-    let k = signed_number f.nonfinite s (magnitude z) in
-    record {
-      has = same_number z value _ r.0
-          (record { is_finite = k.is_finite; number_is = k.number_is ∙ signed_exact of_zero z });
-      status_is = r.1;
-    }
+    fraction_exactly f mode of_zero z z 1 value status (lit< tt) g l (times_one z) h
 
 past_not_ok : (out : Bool) → (cond out (overflow_bit + inexact_bit) inexact_bit) ≡ ok_bits → ⊥
 past_not_ok true e = omega (arith, e)
@@ -122,21 +136,32 @@ ok_tests false false out tiny e = absurd (lost_not_ok tiny e)
 pub test_within : (m n : ℕ) → ltb m n ≡ false → n ≤ m
 test_within m n h = grind arith
 
+-- a finite datum of exactly exact / parts quanta
+pub record HasFractionParts (parts : ℕ) (exact : ℤ) (value : Datum) : Type 0 where
+  pub is_finite : is_finite value ≡ true
+  pub parts_are : (number value *ℤ pos parts) ≡ exact
+
 -- a rounding with status OK is exact
+pub ok_parts : (f : Format) (mode : Round) (of_zero : Bool) (exact : ℤ) (parts : ℕ) (value : Datum) (status : ℕ)
+    → IsRounded f mode of_zero exact parts value status → status ≡ ok_bits → HasFractionParts parts exact value
+ok_parts f mode of_zero exact parts value status x o =
+    let s = sign_of of_zero exact in
+    let t = ok_tests (ltb (largest f) x.pick) (eqb (x.pick * parts) (magnitude exact)) (raises_overflow f mode s)
+    (is_tiny f mode s (magnitude exact) parts x.pick) (sym x.status_is ∙ o) in
+    let p : x.pick * parts ≡ magnitude exact = eqb-true (x.pick * parts) (magnitude exact) t.1 in
+    let k = signed_number f.nonfinite s x.pick in
+    let v = x.value_is ∙ within_is f mode s x.pick (test_within _ _ t.0) in
+    record {
+      is_finite = ap is_finite v ∙ k.is_finite;
+      parts_are = ap (λ (d : Datum). number d *ℤ pos parts) v ∙ ap (λ (z : ℤ). z *ℤ pos parts) k.number_is
+          ∙ sym (signed_times s x.pick parts) ∙ ap (λ (i : ℕ). signed s i) p ∙ signed_exact of_zero exact;
+    }
+
 pub ok_exactly : (f : Format) (mode : Round) (of_zero : Bool) (z : ℤ) (value : Datum) (status : ℕ)
     → IsRounded f mode of_zero z 1 value status → status ≡ ok_bits → HasNumber z value
 ok_exactly f mode of_zero z value status x o =
-    let s = sign_of of_zero z in
-    let t = ok_tests (ltb (largest f) x.pick) (eqb (x.pick * 1) (magnitude z)) (raises_overflow f mode s)
-    (is_tiny f mode s (magnitude z) 1 x.pick) (sym x.status_is ∙ o) in
-    let p : x.pick * 1 ≡ magnitude z = eqb-true (x.pick * 1) (magnitude z) t.1 in
-    let q : x.pick ≡ magnitude z = omega (arith, p) in
-    let k = signed_number f.nonfinite s x.pick in
-    same_number z value _ (x.value_is ∙ within_is f mode s x.pick (test_within _ _ t.0))
-    (record {
-      is_finite = k.is_finite;
-      number_is = k.number_is ∙ ap (signed s) q ∙ signed_exact of_zero z;
-    })
+    let k = ok_parts f mode of_zero z 1 value status x o in
+    record { is_finite = k.is_finite; number_is = sym (times_one (number value)) ∙ k.parts_are }
 
 -- ---- sums and differences of finite data
 

@@ -24,9 +24,10 @@ use Rattle.ieee_operations.specs.augmented.TiesToZero.{IsTiesToZeroPick}
 use Rattle.ieee_operations.specs.augmented.Augmented.{IsAugmentedSum}
 use Rattle.ieee_operations.specs.augmented.Numbers.{HasNumber, IsAugmentedNumber, IsNearestTo, with_sign}
 use Rattle.ieee_operations.proofs.augmented_lemmas.Cases.{sum_of_numbers}
-use Rattle.ieee_operations.proofs.augmented_lemmas.Heads.{half_unit, with_tail_is, past_largest_is, picks_of}
+use Rattle.ieee_operations.proofs.augmented_lemmas.FractionPicks.{half_unit, past_pick_in}
+use Rattle.ieee_operations.proofs.augmented_lemmas.Heads.{with_tail_is, past_in, picks_of}
 use Rattle.ieee_operations.proofs.augmented_lemmas.Heads.{near_is_nearest, pick_is_nearest, tie_is, no_tie_is, at_half}
-use Rattle.ieee_operations.proofs.augmented_lemmas.Heads.{beyond, past_pick, short_is_largest, half_left, no_half_left}
+use Rattle.ieee_operations.proofs.augmented_lemmas.Heads.{beyond, short_is_largest_in, half_left, no_half_left}
 use Rattle.ieee_operations.proofs.augmented_lemmas.Numbers.{signed_number, within_is, past_is, short_is, past_without, sum_rounded, quanta_in}
 use Rattle.ieee_operations.proofs.augmented_lemmas.Rests.{as_nearest, rest_in_format}
 
@@ -142,7 +143,7 @@ sum_past f h x y near short i j nx ny sum shorter nn =
       is_pick = n.is_pick;
       value_is = n.value_is;
       past = past;
-      short_is = short_is_largest f h of_zero v n.pick short j past n.is_pick t;
+      short_is = short_is_largest_in f h of_zero v 1 n.pick short j (lit< tt) past n.is_pick t;
     }
 
 -- the largest value is the head: the sum is halfway past it
@@ -187,13 +188,13 @@ head_is_past f h k x y near short left magnitude_of_left unit i j left_status nx
     let s = sign_of of_zero v in
     let n = sum_past f h x y near short i j nx ny sum shorter nn in
     let number_is : number short ≡ signed s (largest f) = ap number n.short_is in
-    let p = past_pick f h k s (magnitude v) n.pick n.past n.is_pick
-    (no_half_left f h k of_zero v left unit left_status u
+    let no_half = no_half_left f h k of_zero v left unit left_status u
     (λ o. subst (λ (z : ℤ). HasNumber (v -ℤ z) left) number_is (exact o))
     (λ q. nearest (subst (λ (z : ℤ). IsNearestTo f.precision v z) (sym number_is) q))
-    (λ o. subst (λ (d : Datum). is_equal d unit ≡ false) m (differs o))) in
+    (λ o. subst (λ (d : Datum). is_equal d unit ≡ false) m (differs o)) in
+    let p = past_pick_in f h k s (magnitude v) 1 n.pick (lit< tt) n.past n.is_pick (λ e. no_half (omega (arith, e))) in
     sum_of_numbers f x y head tail status nx.is_finite ny.is_finite
-    (past_largest_is f of_zero v p.pick head tail status p.is_pick p.past
+    (past_in f of_zero v 1 p.pick head tail status p.is_pick p.past
     (hd ∙ n.value_is ∙ past_is f s n.pick n.past)
     (tl ∙ sym hd) ok)
 

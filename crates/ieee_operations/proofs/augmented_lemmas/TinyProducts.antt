@@ -36,11 +36,11 @@ use Rattle.ieee_operations.specs.augmented.Numbers.{IsTwiceLeft, HasRoundedTail}
 use Rattle.ieee_operations.specs.augmented.TiesToZero.{IsTiesToZeroPick}
 use Rattle.ieee_operations.proofs.augmented_lemmas.Cases.{HasCaseRanges}
 use Rattle.ieee_operations.proofs.augmented_lemmas.FractionPicks.{IsFractionPick, IsHalfPast, distance, below_fraction, gap, odd_half, tie_of_quanta, from_even_in, pick_cases, half_pick, half_short, low_pick, distance_fraction, distance_half, distance_half_past, distance_at_most}
-use Rattle.ieee_operations.proofs.augmented_lemmas.FractionRoundings.{rest_of_product, fraction_exactly, ok_parts}
+use Rattle.ieee_operations.proofs.augmented_lemmas.FractionRoundings.{rest_of_product}
 use Rattle.ieee_operations.proofs.augmented_lemmas.FractionRoundings.{rest_rounded, small_product, whole_is_exact}
 use Rattle.ieee_operations.proofs.augmented_lemmas.Heads.{ArePicks, picks_of}
 use Rattle.ieee_operations.proofs.augmented_lemmas.Multiples.{sign_some}
-use Rattle.ieee_operations.proofs.augmented_lemmas.Numbers.{signed_number, same_number, within_is}
+use Rattle.ieee_operations.proofs.augmented_lemmas.Numbers.{signed_number, same_number, within_is, fraction_exactly, ok_parts}
 use Rattle.ieee_operations.proofs.augmented_lemmas.Numbers.{quanta_in, abs_has, equal_numbers}
 use Rattle.ieee_operations.proofs.augmented_lemmas.ProductCases.{product_of_numbers, product_some, rounded_in}
 use Rattle.ieee_operations.proofs.augmented_lemmas.TiesToZero.{short_is_below}
