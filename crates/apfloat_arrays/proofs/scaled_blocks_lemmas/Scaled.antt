@@ -1,5 +1,5 @@
 -- Elements that are multiplied one after another.
-use Rattle.std.proofs.Common.{◌≡◌, ℕ, ◌+◌, ◌-◌, ◌*◌, ◌^◌, ◌<◌, refl, ap, ◌∙◌, List}
+use Rattle.std.proofs.Common.{◌≡◌, ℕ, ◌+◌, ◌-◌, ◌*◌, ◌^◌, ◌<◌, refl, ap, ◌∙◌, List, Bool}
 use Rattle.std.proofs.Common.{[], ◌∷◌, ◌++◌, length, arith}
 use Rattle.std.proofs.lemmas.List.Sums.{count_by-le-length}
 use Rattle.std.specs.Prelude.{count_by}
@@ -50,23 +50,15 @@ pub room_for : (outcomes : List Outcome) (counts : Counts) → counts ≡ counts
     → length outcomes < 2 ^ 64 - 1 → HaveRoom counts
 room_for outcomes counts e l =
     let values : counts.values ≡ length outcomes = ap (λ (k : Counts). k.values) e in
-    let inexact : counts.inexact ≡ count_by (raised 16) outcomes = ap (λ (k : Counts). k.inexact) e in
-    let underflow : counts.underflow ≡ count_by (raised 8) outcomes = ap (λ (k : Counts). k.underflow) e in
-    let overflow : counts.overflow ≡ count_by (raised 4) outcomes = ap (λ (k : Counts). k.overflow) e in
-    let invalid : counts.invalid ≡ count_by (raised 1) outcomes = ap (λ (k : Counts). k.invalid) e in
-    let nans : counts.nans ≡ count_by became_nan outcomes = ap (λ (k : Counts). k.nans) e in
-    let few_inexact = count_by-le-length (raised 16) outcomes in
-    let few_underflow = count_by-le-length (raised 8) outcomes in
-    let few_overflow = count_by-le-length (raised 4) outcomes in
-    let few_invalid = count_by-le-length (raised 1) outcomes in
-    let few_nans = count_by-le-length became_nan outcomes in
+    let few : (test : Outcome → Bool) (n : ℕ) → n ≡ count_by test outcomes → n < 2 ^ 64 - 1 =
+    λ test n is. let most = count_by-le-length test outcomes in omega (arith, is, most, l) in
     record {
       values = omega (arith, values, l);
-      inexact = omega (arith, inexact, few_inexact, l);
-      underflow = omega (arith, underflow, few_underflow, l);
-      overflow = omega (arith, overflow, few_overflow, l);
-      invalid = omega (arith, invalid, few_invalid, l);
-      nans = omega (arith, nans, few_nans, l);
+      inexact = few (raised 16) counts.inexact (ap (λ (k : Counts). k.inexact) e);
+      underflow = few (raised 8) counts.underflow (ap (λ (k : Counts). k.underflow) e);
+      overflow = few (raised 4) counts.overflow (ap (λ (k : Counts). k.overflow) e);
+      invalid = few (raised 1) counts.invalid (ap (λ (k : Counts). k.invalid) e);
+      nans = few became_nan counts.nans (ap (λ (k : Counts). k.nans) e);
     }
 
 -- a rule of flags changes no width
