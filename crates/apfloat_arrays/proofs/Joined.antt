@@ -27,8 +27,7 @@ range_of_range xs a b i j order within =
     let same : a + j - (a + i) ≡ j - i = omega arith in
     ap (λ n. take (j - i) (drop i (take n (drop a xs)))) room
     ∙ ap (λ ys. take (j - i) ys) (drop-take i (b - a - i) (drop a xs))
-    ∙ take-take (j - i) (b - a - i) (drop i (drop a xs)) size
-    ∙ ap (λ ys. take (j - i) ys) (drop-drop i a xs)
+    ∙ take-take (j - i) (b - a - i) (drop i (drop a xs)) size ∙ ap (λ ys. take (j - i) ys) (drop-drop i a xs)
     ∙ ap (λ n. take n (drop (a + i) xs)) (sym same)
 
 -- an item after the first list is one of the second
@@ -78,16 +77,14 @@ in_range width index more k bytes within =
     let starts : (index + k) * width ≡ index * width + k * width = omega arith in
     let last : index * width + (k * width + width) ≡ (index + k) * width + width = omega (arith, starts) in
     range_of_range bytes (index * width) ((index + more) * width) (k * width) (k * width + width) (omega arith)
-    (omega (arith, next, one_more, ends))
-    ∙ (λ i. slice_range bytes (sym starts i) (last i))
+    (omega (arith, next, one_more, ends)) ∙ (λ i. slice_range bytes (sym starts i) (last i))
 
 -- The values before `index` are in their places, and `more` values from there on are converted in the bytes `new`.
 pub block_joined : (Holds : List ℕ → List ℕ → Outcome → Type 0) (source target index more count : ℕ)
     (input output new : List ℕ) (counts others : Counts)
     → index + more ≤ count → count < 2 ^ 64 → length output ≡ count * target → length new ≡ more * target
     → IsBlock Holds source target more (slice_range input (index * source) ((index + more) * source)) new others
-    → IsBlock Holds source target index input output counts
-    → IsBlock Holds source target (index + more) input
+    → IsBlock Holds source target index input output counts → IsBlock Holds source target (index + more) input
     (put_mid (index * target) ((index + more) * target - index * target) output new) (sum_of counts others)
 block_joined Holds source target index more count input output new counts others within few room width block so_far =
     let from = index * target in
@@ -144,8 +141,7 @@ block_joined Holds source target index more count input output new counts others
 -- the same for the last values
 pub block_rest : (Holds : List ℕ → List ℕ → Outcome → Type 0) (source target done count : ℕ)
     (input output new : List ℕ) (counts others : Counts)
-    → done ≤ count → count < 2 ^ 64 → length output ≡ count * target
-    → length new ≡ (count - done) * target
+    → done ≤ count → count < 2 ^ 64 → length output ≡ count * target → length new ≡ (count - done) * target
     → IsBlock Holds source target (count - done) (slice_range input (done * source) (count * source)) new others
     → IsBlock Holds source target done input output counts
     → IsBlock Holds source target count input (put_mid (done * target) (count * target - done * target) output new)
@@ -156,12 +152,10 @@ block_rest Holds source target done count input output new counts others before 
     (slice_range input (done * source) ((done + (count - done)) * source)) new others =
     subst
     (λ (n : ℕ). IsBlock Holds source target (count - done)
-    (slice_range input (done * source) (n * source)) new others)
-    (sym all) block in
+    (slice_range input (done * source) (n * source)) new others) (sym all) block in
     subst
     (λ (n : ℕ). IsBlock Holds source target n input (put_mid (done * target) (n * target - done * target) output new)
-    (sum_of counts others))
-    all
+    (sum_of counts others)) all
     (block_joined Holds source target done (count - done) count input output new counts others
     (omega (arith, before)) few
     room width there so_far)

@@ -83,8 +83,7 @@ latest width index bytes new within size =
 
 -- there is no outcome after the last
 none_of : {O : Type 0} (Holds : ℕ → List ℕ → O → Type 0) (now : List ℕ) (outcomes : List O) (k : ℕ)
-    → length outcomes ≤ k
-    → IfSome (slice_get outcomes k) (λ o. Holds k now o)
+    → length outcomes ≤ k → IfSome (slice_get outcomes k) (λ o. Holds k now o)
 none_of {O} Holds now outcomes k past =
     let Of : Option O → Type 0 = λ found. IfSome found (λ o. Holds k now o) in
     subst Of (sym (slice_get_past outcomes k past)) tt
@@ -134,10 +133,8 @@ places_push Holds width index bytes outcomes outcome here so_far =
 -- one more value is written to its place
 pub places_more : {O : Type 0} (Holds : ℕ → List ℕ → O → Type 0) (width index count : ℕ)
     (bytes new : List ℕ) (outcomes : List O) (outcome : O)
-    → index < count → length bytes ≡ count * width → length new ≡ width
-    → Holds index new outcome
-    → AreInPlaces Holds width index bytes outcomes
-    → AreInPlaces Holds width (index + 1)
+    → index < count → length bytes ≡ count * width → length new ≡ width → Holds index new outcome
+    → AreInPlaces Holds width index bytes outcomes → AreInPlaces Holds width (index + 1)
     (put_mid (index * width) (index * width + width - index * width) bytes new) (outcomes ++ outcome ∷ [])
 places_more Holds width index count bytes new outcomes outcome before all size here so_far =
     let room = place_below index count width before in
@@ -159,8 +156,7 @@ block_none Holds source target input output = record
 pub block_more : (Holds : List ℕ → List ℕ → Outcome → Type 0) (source target index count : ℕ)
     (input output new : List ℕ) (counts : Counts) (outcome : Outcome)
     → index < count → length output ≡ count * target → length new ≡ target
-    → Holds (value_at source index input) new outcome
-    → IsBlock Holds source target index input output counts
+    → Holds (value_at source index input) new outcome → IsBlock Holds source target index input output counts
     → IsBlock Holds source target (index + 1) input
     (put_mid (index * target) (index * target + target - index * target) output new) (with_outcome counts outcome)
 block_more Holds source target index count input output new counts outcome before size width here so_far =
@@ -177,8 +173,7 @@ block_more Holds source target index count input output new counts outcome befor
 -- the same block, with its parts renamed
 pub block_named : (Holds : List ℕ → List ℕ → Outcome → Type 0) (source target count count' : ℕ)
     (input input' output output' : List ℕ) (counts : Counts)
-    → count ≡ count' → input ≡ input' → output ≡ output'
-    → IsBlock Holds source target count input output counts
+    → count ≡ count' → input ≡ input' → output ≡ output' → IsBlock Holds source target count input output counts
     → IsBlock Holds source target count' input' output' counts
 block_named Holds source target count count' input input' output output' counts same_count same_input same_output
     block =

@@ -95,8 +95,7 @@ module _ (u m c : ℕ) (unit : 0 < u) (fits : m < 64 * u) (full : (c ≡ 0) ⊎ 
       let above : IsAbove 6 ((m / u + 1) * 2 ^ c) (m * 2 ^ c) u =
       above_is_next 6 (2 ^ 5) (m / u) c (m * 2 ^ c) u enclosed strict in
       let same : odd_between (m / u * 2 ^ c) ((m / u + 1) * 2 ^ c) ≡ odd_quotient m u * 2 ^ c =
-      odd_of_two (m / u) (2 ^ c) (is_odd_below (m / u * 2 ^ c) ((m / u + 1) * 2 ^ c))
-      (sym (odd_below_is (m / u) c))
+      odd_of_two (m / u) (2 ^ c) (is_odd_below (m / u * 2 ^ c) ((m / u + 1) * 2 ^ c)) (sym (odd_below_is (m / u) c))
       ∙ ap (λ (n : ℕ). n * 2 ^ c) (sym (inexact_odd (m / u) (m % u) some)) in
       let six : 0 < 6 = omega arith in
       subst (λ (n : ℕ). AgreesAtEven 5 (m * 2 ^ c) u n) same
@@ -166,8 +165,7 @@ rounded_alike f h g mode negative n m value status loses p q alike x =
     subst
     (λ (b : Bool). MatchBool b
     (IsKept (finite (zero_sign g.nonfinite negative) 0) (loses_zero_sign g negative) value status loses)
-    (IsConvertedNumber f g mode negative n value status loses))
-    (sym (not_zero n p))
+    (IsConvertedNumber f g mode negative n value status loses)) (sym (not_zero n p))
     (record { is_delivered = alike value status y.is_delivered; loses_is = y.loses_is })
 
 number_alike : (overflow : Overflow) (f h g : Format) (mode : Round) (negative : Bool) (n m : ℕ) (value : Datum)
@@ -253,8 +251,7 @@ odd_above u h t unit =
 
 odd_of_zero : (u t : ℕ) → 0 < u → t ≡ 0 → odd_quotient t u ≡ 0
 odd_of_zero u t unit z =
-    ap (λ (n : ℕ). odd_quotient n u) z
-    ∙ exact_odd (0 / u) (0 % u) (zero-mod u) ∙ zero-div u
+    ap (λ (n : ℕ). odd_quotient n u) z ∙ exact_odd (0 / u) (0 % u) (zero-mod u) ∙ zero-div u
 
 odd_of_some : (u t : ℕ) → 0 < u → (t ≡ 0 → ⊥) → 0 < odd_quotient t u
 odd_of_some u t unit some =
@@ -325,8 +322,7 @@ module _ (overflow : Overflow) (f h g : Format) (mode : Round) (cut : ℕ) (coar
       subst (λ (n : ℕ). IsDelivered g mode negative ((32 * 2 ^ cut + trailing) * 2 ^ place * 2 ^ g.scale) (2 ^ n) v s)
       (sym scale)
       (delivered_alike g mode negative cut (32 * 2 ^ cut + trailing) place h.scale v s coarse fits (inr full)
-      (subst (λ (n : ℕ). IsDelivered g mode negative (n * 2 ^ place * 2 ^ g.scale) (2 ^ h.scale) v s) whole d)))
-      x
+      (subst (λ (n : ℕ). IsDelivered g mode negative (n * 2 ^ place * 2 ^ g.scale) (2 ^ h.scale) v s) whole d))) x
 
   -- values with the same sign and exponent are converted alike
   pub fields_alike : (top : ℕ) (negative : Bool) (biased trailing short : ℕ) (value : Datum) (status : ℕ)
@@ -374,16 +370,14 @@ odd_low q r = by_rest (cases_eq r 0)
   where
     by_rest : (r ≡ 0) ⊎ (r ≡ 0 → ⊥) → odd_for_rest q r % 32 ≡ odd_for_rest (q % 32) r
     by_rest (inl z) = ap (λ (n : ℕ). n % 32) (exact_odd q r z) ∙ sym (exact_odd (q % 32) r z)
-    by_rest (inr n) =
-        ap (λ (k : ℕ). k % 32) (inexact_odd q r n) ∙ same q ∙ sym (inexact_odd (q % 32) r n)
+    by_rest (inr n) = ap (λ (k : ℕ). k % 32) (inexact_odd q r n) ∙ same q ∙ sym (inexact_odd (q % 32) r n)
       where
         same : (a : ℕ) → (a + 1 - a % 2) % 32 ≡ a % 32 + 1 - a % 32 % 2
         same a = omega arith
 
 -- the fields of the short value: those above the trailing digits are the same, and these are rounded to odd
 short_high : (x u : ℕ) → odd_quotient x u / 32 ≡ x / (32 * u)
-short_high x u =
-    odd_high (x / u) (x % u) ∙ div-div-eq-div-mul x u 32 ∙ ap (λ (n : ℕ). x / n) (mul_comm u 32)
+short_high x u = odd_high (x / u) (x % u) ∙ div-div-eq-div-mul x u 32 ∙ ap (λ (n : ℕ). x / n) (mul_comm u 32)
 
 short_trailing : (x u : ℕ) → 0 < u → odd_quotient x u % 32 ≡ odd_quotient (x % (32 * u)) u
 short_trailing x u unit =
@@ -402,8 +396,7 @@ short_trailing x u unit =
     ∙ ap (λ (n : ℕ). odd_for_rest (x % (32 * u) / u) n) r
 
 -- the sign is at the same place from the exponent up
-short_sign : (x exp_bits cut : ℕ)
-    → odd_quotient x (2 ^ cut) / 2 ^ (exp_bits + 5) ≡ x / 2 ^ (exp_bits + (5 + cut))
+short_sign : (x exp_bits cut : ℕ) → odd_quotient x (2 ^ cut) / 2 ^ (exp_bits + 5) ≡ x / 2 ^ (exp_bits + (5 + cut))
 short_sign x exp_bits cut =
     let short : 2 ^ (exp_bits + 5) ≡ 32 * 2 ^ exp_bits = pow-add 2 exp_bits 5 ∙ mul_comm (2 ^ exp_bits) 32 in
     let long : 2 ^ (exp_bits + (5 + cut)) ≡ 2 ^ (5 + cut) * 2 ^ exp_bits =
@@ -411,10 +404,8 @@ short_sign x exp_bits cut =
     let power : 2 ^ (5 + cut) ≡ 32 * 2 ^ cut = pow-add 2 5 cut in
     ap (λ (n : ℕ). odd_quotient x (2 ^ cut) / n) short
     ∙ sym (div-div-eq-div-mul (odd_quotient x (2 ^ cut)) 32 (2 ^ exp_bits))
-    ∙ ap (λ (n : ℕ). n / 2 ^ exp_bits) (short_high x (2 ^ cut))
-    ∙ ap (λ (n : ℕ). x / n / 2 ^ exp_bits) (sym power)
-    ∙ div-div-eq-div-mul x (2 ^ (5 + cut)) (2 ^ exp_bits)
-    ∙ ap (λ (n : ℕ). x / n) (sym long)
+    ∙ ap (λ (n : ℕ). n / 2 ^ exp_bits) (short_high x (2 ^ cut)) ∙ ap (λ (n : ℕ). x / n / 2 ^ exp_bits) (sym power)
+    ∙ div-div-eq-div-mul x (2 ^ (5 + cut)) (2 ^ exp_bits) ∙ ap (λ (n : ℕ). x / n) (sym long)
 
 -- constants with some of their parts, and the rest of others
 abbrev with_parts : Constants → ℕ → ℕ → ℕ → NonfiniteBehavior → Bool → Constants
@@ -450,8 +441,7 @@ like_is c exp_bits cut bits exponents precision nonfinite implied =
     ∙ ap (λ (b : Bool). with_parts c c.bits c.exp_bits c.precision c.nonfinite b) (sym implied)
 
 -- the datum that bits encode, by their fields
-datum_is : (c : Constants) (exp_bits cut x : ℕ) → like c exp_bits cut ≡ c
-    → datum_of (format_with c) (layout_with c) x
+datum_is : (c : Constants) (exp_bits cut x : ℕ) → like c exp_bits cut ≡ c → datum_of (format_with c) (layout_with c) x
     ≡ read (2 ^ exp_bits - 1) (2 ^ (5 + cut)) (eqb (x / 2 ^ (exp_bits + (5 + cut)) % 2) 1)
     (x / 2 ^ (5 + cut) % 2 ^ exp_bits) (x % 2 ^ (5 + cut))
 datum_is c exp_bits cut x is =
@@ -472,8 +462,7 @@ implied_bits c lawful wide implied =
     let all = some.bits in
     let e : c.bits ≡ c.exp_bits + c.precision + 0 =
     subst (λ (b : Bool). c.bits ≡ c.exp_bits + c.precision + (if b then 1 else 0)) implied all in
-    omega (arith, e))
-    lawful.layout
+    omega (arith, e)) lawful.layout
 
 -- the short value has at most as many bits as its format
 pub record AreLow (x unit bound : ℕ) : Type 0 where
@@ -498,18 +487,15 @@ pub short_within : (c z : Constants) (x precision : ℕ) → IsShortFor c z → 
 short_within c z x precision short lawful_c lawful_z wide_c wide_z few low is =
     let bits = implied_bits c lawful_c wide_c short.implied in
     let width = implied_bits z lawful_z wide_z short.short_implied in
-    let exponents = short.exp_bits in
-    let digits = short.digits in
-    let more = short.more in
     let k : precision - 6 ≡ c.precision - 6 = ap (λ (n : ℕ). n - 6) is in
     let short_power : c.precision - 6 ≤ 31 = omega (arith, few, wide_c) in
     let small : 2 ^ (c.precision - 6) ≤ 2 ^ 31 = pow-le-pow_right two_pos short_power in
     let fits : 1 * 2 ^ (c.precision - 6) < 4294967296 = omega (arith, small) in
     let unit : 1 * 2 ^ (precision - 6) % 4294967296 ≡ 2 ^ (c.precision - 6) =
     ap (λ (n : ℕ). 1 * 2 ^ n % 4294967296) k ∙ mod-eq_of_lt fits ∙ one-mul (2 ^ (c.precision - 6)) in
-    let all : c.bits ≡ z.exp_bits + (6 + (c.precision - 6)) = omega (arith, bits, exponents, more) in
+    let all : c.bits ≡ z.exp_bits + (6 + (c.precision - 6)) = omega (arith, bits, short.exp_bits, short.more) in
     let bound : 2 ^ (z.exp_bits + 6) ≡ 2 ^ z.bits =
-    ap (λ (n : ℕ). 2 ^ n) (let same : z.exp_bits + 6 ≡ z.bits = omega (arith, width, digits) in same) in
+    ap (λ (n : ℕ). 2 ^ n) (let same : z.exp_bits + 6 ≡ z.bits = omega (arith, width, short.digits) in same) in
     subst (λ (n : ℕ). AreLow x n (2 ^ z.bits)) (sym unit)
     (subst (λ (n : ℕ). AreLow x (2 ^ (c.precision - 6)) n) bound
     (quotient_low x z.exp_bits (c.precision - 6) (subst (λ (n : ℕ). x < 2 ^ n) all low)))
@@ -567,7 +553,6 @@ short_answers overflow c z d mode x answer short lawful_c lawful_z lawful_d wide
     let bits = implied_bits c lawful_c wide_c short.implied in
     let width = implied_bits z lawful_z wide_z short.short_implied in
     let digits = short.digits in
-    let least = short.least in
     let like_c : like c z.exp_bits (c.precision - 6) ≡ c =
     like_is c z.exp_bits (c.precision - 6) (omega (arith, bits, exponents, more)) short.exp_bits (omega (arith, more))
     short.nonfinite short.implied in
@@ -593,24 +578,21 @@ short_answers overflow c z d mode x answer short lawful_c lawful_z lawful_d wide
     (short_of c x / 32 % 2 ^ z.exp_bits) (short_of c x % 32)) =
     subst
     (λ (n : ℕ). At (format_with z) (read (2 ^ z.exp_bits - 1) 32 (eqb (n % 2) 1)
-    (short_of c x / 32 % 2 ^ z.exp_bits) (short_of c x % 32)))
-    (short_sign x z.exp_bits (c.precision - 6)) read_y in
+    (short_of c x / 32 % 2 ^ z.exp_bits) (short_of c x % 32))) (short_sign x z.exp_bits (c.precision - 6)) read_y in
     let placed : At (format_with z)
     (read (2 ^ z.exp_bits - 1) 32 (eqb (x / 2 ^ (z.exp_bits + (5 + (c.precision - 6))) % 2) 1)
     (x / (32 * 2 ^ (c.precision - 6)) % 2 ^ z.exp_bits) (short_of c x % 32)) =
     subst
     (λ (n : ℕ). At (format_with z)
     (read (2 ^ z.exp_bits - 1) 32 (eqb (x / 2 ^ (z.exp_bits + (5 + (c.precision - 6))) % 2) 1)
-    (n % 2 ^ z.exp_bits) (short_of c x % 32)))
-    (short_high x (2 ^ (c.precision - 6))) signed in
+    (n % 2 ^ z.exp_bits) (short_of c x % 32))) (short_high x (2 ^ (c.precision - 6))) signed in
     let below_exponent : 2 ^ (c.precision - 1) ≡ 32 * 2 ^ (c.precision - 6) =
     ap (λ (n : ℕ). 2 ^ n) (let same : c.precision - 1 ≡ 5 + (c.precision - 6) = omega (arith, more) in same) ∙ power in
     let number : (eqb (x / (32 * 2 ^ (c.precision - 6)) % 2 ^ z.exp_bits) (2 ^ z.exp_bits - 1)
     && not (eqb (x % (32 * 2 ^ (c.precision - 6))) 0)) ≡ false =
     subst
     (λ (n : ℕ). (eqb (x / (32 * 2 ^ (c.precision - 6)) % 2 ^ n) (2 ^ n - 1)
-    && not (eqb (x % (32 * 2 ^ (c.precision - 6))) 0)) ≡ false)
-    short.exp_bits
+    && not (eqb (x % (32 * 2 ^ (c.precision - 6))) 0)) ≡ false) short.exp_bits
     (subst
     (λ (n : ℕ). (eqb (x / n % 2 ^ c.exp_bits) (2 ^ c.exp_bits - 1) && not (eqb (x % n) 0)) ≡ false)
     below_exponent is_number) in
@@ -621,11 +603,10 @@ short_answers overflow c z d mode x answer short lawful_c lawful_z lawful_d wide
     let scale_c = scale_is c lawful_c.parameters in
     let scale_z = scale_is z lawful_z.parameters in
     let scale : (format_with c).scale ≡ (format_with z).scale + (c.precision - 6) =
-    omega (arith, ints, scale_c, scale_z, digits, more, least) in
+    omega (arith, ints, scale_c, scale_z, digits, more, short.least) in
     let scale_d = scale_is d lawful_d.parameters in
-    let apart = coarse.quantum in
     let quantum : (format_with d).scale + 3 ≤ (format_with z).scale =
-    omega (arith, ints, scale_d, scale_z, digits, apart, lawful_d.parameters.precision_low) in
+    omega (arith, ints, scale_d, scale_z, digits, coarse.quantum, lawful_d.parameters.precision_low) in
     let room : IsCoarseFormat (format_with z).scale (format_with d) =
     record { low = lawful_d.parameters.precision_low; high = coarse.precision; quantum = quantum } in
     record {

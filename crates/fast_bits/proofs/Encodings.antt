@@ -19,9 +19,7 @@ use Rattle.fast_bits.proofs.lanes_lemmas.Codes.{code_encoded}
 -- a place with room for two more exponents is below the span of the exponents
 inner_place : (c : Constants) (place : ℕ) → IsInterchange (format_with c) (layout_with c)
     → place + 5 ≤ 2 ^ c.exp_bits → place + 2 ≤ (format_with c).span
-inner_place c place law inner =
-    let span = law.span in
-    omega (arith, span, inner)
+inner_place c place law inner = omega (arith, law.span, inner)
 
 -- a significand that was rounded up, at such a place, is within the largest value
 pub inner_within : (c : Constants) (n place : ℕ) → IsInterchange (format_with c) (layout_with c)

@@ -154,8 +154,7 @@ pub root_encoded : (c : Constants) (mode : Round) (m from zeros place whole : �
     → IsEnclosed c.precision (2 ^ (c.precision - 1)) whole place amount parts
     → StandsFor whole loss amount (2 ^ place * parts)
     → IsEncodedNumber c mode false amount parts answer)
-    → IsEncodedAnswer c
-    (IsDeliveredRoot (format_with c) mode (m * 2 ^ from * 2 ^ (format_with c).scale) 1) answer
+    → IsEncodedAnswer c (IsDeliveredRoot (format_with c) mode (m * 2 ^ from * 2 ^ (format_with c).scale) 1) answer
 root_encoded c mode m from zeros place whole loss answer some full fits balance is encoded =
     root_answered c mode (m * 2 ^ from * 2 ^ (format_with c).scale) (m * 2 ^ zeros) (2 ^ place) whole loss answer
     (pow_pos place) (radicand_is m from (format_with c).scale zeros place balance) is

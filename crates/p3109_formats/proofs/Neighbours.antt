@@ -172,8 +172,7 @@ negative_code c code law l isnt e =
 positive_code : (c : Projection) (code : ℕ) → IsProjection c → code < 2 ^ c.bits → is_negative_code c code ≡ false
     → code ≡ magnitude_of c code
 positive_code c code law l e =
-    parts_of_code c code law l
-    ∙ ap (λ (b : Bool). cond b (unsigned_codes c) 0 + magnitude_of c code) e ∙ omega arith
+    parts_of_code c code law l ∙ ap (λ (b : Bool). cond b (unsigned_codes c) 0 + magnitude_of c code) e ∙ omega arith
 
 -- with a sign, the code past that of a number is one, if the number is not the last
 pub past_fits : (c : Projection) (code : ℕ) → IsProjection c → code < 2 ^ c.bits → is_negative_code c code ≡ true
@@ -223,8 +222,7 @@ above_negative c code law l isnt e =
         let index : magnitude_of c code - 1 ≡ i = omega (arith, m) in
         let next : neg_ℤ (pos i) ≡ rank_of c code +ℤ pos 1 = omega (arith, ints, at, m) in
         let n = negative_code c code law l isnt e in
-        subst (λ (z : ℤ). IsAtRank c (code_above c code) z) next
-        (rw (isnt, e, index) (by_zero i k n.signed))
+        subst (λ (z : ℤ). IsAtRank c (code_above c code) z) next (rw (isnt, e, index) (by_zero i k n.signed))
 
 above_positive : (c : Projection) (code other : ℕ) → IsProjection c → code < 2 ^ c.bits → other < 2 ^ c.bits
     → eqb code (nan_code c) ≡ false → eqb other (nan_code c) ≡ false → rank_of c code <ℤ rank_of c other
@@ -323,8 +321,7 @@ below_it c code other law l k isnt none lesser = by_sign (is_negative_code c cod
 pub next_values : AreNextValues
 next_values c code other law l k = (up, down)
   where
-    up : IsLess c code other
-        → IsLess c code (code_above c code) × (IsLess c other (code_above c code) → ⊥)
+    up : IsLess c code other → IsLess c code (code_above c code) × (IsLess c other (code_above c code) → ⊥)
     up h =
         let isnt = left_known c code other h in
         let none = right_known c code other h in
@@ -336,8 +333,7 @@ next_values c code other law l k = (up, down)
           λ x. let q = lower c other (code_above c code) law k a.bound x in omega (arith, ints, q, at, rank),
         )
 
-    down : IsLess c other code
-        → IsLess c (code_below c code) code × (IsLess c (code_below c code) other → ⊥)
+    down : IsLess c other code → IsLess c (code_below c code) code × (IsLess c (code_below c code) other → ⊥)
     down h =
         let none = left_known c other code h in
         let isnt = right_known c other code h in

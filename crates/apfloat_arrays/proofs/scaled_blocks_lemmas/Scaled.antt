@@ -1,6 +1,5 @@
 -- Elements that are multiplied one after another.
-use Rattle.std.proofs.Common.{◌≡◌, ℕ, ◌+◌, ◌-◌, ◌*◌, ◌^◌, ◌<◌, refl, ap, ◌∙◌, List, Bool}
-use Rattle.std.proofs.Common.{[], ◌∷◌, ◌++◌, length, arith}
+use Rattle.std.proofs.Common.{◌≡◌, ℕ, ◌+◌, ◌-◌, ◌*◌, ◌^◌, ◌<◌, refl, ap, ◌∙◌, List, Bool, [], ◌∷◌, ◌++◌, length, arith}
 use Rattle.std.proofs.lemmas.List.Sums.{count_by-le-length}
 use Rattle.std.specs.Prelude.{count_by}
 use borrow.Rule.Slice.PartMut.{put_mid}
@@ -35,8 +34,7 @@ scaled_none q d width scales codes values = record {
 pub scaled_more : (q : Dequantization) (d : Constants) (width : ℕ) (scales codes : List ℕ) (index count : ℕ)
     (values new : List ℕ) (counts : Counts) (outcome : Outcome) → index < count → length values ≡ count * width
     → length new ≡ width → IsScaledAt q d scales codes index new outcome
-    → AreScaled q d width scales codes index values counts
-    → AreScaled q d width scales codes (index + 1)
+    → AreScaled q d width scales codes index values counts → AreScaled q d width scales codes (index + 1)
     (put_mid (index * width) (index * width + width - index * width) values new) (with_outcome counts outcome)
 scaled_more q d width scales codes index count values new counts outcome before all size here so_far = record {
   outcomes = so_far.outcomes ++ outcome ∷ [];

@@ -74,10 +74,8 @@ saturated_code_once : (format : StoredFormat) (f : Format) (mode : Round) (x : D
     → IsSaturatedCode format f mode x other flags → (code ≡ other) × (status ≡ flags)
 saturated_code_once format f mode x code other status flags h j =
     let same = own_once format f mode x h.own j.own status flags h.own_fits j.own_fits h.is_own j.is_own in (
-      h.code_is
-          ∙ ap (λ (n : ℕ). saturated_code format (is_negative x) n status) same.0
-          ∙ ap (λ (n : ℕ). saturated_code format (is_negative x) j.own n) same.1
-          ∙ sym j.code_is,
+      h.code_is ∙ ap (λ (n : ℕ). saturated_code format (is_negative x) n status) same.0
+          ∙ ap (λ (n : ℕ). saturated_code format (is_negative x) j.own n) same.1 ∙ sym j.code_is,
       same.1,
     )
 
@@ -131,8 +129,7 @@ stored_once overflow c format mode bits code other outcome also h j =
     let same = stored_by_once overflow format (format_with c) mode (datum_of (format_with c) (layout_with c) bits)
     code other (bits_of outcome.status) (bits_of also.status) h.fits j.fits h.is_stored j.is_stored in (
       same.0,
-      same_outcome outcome also same.1
-          (h.nan_is ∙ ap (λ (n : ℕ). is_nan (datum_in format n)) same.0 ∙ sym j.nan_is),
+      same_outcome outcome also same.1 (h.nan_is ∙ ap (λ (n : ℕ). is_nan (datum_in format n)) same.0 ∙ sym j.nan_is),
     )
 
 pub loaded_once : (overflow : Overflow) (format : StoredFormat) (d : Constants) (mode : Round) (code bits other : ℕ)
@@ -158,8 +155,7 @@ HasLaw (OutOf source target) =
 -- the conversion of a value determines the number in its bytes and the outcome
 pub converted_at_once : (overflow : Overflow) (mode : Round) (ends : Ends) (input bytes other : List ℕ)
     (outcome also : Outcome) → HasLaw ends → IsConvertedAt overflow mode ends input bytes outcome
-    → IsConvertedAt overflow mode ends input other also
-    → (number_of bytes ≡ number_of other) × (outcome ≡ also)
+    → IsConvertedAt overflow mode ends input other also → (number_of bytes ≡ number_of other) × (outcome ≡ also)
 converted_at_once overflow mode (Into source target) input bytes other outcome also law h j =
     stored_once overflow (constants_in source) target mode (number_of input) (number_of bytes) (number_of other)
     outcome also h j

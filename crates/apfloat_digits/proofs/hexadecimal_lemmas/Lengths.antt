@@ -15,12 +15,10 @@ use Rattle.apfloat_digits.proofs.hexadecimal_lemmas.Characters.{digits_length}
 
 pub exponent_length : (e : ℤ) → IsWithin (2 ^ 23) e → length (signed_decimal e) ≤ 8
 exponent_length (pos n) w =
-    let high = w.high in
-    let few : n + 1 < 10 ^ 7 = omega (arith, ints, high) in
+    let few : n + 1 < 10 ^ 7 = omega (arith, ints, w.high) in
     length_signed_le 7 (pos n) few (omega (arith, few))
 exponent_length (negsuc n) w =
-    let low = w.low in
-    let few : n + 1 < 10 ^ 7 = omega (arith, ints, low) in
+    let few : n + 1 < 10 ^ 7 = omega (arith, ints, w.low) in
     length_signed_le 7 (negsuc n) few (omega (arith, few))
 
 pub dotted_length : (places fraction : ℕ) → length (dotted places fraction) ≤ places + 1

@@ -132,8 +132,7 @@ record AreSame (fraction other : ℕ) (exponent place : ℤ) (exact lost : Bool)
 
 one_rounded : (f : Format) (mode : Round) (negative : Bool) (q places fraction other : ℕ) (exponent place : ℤ)
     (exact lost : Bool) → IsHexRoundedNumber f mode negative q places fraction exponent exact
-    → IsHexRoundedNumber f mode negative q places other place lost
-    → AreSame fraction other exponent place exact lost
+    → IsHexRoundedNumber f mode negative q places other place lost → AreSame fraction other exponent place exact lost
 one_rounded f mode negative q places fraction other exponent place exact lost x y =
     let same : y.first ≡ x.first = logarithm_once f q y.first x.first y.is_first x.is_first in
     let picked = subst (λ (z : ℤ).
@@ -167,10 +166,8 @@ one_rounded_text : (f : Format) (mode : Round) (negative : Bool) (q places : ℕ
 one_rounded_text f mode negative q places text other exact lost x y =
     let same = one_rounded f mode negative q places x.fraction y.fraction x.exponent y.exponent exact lost x.number
     y.number in (
-      x.text_is
-          ∙ ap (λ (a : ℕ). number_text negative 1 places a x.exponent) same.fractions
-          ∙ ap (λ (e : ℤ). number_text negative 1 places y.fraction e) same.exponents
-          ∙ sym y.text_is,
+      x.text_is ∙ ap (λ (a : ℕ). number_text negative 1 places a x.exponent) same.fractions
+          ∙ ap (λ (e : ℤ). number_text negative 1 places y.fraction e) same.exponents ∙ sym y.text_is,
       same.exactly,
     )
 

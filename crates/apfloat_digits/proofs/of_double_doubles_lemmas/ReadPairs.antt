@@ -65,8 +65,7 @@ delivered_member mode b amount parts value status x f =
     (sym (ap is_finite x.value_is) ∙ f))
 
 meant_member : (mode : Round) (meaning : TextMeaning) (value : Datum) (status : ℕ)
-    → IsMeant wide mode meaning value status
-    → is_finite value ≡ true → IsMember wide value
+    → IsMeant wide mode meaning value status → is_finite value ≡ true → IsMember wide value
 meant_member mode (infinity b) value status x f = absurd (false≢true (sym (ap is_finite x.value_is) ∙ f))
 meant_member mode (not_a_number b s p) value status x f = absurd (false≢true (sym (ap is_finite x.value_is) ∙ f))
 meant_member mode (hexadecimal b h places e) value status x f = delivered_member mode b _ _ value status x f
@@ -102,10 +101,8 @@ value_has_decimal (finite b zero) x answer m f s g =
     joined_has_decimal b 0 x answer s g (zero_joined b x g.joined s g.is_joined)
 value_has_decimal (finite b (suc n)) x answer m f s g =
     split_has_decimal b (suc n) x answer (omega arith) (m refl) f s g
-value_has_decimal (infinite b) x answer m f s g =
-    absurd (false≢true (ap is_finite (sym s.high_is.value_is) ∙ f))
-value_has_decimal (nan b t) x answer m f s g =
-    absurd (false≢true (ap is_finite (sym s.high_is.value_is) ∙ f))
+value_has_decimal (infinite b) x answer m f s g = absurd (false≢true (ap is_finite (sym s.high_is.value_is) ∙ f))
+value_has_decimal (nan b t) x answer m f s g = absurd (false≢true (ap is_finite (sym s.high_is.value_is) ∙ f))
 
 pub read_has_decimal : (mode : Round) (text : List ℕ) (x : Pair) (status : ℕ) (answer : Option Decimal)
     → IsPairDecimalReading mode text x status → is_finite x.high ≡ true → GivesPairShortest x answer → IsSome answer

@@ -103,16 +103,13 @@ next_by : (kept rest added unit : ℕ) (up : Bool) → 0 < unit → rest + added
     → (kept * unit + (rest + added)) / unit ≡ cond up (kept + 1) kept
 next_by kept rest added unit true some short reaches =
     let more : kept * unit + (rest + added) ≡ (kept + 1) * unit + (rest + added - unit) = omega (arith, reaches) in
-    ap (λ (x : ℕ). x / unit) more
-    ∙ mul-add-div_right some (kept + 1) (rest + added - unit)
-    ∙ ap (λ (x : ℕ). kept + 1 + x) (div-eq_of_lt (omega (arith, short, reaches, some)))
-    ∙ omega arith
+    ap (λ (x : ℕ). x / unit) more ∙ mul-add-div_right some (kept + 1) (rest + added - unit)
+    ∙ ap (λ (x : ℕ). kept + 1 + x) (div-eq_of_lt (omega (arith, short, reaches, some))) ∙ omega arith
 next_by kept rest added unit false some short stays =
     mul-add-div_right some kept (rest + added) ∙ ap (λ (x : ℕ). kept + x) (div-eq_of_lt stays) ∙ omega arith
 
 -- at most a whole unit of the last kept digit, 2 * half, is added, so it carries at most once
-added_most : (mode : Round) (negative : Bool) (half last : ℕ) → 0 < half
-    → added_to mode negative half last ≤ 2 * half
+added_most : (mode : Round) (negative : Bool) (half last : ℕ) → 0 < half → added_to mode negative half last ≤ 2 * half
 added_most NearestTiesToEven negative half last some = omega (arith, some)
 added_most NearestTiesToAway negative half last some = omega (arith, some)
 added_most TowardZero negative half last some = omega (arith, some)
@@ -152,8 +149,7 @@ rounded_is mode negative t low some =
 
 -- the constants of a mode
 pub addend_rounds : (low : ℕ) (mode : Round) (negative : Bool) (always if_odd : ℕ) → 0 < low
-    → always ≡ added_for mode negative (2 ^ (low - 1))
-    → if_odd ≡ 2 ^ odd_for mode - 1 → (t : ℕ)
+    → always ≡ added_for mode negative (2 ^ (low - 1)) → if_odd ≡ 2 ^ odd_for mode - 1 → (t : ℕ)
     → (t + (always + bit_and (t / 2 ^ low) if_odd)) / 2 ^ low
     ≡ cond (rounds_up mode negative (loss_at (t % 2 ^ low) (2 ^ (low - 1))) (eqb (t / 2 ^ low % 2) 1))
     (t / 2 ^ low + 1) (t / 2 ^ low)

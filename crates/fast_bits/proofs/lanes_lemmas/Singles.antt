@@ -33,8 +33,7 @@ pub fields_number : (f : Format) (layout : Layout) (negative : Bool) (biased tra
     ≡ finite negative ((trailing + min biased 1 * 2 ^ (f.precision - 1)) * 2 ^ (biased - 1))
 fields_number f layout negative biased trailing kind implied few =
     cond-false f.explicit_integer_bit _ _ implied
-    ∙ ap (λ (k : NonfiniteBehavior). implied_datum k f layout (fields_with negative biased trailing)) kind
-    ∙ rw few
+    ∙ ap (λ (k : NonfiniteBehavior). implied_datum k f layout (fields_with negative biased trailing)) kind ∙ rw few
     (⊎_elim {C = implied_number f (fields_with negative biased trailing)
     ≡ finite negative ((trailing + min biased 1 * 2 ^ (f.precision - 1)) * 2 ^ (biased - 1))}
     (λ (none : biased ≡ 0).
@@ -53,8 +52,7 @@ fields_number f layout negative biased trailing kind implied few =
 
 -- the fields of the bits of a single
 pub single_read : (f : Format) (layout : Layout) (x : ℕ) → IsSingleFormat f layout → x < 2 ^ 32
-    → x % 2 ^ 31 < 255 * 2 ^ 23
-    → datum_of f layout x
+    → x % 2 ^ 31 < 255 * 2 ^ 23 → datum_of f layout x
     ≡ finite (eqb (x / 2 ^ 31) 1) (significand_of (x % 2 ^ 31) * 2 ^ place_of (x % 2 ^ 31))
 single_read f layout x single word few =
     let width : trailing_bits f ≡ 23 =
@@ -137,14 +135,12 @@ with_inexact lane inexact =
 
 -- the lane of a finite single: its quanta are 2 ^ -149, so it is quanta * 2 ^ f.scale / 2 ^ 149 quanta of f
 module _ (saturates : Bool) (single : Format) (read : Layout) (f : Format) (layout : Layout) (mode : Round)
-    (negative : Bool)
-    (quanta bits : ℕ) (lane : Lane) (number : datum_of single read bits ≡ finite negative quanta)
+    (negative : Bool) (quanta bits : ℕ) (lane : Lane) (number : datum_of single read bits ≡ finite negative quanta)
     (scale : single.scale ≡ 149) where
   abbrev pub Rounded : Type 0
   Rounded = IsRounded saturates f layout mode negative (quanta * 2 ^ f.scale) (2 ^ 149) lane
 
-  zero_converted : (loses : Bool) → quanta ≡ 0 → 0 < f.precision → loses ≡ loses_zero_sign f negative
-      → Rounded
+  zero_converted : (loses : Bool) → quanta ≡ 0 → 0 < f.precision → loses ≡ loses_zero_sign f negative → Rounded
       → IsConvertedLane saturates single read f layout mode bits (with_inexact lane (lane.inexact || loses))
   zero_converted loses none precise lost it =
       let amount : quanta * 2 ^ f.scale ≡ 0 = ap (λ (n : ℕ). n * 2 ^ f.scale) none ∙ omega arith in

@@ -173,8 +173,7 @@ whole_is_exact f h x y near rest i j v nx ny nn o product fused e =
     let b = error_eighth f.precision wide v z n in
     let c = magnitude-sub z v in
     let d = grown z v in
-    let m = nn.within in
-    let l : magnitude (v -ℤ z) ≤ largest f = omega (arith, b, c, d, m) in
+    let l : magnitude (v -ℤ z) ≤ largest f = omega (arith, b, c, d, nn.within) in
     let r = rest_rounded f NearestTiesToEven x y near rest j nx.is_finite ny.is_finite nn.is_finite fused in
     let t : ((v -ℤ z) *ℤ pos (2 ^ f.scale)) ≡ rest_of_product f x y near =
     difference_times v z (pos (2 ^ f.scale)) ∙ ap (λ (k : ℤ). k -ℤ (z *ℤ pos (2 ^ f.scale))) e in

@@ -71,16 +71,14 @@ tail_is : (f : Format) (s : Bool) (p : ℕ) (head rest : Datum) (left : ℤ)
     → with_sign f head rest ≡ signed_quanta f.nonfinite (sign_of s left) (magnitude left)
 tail_is f s p head (finite b zero) left e h =
     let z : left ≡ pos 0 = sym h.number_is ∙ no_sign b in
-    copied f.nonfinite (is_negative head)
-    ∙ ap (λ (c : Bool). finite c 0)
+    copied f.nonfinite (is_negative head) ∙ ap (λ (c : Bool). finite c 0)
     (ap (λ (d : Datum). zero_sign f.nonfinite (is_negative d)) e ∙ sign_of_head f.nonfinite s p)
     ∙ ap (λ (i : ℤ). signed_quanta f.nonfinite (sign_of s i) (magnitude i)) (sym z)
 tail_is f s p head (finite b (suc n)) left e h =
     ap (λ (t : Bool). cond t (copy_sign f zero_datum head) (finite b (suc n))) (not_zero (suc n) (omega arith)) ∙
     sym (ap (λ (i : ℤ). signed_quanta f.nonfinite (sign_of s i) (magnitude i)) (sym h.number_is)
     ∙ ap (λ (c : Bool). signed_quanta f.nonfinite c (magnitude (signed b (suc n))))
-    (sign_signed s b (suc n) (omega arith))
-    ∙ ap (λ (k : ℕ). signed_quanta f.nonfinite b k) (magnitude_signed b (suc n))
+    (sign_signed s b (suc n) (omega arith)) ∙ ap (λ (k : ℕ). signed_quanta f.nonfinite b k) (magnitude_signed b (suc n))
     ∙ signed_some f.nonfinite b (suc n) (omega arith))
 tail_is f s p head (infinite b) left e h = absurd (false≢true h.is_finite)
 tail_is f s p head (nan b n) left e h = absurd (false≢true h.is_finite)
@@ -100,8 +98,7 @@ with_tail_is f of_zero v p head rest tail status t l e g h k o =
     let one : p ≡ p * 1 = omega arith in
     let g' : IsOnGrid f.precision (magnitude (left_of v 1 s p)) =
     subst (λ (i : ℕ). IsOnGrid f.precision (magnitude (v -ℤ signed s i))) one g in
-    let h' : HasNumber (left_of v 1 s p) rest =
-    subst (λ (i : ℕ). HasNumber (v -ℤ signed s i) rest) one h in
+    let h' : HasNumber (left_of v 1 s p) rest = subst (λ (i : ℕ). HasNumber (v -ℤ signed s i) rest) one h in
     let q = magnitude (left_of v 1 s p) in
     let b : eqb (q * 1) q ≡ true = eq-eqb (q * 1) q (omega arith) in
     let r : IsWithTail f s v 1 p head tail status =
@@ -193,8 +190,7 @@ near_is_nearest f of_zero v near short a =
     (subst (λ (z : ℤ). IsNearestTo f.precision z (signed s a.even)) (signed_exact of_zero v) n)
 
 -- a pick with ties toward zero is a nearest number
-pub pick_is_nearest : (f : Format) (of_zero : Bool) (v : ℤ) (p : ℕ)
-    → IsTiesToZeroPick f.precision (magnitude v) 1 p
+pub pick_is_nearest : (f : Format) (of_zero : Bool) (v : ℤ) (p : ℕ) → IsTiesToZeroPick f.precision (magnitude v) 1 p
     → IsNearestTo f.precision v (signed (sign_of of_zero v) p)
 pick_is_nearest f of_zero v p t =
     let s = sign_of of_zero v in
@@ -220,15 +216,13 @@ tie_is f of_zero v near short rest left a r l e =
     let s = sign_of of_zero v in
     let o = negated_has f rest r.is_finite in
     let q = equal_numbers left (negated f.nonfinite rest) l.is_finite o.is_finite e in
-    let w : (v -ℤ number short) ≡ neg_ℤ (v -ℤ number near) =
-    sym l.number_is ∙ q ∙ o.number_is ∙ ap neg_ℤ r.number_is in
+    let w : (v -ℤ number short) ≡ neg_ℤ (v -ℤ number near) = sym l.number_is ∙ q ∙ o.number_is ∙ ap neg_ℤ r.number_is in
     let u : (v -ℤ signed s a.lower) ≡ neg_ℤ (v -ℤ signed s a.even) =
     ap (λ (z : ℤ). v -ℤ z) (sym (short_number f s (magnitude v) near short a)) ∙ w ∙
     ap (λ (z : ℤ). neg_ℤ (v -ℤ z)) (near_number f s (magnitude v) near short a) in
     let d : (signed s (magnitude v) -ℤ signed s a.lower) ≡ neg_ℤ (signed s (magnitude v) -ℤ signed s a.even) =
     subst (λ (z : ℤ). (z -ℤ signed s a.lower) ≡ neg_ℤ (z -ℤ signed s a.even)) (sym (signed_exact of_zero v)) u in
-    from_half f.precision s (magnitude v) a.even a.lower a.is_even a.is_lower
-    (halfway s (magnitude v) a.even a.lower d)
+    from_half f.precision s (magnitude v) a.even a.lower a.is_even a.is_lower (halfway s (magnitude v) a.even a.lower d)
 
 -- unless the number is halfway, the pick to even is that with ties toward zero
 from_even : (precision : ℕ) (negative : Bool) (amount e t : ℕ)
@@ -240,8 +234,7 @@ from_even precision negative amount e t x y n =
 
 -- the pick, if it does not
 pub no_tie_is : (f : Format) (of_zero : Bool) (v : ℤ) (near short rest left : Datum) (status : ℕ)
-    → (a : ArePicks f (sign_of of_zero v) (magnitude v) 1 near short)
-    → HasNumber (v -ℤ number near) rest
+    → (a : ArePicks f (sign_of of_zero v) (magnitude v) 1 near short) → HasNumber (v -ℤ number near) rest
     → (status ≡ ok_bits → HasNumber (v -ℤ number short) left)
     → (IsNearestTo f.precision v (number short) → status ≡ ok_bits)
     → (status ≡ ok_bits → is_equal left (negated f.nonfinite rest) ≡ false)
@@ -261,8 +254,7 @@ no_tie_is f of_zero v near short rest left status a r exact nearest differs =
     (opposites s n a.even a.lower h) in
     let q : number left ≡ number (negated f.nonfinite rest) =
     l.number_is ∙ ap (λ (z : ℤ). v -ℤ z) (short_number f s n near short a) ∙ d ∙
-    ap (λ (z : ℤ). neg_ℤ (v -ℤ z)) (sym (near_number f s n near short a)) ∙
-    sym (m.number_is ∙ ap neg_ℤ r.number_is) in
+    ap (λ (z : ℤ). neg_ℤ (v -ℤ z)) (sym (near_number f s n near short a)) ∙ sym (m.number_is ∙ ap neg_ℤ r.number_is) in
     false≢true (sym (differs o) ∙ is_equal_by left (negated f.nonfinite rest) l.is_finite m.is_finite q))
 
 -- ---- past the largest value
@@ -347,8 +339,7 @@ pub no_half_left : (f : Format) → 3 ≤ f.precision → 1 ≤ f.span → (of_z
     (status : ℕ) → unit ≡ finite false (half_unit f)
     → (status ≡ ok_bits → HasNumber (v -ℤ signed (sign_of of_zero v) (largest f)) left)
     → (IsNearestTo f.precision v (signed (sign_of of_zero v) (largest f)) → status ≡ ok_bits)
-    → (status ≡ ok_bits → is_equal (abs f left) unit ≡ false)
-    → magnitude v ≡ largest f + half_unit f → ⊥
+    → (status ≡ ok_bits → is_equal (abs f left) unit ≡ false) → magnitude v ≡ largest f + half_unit f → ⊥
 no_half_left f h k of_zero v left unit status u exact nearest differs e =
     let s = sign_of of_zero v in
     let t = at_half f h k (magnitude v) e in
@@ -379,8 +370,7 @@ half_is_within f h =
 
 -- the smallest value, scaled
 pub half_unit_is : (f : Format) → 3 ≤ f.precision → 1 ≤ f.span → (places : ℤ) → places ≡ pos (f.span - 1)
-    → (value : Datum) → IsScaling f NearestTiesToEven (finite false 1) places value
-    → value ≡ finite false (half_unit f)
+    → (value : Datum) → IsScaling f NearestTiesToEven (finite false 1) places value → value ≡ finite false (half_unit f)
 half_unit_is f h k places e value x =
     let y : IsScaling f NearestTiesToEven (finite false 1) (pos (f.span - 1)) value =
     subst (λ (z : ℤ). IsScaling f NearestTiesToEven (finite false 1) z value) e x in

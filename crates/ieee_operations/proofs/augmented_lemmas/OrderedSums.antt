@@ -33,8 +33,7 @@ use Rattle.ieee_operations.proofs.augmented_lemmas.Rests.{as_nearest, rest_in_fo
 
 -- the sum toward zero is a number of the format
 pub short_in : (f : Format) → 3 ≤ f.precision → (x y short : Datum) (j : ℕ) → IsAugmentedNumber f x
-    → IsAugmentedNumber f y
-    → IsSum f TowardZero x y short j → IsAugmentedNumber f short
+    → IsAugmentedNumber f y → IsSum f TowardZero x y short j → IsAugmentedNumber f short
 short_in f h x y short j nx ny sum =
     let v = number x +ℤ number y in
     let of_zero = zero_sum_sign NearestTiesToEven (is_negative x) (is_negative y) in
@@ -53,8 +52,7 @@ short_in f h x y short j nx ny sum =
 -- a head within the largest value and what it leaves are the two results
 finish : (f : Format) → 3 ≤ f.precision → (x y : Datum) → IsAugmentedNumber f x → IsAugmentedNumber f y → (p : ℕ)
     → IsTiesToZeroPick f.precision (magnitude (number x +ℤ number y)) 1 p → p ≤ largest f
-    → (value rest head tail : Datum) (status : ℕ)
-    → value ≡ signed_quanta f.nonfinite
+    → (value rest head tail : Datum) (status : ℕ) → value ≡ signed_quanta f.nonfinite
     (sign_of (zero_sum_sign NearestTiesToEven (is_negative x) (is_negative y)) (number x +ℤ number y)) p
     → HasNumber ((number x +ℤ number y) -ℤ number value) rest
     → head ≡ value → tail ≡ with_sign f value rest → status ≡ ok_bits → IsAugmentedSum f x y head tail status
@@ -74,8 +72,7 @@ finish f h x y nx ny p t l value rest head tail status e r hd tl o =
 -- the sum toward zero is the head: it leaves exactly the opposite of what the sum to nearest leaves
 pub head_is_short : (f : Format) → 3 ≤ f.precision → (x y near short rest left other : Datum) (i j rest_status : ℕ)
     → IsAugmentedNumber f x → IsAugmentedNumber f y → IsSum f NearestTiesToEven x y near i
-    → IsSum f TowardZero x y short j
-    → IsAugmentedNumber f near
+    → IsSum f TowardZero x y short j → IsAugmentedNumber f near
     → (rest_status ≡ ok_bits → HasNumber ((number x +ℤ number y) -ℤ number near) rest)
     → (IsNearestTo f.precision (number x +ℤ number y) (number near) → rest_status ≡ ok_bits)
     → HasNumber ((number x +ℤ number y) -ℤ number short) left → other ≡ negated f.nonfinite rest
@@ -89,16 +86,14 @@ head_is_short f h x y near short rest left other i j rest_status nx ny sum short
     let t = sum_rounded f TowardZero x y short j nx.is_finite ny.is_finite shorter in
     let a = picks_of f of_zero v 1 near short i j (lit< tt) n t nn.is_finite in
     let r = exact (nearest (near_is_nearest f of_zero v near short a)) in
-    let p = tie_is f of_zero v near short rest left a r l
-    (subst (λ (d : Datum). is_equal left d ≡ true) o e) in
+    let p = tie_is f of_zero v near short rest left a r l (subst (λ (d : Datum). is_equal left d ≡ true) o e) in
     finish f h x y nx ny a.lower p a.lower_within short left head tail status a.short_is l hd tl ok
 
 -- the sum to nearest is the head
 pub head_is_near : (f : Format) → 3 ≤ f.precision → (x y near short rest left other : Datum)
     (i j rest_status left_status : ℕ)
     → IsAugmentedNumber f x → IsAugmentedNumber f y → IsSum f NearestTiesToEven x y near i
-    → IsSum f TowardZero x y short j
-    → IsAugmentedNumber f near
+    → IsSum f TowardZero x y short j → IsAugmentedNumber f near
     → (rest_status ≡ ok_bits → HasNumber ((number x +ℤ number y) -ℤ number near) rest)
     → (IsNearestTo f.precision (number x +ℤ number y) (number near) → rest_status ≡ ok_bits)
     → (left_status ≡ ok_bits → HasNumber ((number x +ℤ number y) -ℤ number short) left)
@@ -150,8 +145,7 @@ sum_past f h x y near short i j nx ny sum shorter nn =
 pub head_is_largest : (f : Format) → 3 ≤ f.precision → 1 ≤ f.span → (x y near short left magnitude_of_left unit : Datum)
     (i j : ℕ)
     → IsAugmentedNumber f x → IsAugmentedNumber f y → IsSum f NearestTiesToEven x y near i
-    → IsSum f TowardZero x y short j
-    → is_finite near ≡ false
+    → IsSum f TowardZero x y short j → is_finite near ≡ false
     → HasNumber ((number x +ℤ number y) -ℤ number short) left → magnitude_of_left ≡ abs f left
     → unit ≡ finite false (half_unit f) → is_equal magnitude_of_left unit ≡ true
     → (head tail : Datum) (status : ℕ) → head ≡ short → tail ≡ with_sign f short left
@@ -173,8 +167,7 @@ head_is_largest f h k x y near short left magnitude_of_left unit i j nx ny sum s
 pub head_is_past : (f : Format) → 3 ≤ f.precision → 1 ≤ f.span → (x y near short left magnitude_of_left unit : Datum)
     (i j left_status : ℕ)
     → IsAugmentedNumber f x → IsAugmentedNumber f y → IsSum f NearestTiesToEven x y near i
-    → IsSum f TowardZero x y short j
-    → is_finite near ≡ false
+    → IsSum f TowardZero x y short j → is_finite near ≡ false
     → (left_status ≡ ok_bits → HasNumber ((number x +ℤ number y) -ℤ number short) left)
     → (IsNearestTo f.precision (number x +ℤ number y) (number short) → left_status ≡ ok_bits)
     → magnitude_of_left ≡ abs f left → unit ≡ finite false (half_unit f)
@@ -194,8 +187,7 @@ head_is_past f h k x y near short left magnitude_of_left unit i j left_status nx
     (λ o. subst (λ (d : Datum). is_equal d unit ≡ false) m (differs o)) in
     let p = past_pick_in f h k s (magnitude v) 1 n.pick (lit< tt) n.past n.is_pick (λ e. no_half (omega (arith, e))) in
     sum_of_numbers f x y head tail status nx.is_finite ny.is_finite
-    (past_in f of_zero v 1 p.pick head tail status p.is_pick p.past
-    (hd ∙ n.value_is ∙ past_is f s n.pick n.past)
+    (past_in f of_zero v 1 p.pick head tail status p.is_pick p.past (hd ∙ n.value_is ∙ past_is f s n.pick n.past)
     (tl ∙ sym hd) ok)
 
 -- ---- how far the smallest value is moved to half a unit in the last place of the largest one

@@ -6,8 +6,7 @@ pub loop-spacing-smaller : goal.loop-spacing-smaller
 loop-spacing-smaller c =
     let many : 2 ^ c.args.precision ≤ c.args.amount / (c.args.parts * c.loop-spacing.spacing) = omega arith in
     let some : 0 < c.loop-spacing.spacing =
-    spacing_some c.args.precision c.args.amount c.args.parts c.loop-spacing.spacing
-    c.loop-spacing.invariant in
+    spacing_some c.args.precision c.args.amount c.args.parts c.loop-spacing.spacing c.loop-spacing.invariant in
     let less : c.loop-spacing.spacing < c.args.amount =
     spacing_below c.args.precision c.args.amount c.args.parts c.loop-spacing.spacing (omega arith)
     c.requires.some_parts c.loop-spacing.invariant many in

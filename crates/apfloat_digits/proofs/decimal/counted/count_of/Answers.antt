@@ -16,8 +16,7 @@ use Rattle.apfloat_digits.proofs.decimal.counted.count_of.Goals as goal
 pub last_place-place-requires-clause-some : goal.last_place-place-requires-clause-some
 last_place-place-requires-clause-some g c =
     let least : 0 < 2 ^ (g.S.Semantics.PRECISION - 1) = pow_pos (g.S.Semantics.PRECISION - 1) in
-    let full = c.number-number.ensures.full in
-    omega (arith, least, full)
+    omega (arith, least, c.number-number.ensures.full)
 
 pub last_place-place-requires-clause-within : goal.last_place-place-requires-clause-within
 last_place-place-requires-clause-within g c =

@@ -19,8 +19,7 @@ pub overflow_sub-result-in-NanOnly : goal.overflow_sub-result-in-NanOnly
 overflow_sub-result-in-NanOnly c =
     let t = c.args.target in
     let next = next_code (format_at t) (layout_at t) t.min_exp t.max_exp c.places.result t.lawful c.places.ensures.is in
-    let precise = t.lawful.precise in
-    let low : 1 ≤ t.precision = omega (arith, precise) in
+    let low : 1 ≤ t.precision = omega (arith, t.lawful.precise) in
     let some : 2 ^ 1 ≤ 2 ^ t.precision = pow-le-pow_right two_pos low in
     omega (arith, next.0, some)
 
