@@ -101,7 +101,6 @@ places_next : {O : Type 0} (Holds : ℕ → List ℕ → O → Type 0) (width in
     → ((k : ℕ) → k < index → value_at width k bytes ≡ value_at width k written)
     → AreInPlaces Holds width index bytes outcomes → AreInPlaces Holds width next written (outcomes ++ outcome ∷ [])
 places_next {O} Holds width index next bytes written outcomes outcome last here same so_far =
-    let all = outcomes ++ outcome ∷ [] in
     let Says : ℕ → Type 0 = λ k. IfSome (slice_get (outcomes ++ outcome ∷ []) k)
     (λ o. Holds k (value_at width k written) o) in
     let size = so_far.size in
@@ -119,7 +118,7 @@ places_next {O} Holds width index next bytes written outcomes outcome last here 
       size = longer;
       each = λ k. ⊎_elim {C = Says k} (before_it k)
           (λ h. ⊎_elim {C = Says k} (λ e. subst Says (sym e) at_end)
-          (λ past. none_of Holds _ all k (omega (arith, longer, last, past, h))) (cases_eq k index))
+          (λ past. none_of Holds _ (outcomes ++ outcome ∷ []) k (omega (arith, longer, last, past, h))) (cases_eq k index))
           (cases_lt k index);
     }
 

@@ -219,6 +219,15 @@ pub record IsStatusOf (c : StorageConstants) (leads : Bool) (index : ℕ) (exact
   pub is : status ≡ cond (ltb (2 ^ (c.bits - 1) - 1) index) (cond leads 20 16)
       (cond exact 0 (cond (ltb index (2 ^ (c.precision - 1))) 24 16))
 
+-- the status of an index that is not past the largest one
+status_within : (c : StorageConstants) (leads exact : Bool) (index status : ℕ)
+    → IsStatusOf c leads index exact status → index ≤ largest_index c
+    → status ≡ cond exact 0 (cond (ltb index (2 ^ (c.precision - 1))) 24 16)
+status_within c leads exact index status flags within =
+    flags.is
+    ∙ ap (λ (b : Bool). cond b (cond leads 20 16) (cond exact 0 (cond (ltb index (2 ^ (c.precision - 1))) 24 16)))
+    (le-ltb (largest_index c) index within)
+
 pub number_saturated : (c : StorageConstants) (mode : Round) (negative leads exact : Bool)
     (amount parts index code status : ℕ) → IsLawfulStorage c
     → IsPickedAt c.precision mode negative amount parts index exact → leads ≡ leads_out mode negative
@@ -246,10 +255,7 @@ number_saturated c mode negative leads exact amount parts index code status law 
     is.is ∙ ap (λ (n : ℕ). cond negative (2 ^ (c.bits - 1)) 0 + n) least in
     let value : number_of_code c code ≡ finite negative (point c.precision index) =
     datum_is c index code negative (omega (arith, top, within)) whole in
-    let raised : status ≡ cond exact 0 (cond (ltb index (2 ^ (c.precision - 1))) 24 16) =
-    flags.is
-    ∙ ap (λ (b : Bool). cond b (cond leads 20 16) (cond exact 0 (cond (ltb index (2 ^ (c.precision - 1))) 24 16)))
-    (le-ltb (largest_index c) index within) in
+    let raised = status_within c leads exact index status flags within in
     saturated c mode negative amount parts index code status exact at
     (within_delivered c mode negative amount parts index code status exact law at.exact_is within value raised))
     (cases_lt (largest_index c) index)
@@ -269,10 +275,7 @@ overflow_only_past c negative leads exact index code status is flags =
     let most : min index (2 ^ (c.bits - 1) - 1) ≡ 2 ^ (c.bits - 1) - 1 = min-eq_right (omega (arith, past)) in
     inr (is.is ∙ ap (λ (n : ℕ). cond negative (2 ^ (c.bits - 1)) 0 + n) most))
     (λ (within : index ≤ largest_index c).
-    let raised : status ≡ cond exact 0 (cond (ltb index (2 ^ (c.precision - 1))) 24 16) =
-    flags.is
-    ∙ ap (λ (b : Bool). cond b (cond leads 20 16) (cond exact 0 (cond (ltb index (2 ^ (c.precision - 1))) 24 16)))
-    (le-ltb (largest_index c) index within) in
+    let raised = status_within c leads exact index status flags within in
     inl (ap (λ (n : ℕ). bit_and n 4) raised ∙ no_overflow exact (ltb index (2 ^ (c.precision - 1)))))
     (cases_lt (largest_index c) index)
 
@@ -337,9 +340,7 @@ number_into c f mode negative leads P low first e m index code status law more f
     let remainder : t % 2 ^ low ≡ 0 = mod-eq_of_lt (let l : t < 2 ^ low = omega (arith, nothing, low_some) in l)
     ∙ nothing in
     let raised : status ≡ 0 =
-    flags.is
-    ∙ ap (λ (b : Bool). cond b (cond leads 20 16) (cond exact 0 (cond (ltb index (2 ^ (c.precision - 1))) 24 16)))
-    (le-ltb (2 ^ (c.bits - 1) - 1) index (omega (arith, first_index)))
+    status_within c leads exact index status flags (omega (arith, first_index))
     ∙ ap (λ (b : Bool). cond b 0 (cond (ltb index (2 ^ (c.precision - 1))) 24 16)) (eq-eqb (t % 2 ^ low) 0 remainder) in
     subst Says (sym (eq-eqb (m * 2 ^ e) 0 none))
     (record {
