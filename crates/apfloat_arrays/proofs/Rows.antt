@@ -20,10 +20,7 @@ use Rattle.rustc_apfloat.specs.Flags.{bits_of}
 use Rattle.rustc_apfloat.specs.Format.{Format}
 use Rattle.rustc_apfloat.specs.Lawful.{Constants, format_with, layout_with}
 use Rattle.rustc_apfloat.specs.Layout.{datum_of}
-use Rattle.rustc_apfloat.specs.Rounding.{zero_sign}
 use Rattle.rustc_apfloat.specs.declared.Round.{Round}
-use Rattle.apfloat_model.specs.declared.kinds.NonfiniteBehavior.{NonfiniteBehavior}
-use Rattle.apfloat_model.specs.declared.kinds.NonfiniteBehavior.TheVariants.{IEEE754, NanOnly, NanNegativeZero}
 use Rattle.apfloat_model.proofs.arithmetic.Signs.{plus_zero}
 use Rattle.small_formats.specs.saturation.Saturation.{IsConversionBy, saturated}
 use Rattle.small_formats.specs.declared.saturation.saturation.Overflow.{Overflow}

@@ -36,6 +36,7 @@ use Rattle.apfloat_arrays.specs.ShortSources.{IsCoarseFor, IsShortFor, is_nan_of
 use Rattle.apfloat_arrays.specs.Values.{IsAnswerFrom}
 use Rattle.apfloat_arrays.proofs.FarNumbers.{scale_is}
 use Rattle.fast_bits.proofs.lanes_lemmas.Cuts.{exact_odd, inexact_odd}
+use Rattle.fast_bits.proofs.lanes_lemmas.ScaledNumbers.{odd_some}
 
 -- ---- the quotient rounded to odd
 
@@ -253,25 +254,6 @@ odd_of_zero : (u t : ℕ) → 0 < u → t ≡ 0 → odd_quotient t u ≡ 0
 odd_of_zero u t unit z =
     ap (λ (n : ℕ). odd_quotient n u) z ∙ exact_odd (0 / u) (0 % u) (zero-mod u) ∙ zero-div u
 
-odd_of_some : (u t : ℕ) → 0 < u → (t ≡ 0 → ⊥) → 0 < odd_quotient t u
-odd_of_some u t unit some =
-    ⊎_elim
-    (λ (z : t % u ≡ 0).
-    let e = exact_odd (t / u) (t % u) z in
-    let parts : t / u * u + t % u ≡ t = div-add-mod' t u in
-    let p : 0 < t / u = ⊎_elim (λ (none : t / u ≡ 0).
-    let gone : t / u * u ≡ 0 * u = ap (λ (n : ℕ). n * u) none in absurd (some (omega (arith, parts, gone, z))))
-    (λ (more : t / u ≡ 0 → ⊥). omega (arith, more)) (cases_eq (t / u) 0) in
-    omega (arith, e, p))
-    (λ (n : t % u ≡ 0 → ⊥).
-    let e = inexact_odd (t / u) (t % u) n in
-    let k : 0 < t / u + 1 - t / u % 2 = odd_some (t / u) in
-    omega (arith, e, k))
-    (cases_eq (t % u) 0)
-  where
-    odd_some : (a : ℕ) → 0 < a + 1 - a % 2
-    odd_some a = omega arith
-
 module _ (overflow : Overflow) (f h g : Format) (mode : Round) (cut : ℕ) (coarse : IsCoarseFormat h.scale g)
     (scale : f.scale ≡ h.scale + cut) where
   small_alike : (negative : Bool) (trailing short : ℕ) (value : Datum) (status : ℕ) (loses : Bool)
@@ -287,7 +269,7 @@ module _ (overflow : Overflow) (f h g : Format) (mode : Round) (cut : ℕ) (coar
       (subst (At h) (is ∙ odd_of_zero (2 ^ cut) trailing (pow_pos cut) z) x)))
       (λ (some : trailing ≡ 0 → ⊥).
       let p : 0 < trailing = omega (arith, some) in
-      let q : 0 < short = subst (λ (n : ℕ). 0 < n) (sym is) (odd_of_some (2 ^ cut) trailing (pow_pos cut) some) in
+      let q : 0 < short = subst (λ (n : ℕ). 0 < n) (sym is) (odd_some trailing (2 ^ cut) (pow_pos cut) p) in
       let fits : trailing < 64 * 2 ^ cut = omega (arith, low) in
       let unit : trailing * 2 ^ 0 ≡ trailing = omega arith in
       let short_unit : short ≡ odd_quotient trailing (2 ^ cut) * 2 ^ 0 =

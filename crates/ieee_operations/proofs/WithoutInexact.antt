@@ -8,7 +8,7 @@ use Rattle.apfloat_model.specs.formats.Nan.{invalid_if, is_signaling}
 use Rattle.apfloat_model.specs.arithmetic.Exact.{signed}
 use Rattle.apfloat_model.specs.rounding.Rounding.{ok_bits, inexact_bit}
 use Rattle.apfloat_model.specs.whole_numbers.WholeNumbers.{IsRoundToIntegral, inexact_unless, whole_pick, whole_quanta}
-use Rattle.apfloat_model.specs.whole_numbers.WholeNumbersOut.{Whole, whole_within, invalid_whole, exact_or_not}
+use Rattle.apfloat_model.specs.whole_numbers.WholeNumbersOut.{whole_within, invalid_whole, exact_or_not}
 use Rattle.ieee_operations.specs.StatusFlags.{lowered}
 use Rattle.ieee_operations.specs.WholeNumbers.{IsRoundedToIntegral, is_out_of_range}
 

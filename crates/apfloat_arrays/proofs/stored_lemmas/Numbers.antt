@@ -8,12 +8,11 @@ use Rattle.std.proofs.Math.Nat.{mod-eq_of_lt, mul-le-mul_right, mul-lt-mul_of_po
 use Rattle.std.proofs.lemmas.Bool.{cases_eq, cases_lt, cond-false, eq-eqb, eqb-true, le-leb, le-ltb, lt-leb, lt-ltb, eqb-false}
 use Rattle.std.proofs.lemmas.Bool.{ne_eqb}
 use Rattle.std.proofs.lemmas.Nat.{div-add-mod', mod_below, pow-add, pow_pos}
-use Rattle.apfloat_model.specs.bits.Layout.{Layout, all_ones, datum_of, datum_of_fields, trailing_bits}
-use Rattle.apfloat_model.specs.declared.kinds.NonfiniteBehavior.{NonfiniteBehavior}
+use Rattle.apfloat_model.specs.bits.Layout.{datum_of, datum_of_fields, trailing_bits}
 use Rattle.apfloat_model.specs.declared.kinds.NonfiniteBehavior.TheVariants.{IEEE754}
 use Rattle.apfloat_model.specs.declared.kinds.Round.{Round}
 use Rattle.apfloat_model.specs.formats.Datum.{finite}
-use Rattle.apfloat_model.specs.formats.Format.{Format, largest, smallest_normalized}
+use Rattle.apfloat_model.specs.formats.Format.{Format, largest}
 use Rattle.apfloat_model.specs.formats.Lawful.{Constants, format_with as constants_format, layout_with}
 use Rattle.apfloat_model.specs.rounding.Enclosure.{IsEnclosed, rounds_up}
 use Rattle.apfloat_model.specs.rounding.Rounding.{leads_out}

@@ -1,6 +1,6 @@
 -- How long texts are.
 use Rattle.std.proofs.Common.{◌≡◌, ℕ, zero, suc, ◌+◌, ◌^◌, ◌<◌, ◌≤◌, Bool}
-use Rattle.std.proofs.Common.{true, false, cond, sym, subst, arith, lit≤, eqb, length, length-append}
+use Rattle.std.proofs.Common.{false, cond, sym, subst, arith, lit≤, eqb, length, length-append}
 use Rattle.std.proofs.Common.{◌++◌, ◌∷◌, List, [], codes, ℤ, pos, negsuc}
 use Rattle.std.proofs.lemmas.Bool.{ne_eqb}
 use Rattle.std.proofs.lemmas.Fmt.{length_signed_le}

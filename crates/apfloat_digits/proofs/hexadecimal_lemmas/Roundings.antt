@@ -15,7 +15,7 @@ use Rattle.apfloat_model.specs.formats.Format.{Format}
 use Rattle.apfloat_model.specs.rounding.Enclosure.{rounds_up}
 use Rattle.apfloat_model.specs.rounding.Standing.{StandsFor}
 use Rattle.apfloat_model.specs.whole_numbers.WholeNumbers.{whole_pick}
-use Rattle.apfloat_model.proofs.general.Powers.{exponent_between, two_pos}
+use Rattle.apfloat_model.proofs.general.Powers.{two_pos}
 use Rattle.apfloat_model.proofs.rounding.Losses.{stands_from, stands_to}
 use Rattle.apfloat_model.proofs.arithmetic.Inverses.{logarithm_once}
 use Rattle.apfloat_conversions.proofs.Wholes.{whole_at, exact_at}

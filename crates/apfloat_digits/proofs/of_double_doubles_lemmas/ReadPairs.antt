@@ -1,5 +1,5 @@
 -- A pair that a text is read as has a shortest decimal, if its high part is finite.
-use Rattle.std.proofs.Common.{◌≡◌, ◌≤◌, ℕ, zero, suc, ◌∙◌, Bool, true, false, cond, eqb, ltb, refl, sym, ap, subst, List, inl, inr}
+use Rattle.std.proofs.Common.{◌≡◌, ◌≤◌, ℕ, zero, suc, ◌∙◌, Bool, true, false, eqb, ltb, refl, sym, ap, subst, List, inl, inr}
 use Rattle.std.proofs.Common.{Option, arith}
 use Rattle.std.specs.Prelude.{IsSome, if◌then◌else◌}
 use Rattle.std.specs.Bool.{MatchBool}
@@ -10,7 +10,7 @@ use Rattle.apfloat_model.specs.formats.Format.{largest, nan_base}
 use Rattle.apfloat_model.specs.formats.Members.{IsMember}
 use Rattle.apfloat_model.specs.order.Classes.{is_finite, is_finite_non_zero}
 use Rattle.apfloat_model.specs.rounding.Grid.{IsOnGrid}
-use Rattle.apfloat_model.specs.rounding.Rounding.{IsPick, IsDelivered, leads_out, past_largest, signed_quanta, zero_sign}
+use Rattle.apfloat_model.specs.rounding.Rounding.{IsDelivered, leads_out, past_largest, signed_quanta, zero_sign}
 use Rattle.apfloat_model.specs.texts.Specials.{TextMeaning, infinity, not_a_number, hexadecimal}
 use Rattle.apfloat_model.specs.texts.Readings.{IsMeant}
 use Rattle.apfloat_model.proofs.rounding.Laws.{zero_on_grid}
@@ -18,7 +18,6 @@ use Rattle.apfloat_model.proofs.rounding.ModesAgree.{pick_on_grid}
 use Rattle.apfloat_pair_theory.specs.PairFormats.{wide}
 use Rattle.apfloat_pair_theory.specs.Pairs.{Pair, IsJoined, IsSplit, IsSumOfParts, IsWidened}
 use Rattle.apfloat_pair_theory.proofs.numbers.Roundings.{largest_on_grid}
-use Rattle.apfloat_pair_theory.proofs.numbers.Signed.{on_grid_as}
 use Rattle.apfloat_decimals.specs.declared.decimal.Decimal.{Decimal}
 use Rattle.apfloat_decimals.specs.DecimalTexts.{IsDecimalReading}
 use Rattle.apfloat_digits.specs.of_double_doubles.PairReadings.{IsPairDecimalReading}

@@ -2,7 +2,6 @@
 use Rattle.std.proofs.Common.{◌≡◌, ◌<◌, ◌≤◌, ◌*◌, ℕ, zero, suc, ◌∙◌, Bool, true, false, refl, sym, ap, subst, ⊎_elim}
 use Rattle.std.proofs.Common.{Option, Some, None, arith, lit≤, ℤ, pos, ◌+ℤ◌}
 use Rattle.std.specs.Prelude.{◌-ℤ◌, IsSome}
-use Rattle.std.specs.Bool.{MatchBool}
 use Rattle.std.proofs.Math.Path.{subst₂}
 use Rattle.std.proofs.lemmas.Bool.{cases_lt, false≢true, lt-ltb}
 use Rattle.std.proofs.lemmas.Int.{ints}

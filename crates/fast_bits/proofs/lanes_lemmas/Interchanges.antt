@@ -1,5 +1,5 @@
 -- A target is a format whose data are written as bits.
-use Rattle.std.proofs.Common.{◌≡◌, ℕ, ◌+◌, ◌-◌, ◌*◌, ◌%◌, ◌^◌, ◌<◌, ◌≤◌, ℤ, Bool, false, ap, arith}
+use Rattle.std.proofs.Common.{◌≡◌, ℕ, ◌+◌, ◌-◌, ◌*◌, ◌%◌, ◌^◌, ◌<◌, ◌≤◌, ℤ, Bool, false, ap, arith, ◌⊎◌, ⊎_elim}
 use Rattle.std.proofs.Math.Nat.{mod-eq_of_lt, mul-le-mul_right, pow-le-pow_right}
 use Rattle.std.proofs.lemmas.Nat.{pow-add, pow_pos}
 use Rattle.std.proofs.lemmas.Bool.{cond-false}
@@ -66,11 +66,12 @@ next_code f layout min_exp max_exp places is there =
     (omega (arith, whole, same, twice), omega (arith, whole, same, below))
 
 -- the encoding of the largest value, by the kind of format
-pub largest_ieee : (f : Format) (next : ℕ) → f.nonfinite ≡ IEEE754 → 3 ≤ f.precision
+pub largest_of_all_ones : (f : Format) (next : ℕ) → (f.nonfinite ≡ IEEE754) ⊎ (f.nonfinite ≡ NanNegativeZero)
     → next ≡ f.span * 2 ^ (f.precision - 1) + 2 ^ f.precision → next - 1 ≡ largest_code f
-largest_ieee f next is precise there =
+largest_of_all_ones f next kind there =
     let top : greatest_significand f.nonfinite f.precision ≡ 2 ^ f.precision - 1 =
-    ap (λ (k : NonfiniteBehavior). greatest_significand k f.precision) is in
+    ⊎_elim (ap (λ (k : NonfiniteBehavior). greatest_significand k f.precision))
+    (ap (λ (k : NonfiniteBehavior). greatest_significand k f.precision)) kind in
     let some : 0 < 2 ^ f.precision = pow_pos f.precision in
     omega (arith, top, there, some)
 
@@ -81,12 +82,4 @@ largest_nan_only f next is precise there =
     ap (λ (k : NonfiniteBehavior). greatest_significand k f.precision) is in
     let low : 1 ≤ f.precision = omega (arith, precise) in
     let some : 2 ^ 1 ≤ 2 ^ f.precision = pow-le-pow_right two_pos low in
-    omega (arith, top, there, some)
-
-pub largest_one_nan : (f : Format) (next : ℕ) → f.nonfinite ≡ NanNegativeZero → 3 ≤ f.precision
-    → next ≡ f.span * 2 ^ (f.precision - 1) + 2 ^ f.precision → next - 1 ≡ largest_code f
-largest_one_nan f next is precise there =
-    let top : greatest_significand f.nonfinite f.precision ≡ 2 ^ f.precision - 1 =
-    ap (λ (k : NonfiniteBehavior). greatest_significand k f.precision) is in
-    let some : 0 < 2 ^ f.precision = pow_pos f.precision in
     omega (arith, top, there, some)

@@ -31,7 +31,7 @@ odd_from m u k some least =
     (λ (more : m % u ≡ 0 → ⊥). omega (arith, inexact_odd (m / u) (m % u) more, quotient))
     (cases_eq (m % u) 0)
 
-odd_some : (m u : ℕ) → 0 < u → 0 < m → 0 < odd_quotient m u
+pub odd_some : (m u : ℕ) → 0 < u → 0 < m → 0 < odd_quotient m u
 odd_some m u some any =
     ⊎_elim
     (λ (none : m % u ≡ 0).
