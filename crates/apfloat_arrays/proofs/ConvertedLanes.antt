@@ -22,8 +22,7 @@ use Rattle.apfloat_arrays.specs.Values.{IsAnswerAt, IsAnswerFrom}
 finished_by : (overflow : Overflow) (f g : Format) (mode : Round) (negative : Bool) (quanta : ℕ) (rounded : Datum)
     (status : ℕ) (loses : Bool) → IsConversion f g mode (finite negative quanta) rounded status loses
     → IsConversionBy overflow f g mode (finite negative quanta)
-    (finished (saturates overflow) g negative rounded) status
-    loses
+    (finished (saturates overflow) g negative rounded) status loses
 finished_by Rounded f g mode negative quanta rounded status loses it = it
 finished_by Saturated f g mode negative quanta rounded status loses it =
     record { rounded = rounded; is_conversion = it; value_is = refl }
@@ -39,8 +38,7 @@ special_by Saturated f g mode special value status loses kept it = absurd (true�
 special_by (Finite nans) f g mode special value status loses kept it = absurd (true≢false kept)
 
 pub lane_answers : (overflow : Overflow) (c d : Constants) (mode : Round) (bits : ℕ) (lane : Lane)
-    → IsLane (saturates overflow) (format_with c) (layout_with c) (format_with d)
-    (layout_with d) mode bits lane
+    → IsLane (saturates overflow) (format_with c) (layout_with c) (format_with d) (layout_with d) mode bits lane
     → IsAnswerFrom overflow c d mode bits (record { bits = lane.bits; outcome = outcome_of lane })
 lane_answers overflow c d mode bits lane (inl it) =
     record {
@@ -64,8 +62,7 @@ lane_answers overflow c d mode bits lane (inr both) =
       is_conversion =
           subst
           (λ (x : Datum). IsConversionBy overflow (format_with c) (format_with d) mode x it.value (flags_of lane)
-          it.loses)
-          (sym it.special_is)
+          it.loses) (sym it.special_is)
           (special_by overflow (format_with c) (format_with d) mode it.special it.value (flags_of lane) it.loses both.0
           it.is_conversion);
       is_encoded = it.is_encoded;
@@ -79,8 +76,7 @@ pub plan_answers : (overflow : Overflow) (c d : Constants) (mode : Round) (targe
     → IsAnswerAt overflow c d mode word lane.bits (outcome_of lane)
 plan_answers overflow c d mode target by round word bits lane is read it =
     lane_answers overflow c d mode word lane
-    (subst (λ (n : ℕ). IsLane (saturates overflow) (format_with c) (layout_with c) (format_with d)
-    (layout_with d)
+    (subst (λ (n : ℕ). IsLane (saturates overflow) (format_with c) (layout_with c) (format_with d) (layout_with d)
     mode n lane) read
     (subst (λ (r : Round). IsLane (saturates overflow) (format_with c) (layout_with c) (format_with d)
     (layout_with d) r bits lane) is.round_is
@@ -113,39 +109,22 @@ lane_with bits inexact underflow overflow invalid is_nan =
 
 flags_counted : (bits : ℕ) (inexact underflow overflow invalid is_nan : Bool)
     → AreLanesCounted (lane_with bits inexact underflow overflow invalid is_nan)
-flags_counted bits true true true true is_nan =
-    record { inexact = refl; underflow = refl; overflow = refl; invalid = refl }
-flags_counted bits true true true false is_nan =
-    record { inexact = refl; underflow = refl; overflow = refl; invalid = refl }
-flags_counted bits true true false true is_nan =
-    record { inexact = refl; underflow = refl; overflow = refl; invalid = refl }
-flags_counted bits true true false false is_nan =
-    record { inexact = refl; underflow = refl; overflow = refl; invalid = refl }
-flags_counted bits true false true true is_nan =
-    record { inexact = refl; underflow = refl; overflow = refl; invalid = refl }
-flags_counted bits true false true false is_nan =
-    record { inexact = refl; underflow = refl; overflow = refl; invalid = refl }
-flags_counted bits true false false true is_nan =
-    record { inexact = refl; underflow = refl; overflow = refl; invalid = refl }
-flags_counted bits true false false false is_nan =
-    record { inexact = refl; underflow = refl; overflow = refl; invalid = refl }
-flags_counted bits false true true true is_nan =
-    record { inexact = refl; underflow = refl; overflow = refl; invalid = refl }
-flags_counted bits false true true false is_nan =
-    record { inexact = refl; underflow = refl; overflow = refl; invalid = refl }
-flags_counted bits false true false true is_nan =
-    record { inexact = refl; underflow = refl; overflow = refl; invalid = refl }
-flags_counted bits false true false false is_nan =
-    record { inexact = refl; underflow = refl; overflow = refl; invalid = refl }
-flags_counted bits false false true true is_nan =
-    record { inexact = refl; underflow = refl; overflow = refl; invalid = refl }
-flags_counted bits false false true false is_nan =
-    record { inexact = refl; underflow = refl; overflow = refl; invalid = refl }
-flags_counted bits false false false true is_nan =
-    record { inexact = refl; underflow = refl; overflow = refl; invalid = refl }
-flags_counted bits false false false false is_nan =
-    record { inexact = refl; underflow = refl; overflow = refl; invalid = refl }
+flags_counted b true true true true n = record { inexact = refl; underflow = refl; overflow = refl; invalid = refl }
+flags_counted b true true true false n = record { inexact = refl; underflow = refl; overflow = refl; invalid = refl }
+flags_counted b true true false true n = record { inexact = refl; underflow = refl; overflow = refl; invalid = refl }
+flags_counted b true true false false n = record { inexact = refl; underflow = refl; overflow = refl; invalid = refl }
+flags_counted b true false true true n = record { inexact = refl; underflow = refl; overflow = refl; invalid = refl }
+flags_counted b true false true false n = record { inexact = refl; underflow = refl; overflow = refl; invalid = refl }
+flags_counted b true false false true n = record { inexact = refl; underflow = refl; overflow = refl; invalid = refl }
+flags_counted b true false false false n = record { inexact = refl; underflow = refl; overflow = refl; invalid = refl }
+flags_counted b false true true true n = record { inexact = refl; underflow = refl; overflow = refl; invalid = refl }
+flags_counted b false true true false n = record { inexact = refl; underflow = refl; overflow = refl; invalid = refl }
+flags_counted b false true false true n = record { inexact = refl; underflow = refl; overflow = refl; invalid = refl }
+flags_counted b false true false false n = record { inexact = refl; underflow = refl; overflow = refl; invalid = refl }
+flags_counted b false false true true n = record { inexact = refl; underflow = refl; overflow = refl; invalid = refl }
+flags_counted b false false true false n = record { inexact = refl; underflow = refl; overflow = refl; invalid = refl }
+flags_counted b false false false true n = record { inexact = refl; underflow = refl; overflow = refl; invalid = refl }
+flags_counted b false false false false n = record { inexact = refl; underflow = refl; overflow = refl; invalid = refl }
 
 pub lane_counted : (lane : Lane) → AreLanesCounted lane
-lane_counted lane =
-    flags_counted lane.bits lane.inexact lane.underflow lane.overflow lane.invalid lane.is_nan
+lane_counted lane = flags_counted lane.bits lane.inexact lane.underflow lane.overflow lane.invalid lane.is_nan

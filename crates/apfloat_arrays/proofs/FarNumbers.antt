@@ -17,7 +17,7 @@ use Rattle.rustc_apfloat.specs.Lawful.{Constants, IsLawful, AreParameters, forma
 use Rattle.rustc_apfloat.specs.Layout.{fields_of}
 use Rattle.rustc_apfloat.specs.Rounding.{IsDelivered, ok_bits}
 use Rattle.rustc_apfloat.specs.Standing.{StandsFor, up, down}
-use Rattle.apfloat_model.proofs.general.Powers.{two_pos, twice_half}
+use Rattle.apfloat_model.proofs.general.Powers.{two_pos, twice_half, pow3}
 use Rattle.apfloat_model.proofs.rounding.FarMagnitudes.{far_above, far_below}
 use Rattle.fast_bits.proofs.Reading.{quanta_with, number_read, trailing_low, span_is}
 use Rattle.apfloat_arrays.specs.declared.converted.Converted.{Converted}
@@ -35,32 +35,26 @@ quanta_some precision biased trailing =
     let some : 0 < 2 ^ (precision - 1) + trailing = omega arith in
     mul-pos some (pow_pos (biased - 1))
 
--- three powers of two
-scaled : (c d e : ℕ) → 2 ^ (c + d + e) ≡ 2 ^ c * 2 ^ d * 2 ^ e
-scaled c d e = pow-add 2 (c + d) e ∙ ap (λ (n : ℕ). n * 2 ^ e) (pow-add 2 c d)
-
 past_by : (top from precision biased trailing scale : ℕ) → top + from ≤ precision - 1 + (biased - 1) + scale
     → 2 ^ top * 2 ^ from ≤ quanta_with precision biased trailing * 2 ^ scale
 past_by top from precision biased trailing scale far =
     let low : 2 ^ (top + from) ≤ 2 ^ (precision - 1 + (biased - 1) + scale) = pow-le-pow_right two_pos far in
     let left : 2 ^ (top + from) ≡ 2 ^ top * 2 ^ from = pow-add 2 top from in
     let right : 2 ^ (precision - 1 + (biased - 1) + scale) ≡ 2 ^ (precision - 1) * 2 ^ (biased - 1) * 2 ^ scale =
-    scaled (precision - 1) (biased - 1) scale in
+    pow3 (precision - 1) (biased - 1) scale in
     let more : 2 ^ (precision - 1) ≤ 2 ^ (precision - 1) + trailing = omega arith in
     let placed : 2 ^ (precision - 1) * 2 ^ (biased - 1) ≤ (2 ^ (precision - 1) + trailing) * 2 ^ (biased - 1) =
     mul-le-mul_right (2 ^ (biased - 1)) more in
     let all : 2 ^ (precision - 1) * 2 ^ (biased - 1) * 2 ^ scale
-    ≤ (2 ^ (precision - 1) + trailing) * 2 ^ (biased - 1) * 2 ^ scale =
-    mul-le-mul_right (2 ^ scale) placed in
+    ≤ (2 ^ (precision - 1) + trailing) * 2 ^ (biased - 1) * 2 ^ scale = mul-le-mul_right (2 ^ scale) placed in
     omega arith
 
 little_by : (from precision biased trailing scale : ℕ) → 1 ≤ precision → trailing < 2 ^ (precision - 1)
-    → precision + (biased - 1) + scale + 1 ≤ from
-    → 2 * (quanta_with precision biased trailing * 2 ^ scale) < 2 ^ from
+    → precision + (biased - 1) + scale + 1 ≤ from → 2 * (quanta_with precision biased trailing * 2 ^ scale) < 2 ^ from
 little_by from precision biased trailing scale some low far =
     let high : 2 ^ (precision + (biased - 1) + scale + 1) ≤ 2 ^ from = pow-le-pow_right two_pos far in
     let right : 2 ^ (precision + (biased - 1) + scale) ≡ 2 ^ precision * 2 ^ (biased - 1) * 2 ^ scale =
-    scaled precision (biased - 1) scale in
+    pow3 precision (biased - 1) scale in
     let twice : 2 ^ (precision + (biased - 1) + scale + 1) ≡ 2 ^ (precision + (biased - 1) + scale) * 2 =
     pow-add 2 (precision + (biased - 1) + scale) 1 in
     let halves : 2 * 2 ^ (precision - 1) ≡ 2 ^ precision = twice_half precision some in
@@ -68,8 +62,7 @@ little_by from precision biased trailing scale some low far =
     let placed : (2 ^ (precision - 1) + trailing) * 2 ^ (biased - 1) < 2 ^ precision * 2 ^ (biased - 1) =
     mul-lt-mul_of_pos_right less (pow_pos (biased - 1)) in
     let all : (2 ^ (precision - 1) + trailing) * 2 ^ (biased - 1) * 2 ^ scale
-    < 2 ^ precision * 2 ^ (biased - 1) * 2 ^ scale =
-    mul-lt-mul_of_pos_right placed (pow_pos scale) in
+    < 2 ^ precision * 2 ^ (biased - 1) * 2 ^ scale = mul-lt-mul_of_pos_right placed (pow_pos scale) in
     omega arith
 
 -- the quantum of a format is 2 ^ -scale
@@ -94,8 +87,7 @@ past_far c d biased trailing lawful_c lawful_d some far =
 -- a number whose exponent is below the least one by more than the precision is below half of the smallest positive
 -- value
 pub little_far : (c d : Constants) (biased trailing : ℕ) → IsLawful c → IsLawful d → 0 < biased
-    → trailing < 2 ^ (c.precision - 1)
-    → (c.min_exp +ℤ pos biased) ≤ℤ (d.min_exp -ℤ pos d.precision)
+    → trailing < 2 ^ (c.precision - 1) → (c.min_exp +ℤ pos biased) ≤ℤ (d.min_exp -ℤ pos d.precision)
     → 2 * (quanta_with c.precision biased trailing * 2 ^ (format_with d).scale) < 2 ^ (format_with c).scale
 little_far c d biased trailing lawful_c lawful_d some low far =
     let pc = lawful_c.parameters in
@@ -115,8 +107,7 @@ trailing_of c bits = (fields_of (format_with c) (layout_with c) bits).trailing
 -- bits of a normal number on that side
 number_placed : (c d : Constants) (bits place : ℕ) (past : Bool) → c.explicit_integer_bit ≡ false
     → 0 < biased_of c bits → biased_of c bits + 1 < 2 ^ c.exp_bits
-    → place ≡ far_place past (fields_of (format_with c) (layout_with c) bits).negative
-    → IsFar past (format_with d)
+    → place ≡ far_place past (fields_of (format_with c) (layout_with c) bits).negative → IsFar past (format_with d)
     (quanta_with c.precision (biased_of c bits) (trailing_of c bits) * 2 ^ (format_with d).scale)
     (2 ^ (format_with c).scale)
     → IsFarPlace c d bits place
@@ -132,13 +123,11 @@ number_placed c d bits place past implied low high is far = record {
 
 -- bits that pass the tests encode a number on that side
 pub placed : (c d : Constants) (bits place : ℕ) (past little number : Bool) → IsLawful c → IsLawful d
-    → c.explicit_integer_bit ≡ false
-    → (IsTrue past → (d.max_exp +ℤ pos 2) ≤ℤ (c.min_exp +ℤ pos (biased_of c bits)))
+    → c.explicit_integer_bit ≡ false → (IsTrue past → (d.max_exp +ℤ pos 2) ≤ℤ (c.min_exp +ℤ pos (biased_of c bits)))
     → (IsTrue little → (c.min_exp +ℤ pos (biased_of c bits)) ≤ℤ (d.min_exp -ℤ pos d.precision))
     → (IsTrue number → (0 < biased_of c bits) × (biased_of c bits + 1 < 2 ^ c.exp_bits))
     → IsTrue ((past || little) && number)
-    → place ≡ far_place past (fields_of (format_with c) (layout_with c) bits).negative
-    → IsFarPlace c d bits place
+    → place ≡ far_place past (fields_of (format_with c) (layout_with c) bits).negative → IsFarPlace c d bits place
 placed c d bits place true little true lawful_c lawful_d implied is_past is_little is_number both is =
     let between = is_number refl in
     number_placed c d bits place true implied between.0 between.1 is
@@ -151,8 +140,7 @@ placed c d bits place false true true lawful_c lawful_d implied is_past is_littl
     number_placed c d bits place false implied between.0 between.1 is
     (record {
       some =
-          mul-pos (quanta_some c.precision (biased_of c bits) (trailing_of c bits))
-          (pow_pos (format_with d).scale);
+          mul-pos (quanta_some c.precision (biased_of c bits) (trailing_of c bits)) (pow_pos (format_with d).scale);
       to =
           little_far c d (biased_of c bits) (trailing_of c bits) lawful_c lawful_d between.0
           (trailing_low c bits implied) (is_little refl);
@@ -176,8 +164,7 @@ precision_fits precision min max are = omega (arith, ints, are.precision_high)
 pub precision_held : (word precision : ℕ) (min max : ℤ) → AreParameters precision min max → word ≡ precision
     → to_z w32 word ≡ pos precision
 precision_held word precision min max are is =
-    let high = are.precision_high in
-    to_z_pos w32 word (omega (arith, high, is)) ∙ ap (λ (n : ℕ). pos n) is
+    to_z_pos w32 word (omega (arith, are.precision_high, is)) ∙ ap (λ (n : ℕ). pos n) is
 
 pub above_fits : (precision : ℕ) (min max : ℤ) → AreParameters precision min max → FitsSigned w32 (max +ℤ pos 1)
 above_fits precision min max are = omega (arith, ints, are.max_exp_low, are.max_exp_high)
@@ -207,10 +194,9 @@ below_fits precision min max are = omega (arith, ints, are.precision_high, are.m
 pub below_within : (precision : ℕ) (min max : ℤ) → AreParameters precision min max
     → IsWithin exponent_bound ((min -ℤ pos precision) -ℤ pos 1)
 below_within precision min max are =
-    let precise = are.precision_high in
     let low = are.min_exp_low in
     let high = are.min_exp_high in
-    record { low = omega (arith, ints, precise, low); high = omega (arith, ints, high) }
+    record { low = omega (arith, ints, are.precision_high, low); high = omega (arith, ints, high) }
 
 pub below_unit : (c : Constants) → AreParameters c.precision c.min_exp c.max_exp
     → (((c.min_exp -ℤ pos c.precision) -ℤ pos 1) +ℤ pos (format_with c).scale) ≡ neg_ℤ (pos 2)
@@ -227,15 +213,13 @@ pub far_delivered : (past : Bool) (format : Format) (mode : Round) (negative : B
     → ((amount parts : ℕ) → 0 < parts
     → StandsFor 1 ExactlyZero (amount * 2 ^ down unit) (parts * 2 ^ up unit)
     → IsDelivered format mode negative amount parts value status)
-    → (amount parts : ℕ) → IsFar past format amount parts
-    → IsDelivered format mode negative amount parts value status
+    → (amount parts : ℕ) → IsFar past format amount parts → IsDelivered format mode negative amount parts value status
 far_delivered true format mode negative unit value status some is known amount parts far =
     let top : ℕ = 2 ^ (format.precision + format.span) in
     let one : IsDelivered format mode negative (2 ^ (format.precision + format.span)) 1 value status =
     known (2 ^ (format.precision + format.span)) 1 (lit< tt)
     (subst (λ (u : ℤ). 2 ^ (format.precision + format.span) * 2 ^ down u ≡ 1 * (1 * 2 ^ up u)) (sym is) (omega arith))
-    in
-    far_above format mode negative (2 ^ (format.precision + format.span)) 1 amount parts value status some
+    in far_above format mode negative (2 ^ (format.precision + format.span)) 1 amount parts value status some
     (record { some = lit< tt; from = omega arith }) (record { some = far.some; from = far.from }) one
 far_delivered false format mode negative unit value status some is known amount parts far =
     let one : IsDelivered format mode negative 1 4 value status =
@@ -273,8 +257,7 @@ held (Some answer) Says said = (answer, refl, said)
 -- the result for the number that bits encode
 answered_by : (overflow : Overflow) (c d : Constants) (mode : Round) (bits place : ℕ) (answer : Converted)
     (far : IsFarPlace c d bits place)
-    → AnswersFar overflow d mode far.past far.negative answer
-    → IsAnswerFrom overflow c d mode bits answer
+    → AnswersFar overflow d mode far.past far.negative answer → IsAnswerFrom overflow c d mode bits answer
 answered_by overflow c d mode bits place answer far all =
     let it = all (far.quanta * 2 ^ (format_with d).scale) (2 ^ (format_with c).scale) far.far in
     record {
@@ -284,8 +267,7 @@ answered_by overflow c d mode bits place answer far all =
           subst
           (λ (x : Datum). IsConversionBy overflow (format_with c) (format_with d) mode x
           (with_overflow overflow (format_with d) far.negative it.rounded) (bits_of answer.outcome.status)
-          (not (eqb (bits_of answer.outcome.status) ok_bits)))
-          (sym far.read)
+          (not (eqb (bits_of answer.outcome.status) ok_bits))) (sym far.read)
           (number_converted overflow (format_with c) (format_with d) mode far.negative far.quanta it.rounded
           (bits_of answer.outcome.status) far.some it.is_delivered);
       is_encoded = it.is_encoded;
@@ -308,8 +290,7 @@ answered_far overflow c d mode bits place answers none are far =
 -- four results, each for its side and its sign
 pub four_answers : (overflow : Overflow) (d : Constants) (mode : Round) (a b e f : Converted)
     → AnswersFar overflow d mode false false a → AnswersFar overflow d mode false true b
-    → AnswersFar overflow d mode true false e → AnswersFar overflow d mode true true f
-    → (past negative : Bool)
+    → AnswersFar overflow d mode true false e → AnswersFar overflow d mode true true f → (past negative : Bool)
     → IsSomeAnd (slice_get (a ∷ b ∷ e ∷ f ∷ []) (far_place past negative))
     (λ answer. AnswersFar overflow d mode past negative answer)
 four_answers overflow d mode a b e f p q r s false false = p

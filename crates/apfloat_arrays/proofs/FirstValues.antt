@@ -30,8 +30,7 @@ count_more test outcomes some count (suc more) within quiet =
     (quiet (count + more) (omega arith) (omega (arith, within)))
     ∙ count_more test outcomes some count more (omega (arith, within)) quiet
 
-count_first : (test : Outcome → Bool) (outcomes : List Outcome) (some : Outcome) (count : ℕ)
-    → count ≤ length outcomes
+count_first : (test : Outcome → Bool) (outcomes : List Outcome) (some : Outcome) (count : ℕ) → count ≤ length outcomes
     → ((k : ℕ) → count ≤ k → k < length outcomes → test (get_or outcomes k some) ≡ false)
     → count_by test outcomes ≡ count_by test (take count outcomes)
 count_first test outcomes some count within quiet =
@@ -135,8 +134,7 @@ padded_first count k zeros input size low =
     let place : 0 + k ≡ k = omega arith in
     let end : (0 + count) * 4 ≡ length input = omega (arith, size) in
     let whole : slice_range (input ++ drop (count * 4) zeros) 0 ((0 + count) * 4) ≡ input =
-    ap (λ (n : ℕ). slice_range padded 0 n) end
-    ∙ between_from_start padded (length input)
+    ap (λ (n : ℕ). slice_range padded 0 n) end ∙ between_from_start padded (length input)
     ∙ take-append_seam input (drop (count * 4) zeros) in
     sym (sym (ap (value_at 4 k) whole) ∙ in_range 4 0 count k padded low
     ∙ ap (λ (n : ℕ). value_at 4 n padded) place)
@@ -147,6 +145,5 @@ padded_zero count k input size from low =
     let four : k * 4 + 4 - k * 4 ≡ 4 = omega arith in
     ap (λ (xs : List ℕ). number_of (take (k * 4 + 4 - k * 4) xs))
     (drop-append-drop (count * 4) (replicate 256 0) input (k * 4) (omega (arith, from)) size
-    ∙ drop-replicate (k * 4) 256 0)
-    ∙ ap (λ (n : ℕ). number_of (take n (replicate (256 - k * 4) 0))) four
+    ∙ drop-replicate (k * 4) 256 0) ∙ ap (λ (n : ℕ). number_of (take n (replicate (256 - k * 4) 0))) four
     ∙ ap number_of (take-replicate 4 (256 - k * 4) 0 (omega (arith, low)))

@@ -7,13 +7,14 @@ use Rattle.std.proofs.lemmas.List.{drop-drop, drop-take, length-append, take-tak
 use Rattle.std.proofs.lemmas.List.Edits.{length-between}
 use Rattle.std.proofs.lemmas.List.Sums.{count_by-le-length, sum_by-append}
 use Rattle.std.proofs.lemmas.Option.{slice_get_past}
-use Rattle.std.proofs.lemmas.Slice.{between-put_mid, between_is, take-put_mid_below}
+use Rattle.std.proofs.lemmas.Slice.{between-put_mid}
 use borrow.Rule.Slice.PartMut.{put_mid}
 use Rattle.apfloat_model.proofs.general.ListLaws.{get_left}
 use Rattle.apfloat_arrays.specs.declared.counts.Counts.{Counts}
 use Rattle.apfloat_arrays.specs.declared.counts.Outcome.{Outcome}
 use Rattle.apfloat_arrays.specs.Blocks.{IsBlock, value_at}
 use Rattle.apfloat_arrays.specs.Outcomes.{became_nan, counts_of, raised, sum_of, sum_to_top}
+use Rattle.apfloat_arrays.proofs.Places.{before_write}
 
 -- ---- lists
 
@@ -26,8 +27,7 @@ range_of_range xs a b i j order within =
     let same : a + j - (a + i) ≡ j - i = omega arith in
     ap (λ n. take (j - i) (drop i (take n (drop a xs)))) room
     ∙ ap (λ ys. take (j - i) ys) (drop-take i (b - a - i) (drop a xs))
-    ∙ take-take (j - i) (b - a - i) (drop i (drop a xs)) size
-    ∙ ap (λ ys. take (j - i) ys) (drop-drop i a xs)
+    ∙ take-take (j - i) (b - a - i) (drop i (drop a xs)) size ∙ ap (λ ys. take (j - i) ys) (drop-drop i a xs)
     ∙ ap (λ n. take n (drop (a + i) xs)) (sym same)
 
 -- an item after the first list is one of the second
@@ -66,19 +66,6 @@ counts_join first second few =
 
 -- ---- values in their places
 
--- the value of an index before the write, and of one in it
-before_write : (target index from to k : ℕ) (output new : List ℕ) → from ≡ index * target → k < index
-    → from ≤ length output
-    → value_at target k (put_mid from (to - from) output new) ≡ value_at target k output
-before_write target index from to k output new is before within =
-    let next : suc k * target ≤ index * target = mul-le-mul_right target before in
-    let one_more : suc k * target ≡ k * target + target = suc-mul k target in
-    let below : k * target + target ≤ from = omega (arith, next, one_more, is) in
-    between_is (put_mid from (to - from) output new) (k * target) (k * target + target)
-    ∙ ap (drop (k * target))
-    (take-put_mid_below from (to - from) output new (k * target + target) below within)
-    ∙ sym (between_is output (k * target) (k * target + target))
-
 -- the value of an index from the start of a range on is a value of the range
 pub in_range : (width index more k : ℕ) (bytes : List ℕ) → k < more
     → value_at width k (slice_range bytes (index * width) ((index + more) * width))
@@ -90,16 +77,14 @@ in_range width index more k bytes within =
     let starts : (index + k) * width ≡ index * width + k * width = omega arith in
     let last : index * width + (k * width + width) ≡ (index + k) * width + width = omega (arith, starts) in
     range_of_range bytes (index * width) ((index + more) * width) (k * width) (k * width + width) (omega arith)
-    (omega (arith, next, one_more, ends))
-    ∙ (λ i. slice_range bytes (sym starts i) (last i))
+    (omega (arith, next, one_more, ends)) ∙ (λ i. slice_range bytes (sym starts i) (last i))
 
 -- The values before `index` are in their places, and `more` values from there on are converted in the bytes `new`.
 pub block_joined : (Holds : List ℕ → List ℕ → Outcome → Type 0) (source target index more count : ℕ)
     (input output new : List ℕ) (counts others : Counts)
     → index + more ≤ count → count < 2 ^ 64 → length output ≡ count * target → length new ≡ more * target
     → IsBlock Holds source target more (slice_range input (index * source) ((index + more) * source)) new others
-    → IsBlock Holds source target index input output counts
-    → IsBlock Holds source target (index + more) input
+    → IsBlock Holds source target index input output counts → IsBlock Holds source target (index + more) input
     (put_mid (index * target) ((index + more) * target - index * target) output new) (sum_of counts others)
 block_joined Holds source target index more count input output new counts others within few room width block so_far =
     let from = index * target in
@@ -156,8 +141,7 @@ block_joined Holds source target index more count input output new counts others
 -- the same for the last values
 pub block_rest : (Holds : List ℕ → List ℕ → Outcome → Type 0) (source target done count : ℕ)
     (input output new : List ℕ) (counts others : Counts)
-    → done ≤ count → count < 2 ^ 64 → length output ≡ count * target
-    → length new ≡ (count - done) * target
+    → done ≤ count → count < 2 ^ 64 → length output ≡ count * target → length new ≡ (count - done) * target
     → IsBlock Holds source target (count - done) (slice_range input (done * source) (count * source)) new others
     → IsBlock Holds source target done input output counts
     → IsBlock Holds source target count input (put_mid (done * target) (count * target - done * target) output new)
@@ -168,12 +152,10 @@ block_rest Holds source target done count input output new counts others before 
     (slice_range input (done * source) ((done + (count - done)) * source)) new others =
     subst
     (λ (n : ℕ). IsBlock Holds source target (count - done)
-    (slice_range input (done * source) (n * source)) new others)
-    (sym all) block in
+    (slice_range input (done * source) (n * source)) new others) (sym all) block in
     subst
     (λ (n : ℕ). IsBlock Holds source target n input (put_mid (done * target) (n * target - done * target) output new)
-    (sum_of counts others))
-    all
+    (sum_of counts others)) all
     (block_joined Holds source target done (count - done) count input output new counts others
     (omega (arith, before)) few
     room width there so_far)

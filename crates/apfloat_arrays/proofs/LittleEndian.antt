@@ -28,20 +28,16 @@ one_more_fits number byte place small digit within = digit_fits 256 number byte 
 
 -- one more byte is read, below the others
 pub read_more : (bytes : List ℕ) (number byte place : ℕ) → place < length bytes → IsReadDown bytes number place
-    → byte ≡ get_or bytes (length bytes - 1 - place) 0 → byte < 256
-    → IsReadDown bytes (number * 256 + byte) (place + 1)
+    → byte ≡ get_or bytes (length bytes - 1 - place) 0 → byte < 256 → IsReadDown bytes (number * 256 + byte) (place + 1)
 read_more bytes number byte place within so_far is small =
     let here : length bytes - (place + 1) ≡ length bytes - 1 - place = omega arith in
     let step : length bytes - 1 - place + 1 ≡ length bytes - place = omega arith in
     let inside : length bytes - 1 - place < length bytes = omega arith in
     let split : drop (length bytes - (place + 1)) bytes ≡ byte ∷ drop (length bytes - place) bytes =
-    ap (λ n. drop n bytes) here
-    ∙ drop_more bytes (length bytes - 1 - place) 0 inside
-    ∙ ap (λ b. b ∷ drop (length bytes - 1 - place + 1) bytes) (sym is)
-    ∙ ap (λ n. byte ∷ drop n bytes) step in
+    ap (λ n. drop n bytes) here ∙ drop_more bytes (length bytes - 1 - place) 0 inside
+    ∙ ap (λ b. b ∷ drop (length bytes - 1 - place + 1) bytes) (sym is) ∙ ap (λ n. byte ∷ drop n bytes) step in
     let told : number_of (drop (length bytes - (place + 1)) bytes)
-    ≡ byte + 256 * number_of (drop (length bytes - place) bytes) =
-    ap number_of split in
+    ≡ byte + 256 * number_of (drop (length bytes - place) bytes) = ap number_of split in
     let last : number ≡ number_of (drop (length bytes - place) bytes) = so_far.read in
     record {
       below = digit_more 256 number byte place so_far.below small;
@@ -98,8 +94,7 @@ cut n power wider rest number scale so_far =
     omega arith
 
 -- one more byte is written after the others
-pub write_more : (number rest place : ℕ) (bytes : List ℕ) → place < length bytes
-    → IsWrittenUp number rest place bytes
+pub write_more : (number rest place : ℕ) (bytes : List ℕ) → place < length bytes → IsWrittenUp number rest place bytes
     → IsWrittenUp number (rest / 256) (place + 1) (set bytes place (rest % 256))
 write_more number rest place bytes within so_far =
     let enough : place ≤ length bytes = omega arith in
@@ -123,8 +118,7 @@ none_left n power (suc rest) number told small =
 
 -- after the last byte, the bytes are those of the number
 pub write_to_end : (number rest place : ℕ) (bytes : List ℕ) → place ≡ length bytes
-    → number < 256 ^ length bytes → IsWrittenUp number rest place bytes
-    → number_of bytes ≡ number
+    → number < 256 ^ length bytes → IsWrittenUp number rest place bytes → number_of bytes ≡ number
 write_to_end number rest place bytes all small so_far =
     let short : length bytes ≤ place = omega arith in
     let whole : take place bytes ≡ bytes = take_all place bytes short in
@@ -138,9 +132,7 @@ write_to_end number rest place bytes all small so_far =
 bytes_of_bits : (n : ℕ) → 256 ^ n ≡ 2 ^ (8 * n)
 bytes_of_bits zero = refl
 bytes_of_bits (suc n) =
-    pow-suc 256 n
-    ∙ ap (λ k. k * 256) (bytes_of_bits n)
-    ∙ sym (pow-add 2 (8 * n) 8)
+    pow-suc 256 n ∙ ap (λ k. k * 256) (bytes_of_bits n) ∙ sym (pow-add 2 (8 * n) 8)
     ∙ ap (λ k. 2 ^ k) (sym (mul-suc 8 n))
 
 -- a number fits in bytes that have at least as many bits

@@ -56,18 +56,21 @@ place_size width index count bytes before size =
     length-between bytes (index * width) (index * width + width) within
     ∙ (let all : index * width + width - index * width ≡ width = omega arith in all)
 
--- a write to the place of a value leaves the earlier ones
+-- a write from the place of a value on leaves the earlier ones
+pub before_write : (target index from to k : ℕ) (output new : List ℕ) → from ≡ index * target → k < index
+    → from ≤ length output → value_at target k (put_mid from (to - from) output new) ≡ value_at target k output
+before_write target index from to k output new is before within =
+    let next = place_below k index target before in
+    let below : k * target + target ≤ from = omega (arith, next, is) in
+    between_is (put_mid from (to - from) output new) (k * target) (k * target + target)
+    ∙ ap (drop (k * target)) (take-put_mid_below from (to - from) output new (k * target + target) below within)
+    ∙ sym (between_is output (k * target) (k * target + target))
+
 pub earlier : (width index later : ℕ) (bytes new : List ℕ) → index < later → later * width ≤ length bytes
     → value_at width index (put_mid (later * width) (later * width + width - later * width) bytes new)
     ≡ value_at width index bytes
 earlier width index later bytes new before within =
-    let below = place_below index later width before in
-    let written = put_mid (later * width) (later * width + width - later * width) bytes new in
-    between_is written (index * width) (index * width + width)
-    ∙ ap (drop (index * width))
-    (take-put_mid_below (later * width) (later * width + width - later * width) bytes new (index * width + width)
-    below within)
-    ∙ sym (between_is bytes (index * width) (index * width + width))
+    before_write width later (later * width) (later * width + width) index bytes new refl before within
 
 -- a write to the place of a value leaves the written bytes there
 pub latest : (width index : ℕ) (bytes new : List ℕ) → index * width ≤ length bytes → length new ≡ width
@@ -78,32 +81,9 @@ latest width index bytes new within size =
 
 -- ---- statements about an index
 
--- the earlier values are unchanged
-kept_of : {O : Type 0} (Holds : ℕ → List ℕ → O → Type 0) (old new : List ℕ) (outcomes more : List O)
-    (k : ℕ) → k < length outcomes → new ≡ old
-    → IfSome (slice_get outcomes k) (λ o. Holds k old o)
-    → IfSome (slice_get (outcomes ++ more) k) (λ o. Holds k new o)
-kept_of {O} Holds old new outcomes more k within same said =
-    let At : List ℕ → Type 0 = λ bytes. IfSome (slice_get outcomes k) (λ o. Holds k bytes o) in
-    let Of : Option O → Type 0 = λ found. IfSome found (λ o. Holds k new o) in
-    subst Of (sym (get_left outcomes more k within)) (subst At (sym same) said)
-
--- the last value is the one that was converted
-last_of : {O : Type 0} (Holds : ℕ → List ℕ → O → Type 0) (new now : List ℕ) (outcomes : List O)
-    (outcome : O) (index : ℕ) → length outcomes ≡ index
-    → now ≡ new → Holds index new outcome
-    → IfSome (slice_get (outcomes ++ outcome ∷ []) index) (λ o. Holds index now o)
-last_of {O} Holds new now outcomes outcome index size same here =
-    let At : List ℕ → Type 0 = λ bytes. Holds index bytes outcome in
-    let Of : Option O → Type 0 = λ found. IfSome found (λ o. Holds index now o) in
-    let found : slice_get (outcomes ++ outcome ∷ []) index ≡ Some outcome =
-    ap (slice_get (outcomes ++ outcome ∷ [])) (sym size) ∙ get_last outcomes outcome in
-    subst Of (sym found) (subst At (sym same) here)
-
 -- there is no outcome after the last
 none_of : {O : Type 0} (Holds : ℕ → List ℕ → O → Type 0) (now : List ℕ) (outcomes : List O) (k : ℕ)
-    → length outcomes ≤ k
-    → IfSome (slice_get outcomes k) (λ o. Holds k now o)
+    → length outcomes ≤ k → IfSome (slice_get outcomes k) (λ o. Holds k now o)
 none_of {O} Holds now outcomes k past =
     let Of : Option O → Type 0 = λ found. IfSome found (λ o. Holds k now o) in
     subst Of (sym (slice_get_past outcomes k past)) tt
@@ -115,61 +95,53 @@ pub places_none : {O : Type 0} (Holds : ℕ → List ℕ → O → Type 0) (widt
     → AreInPlaces Holds width 0 bytes []
 places_none Holds width bytes = record { size = refl; each = λ index. tt }
 
--- one more value is in its place
+-- one more value is in its place, and the earlier ones are unchanged
+places_next : {O : Type 0} (Holds : ℕ → List ℕ → O → Type 0) (width index next : ℕ) (bytes written : List ℕ)
+    (outcomes : List O) (outcome : O) → next ≡ index + 1 → Holds index (value_at width index written) outcome
+    → ((k : ℕ) → k < index → value_at width k bytes ≡ value_at width k written)
+    → AreInPlaces Holds width index bytes outcomes → AreInPlaces Holds width next written (outcomes ++ outcome ∷ [])
+places_next {O} Holds width index next bytes written outcomes outcome last here same so_far =
+    let Says : ℕ → Type 0 = λ k. IfSome (slice_get (outcomes ++ outcome ∷ []) k)
+    (λ o. Holds k (value_at width k written) o) in
+    let size = so_far.size in
+    let found : slice_get (outcomes ++ outcome ∷ []) index ≡ Some outcome =
+    ap (slice_get (outcomes ++ outcome ∷ [])) (sym size) ∙ get_last outcomes outcome in
+    let at_end : Says index =
+    subst (λ (o : Option O). IfSome o (λ o. Holds index (value_at width index written) o)) (sym found) here in
+    let before_it : (k : ℕ) → k < index → Says k = λ k h.
+    subst (λ (o : Option O). IfSome o (λ o. Holds k (value_at width k written) o))
+    (sym (get_left outcomes (outcome ∷ []) k (omega (arith, size, h))))
+    (subst (λ (value : List ℕ). IfSome (slice_get outcomes k) (λ o. Holds k value o)) (same k h) (so_far.each k)) in
+    let longer : length (outcomes ++ outcome ∷ []) ≡ next =
+    length_push outcomes outcome ∙ (let e : length outcomes + 1 ≡ next = omega (arith, size, last) in e) in
+    record {
+      size = longer;
+      each = λ k. ⊎_elim {C = Says k} (before_it k)
+          (λ h. ⊎_elim {C = Says k} (λ e. subst Says (sym e) at_end)
+          (λ past. none_of Holds _ (outcomes ++ outcome ∷ []) k (omega (arith, longer, last, past, h))) (cases_eq k index))
+          (cases_lt k index);
+    }
+
 pub places_push : {O : Type 0} (Holds : ℕ → List ℕ → O → Type 0) (width index : ℕ) (bytes : List ℕ)
     (outcomes : List O) (outcome : O) → Holds index (value_at width index bytes) outcome
     → AreInPlaces Holds width index bytes outcomes
     → AreInPlaces Holds width (suc index) bytes (outcomes ++ outcome ∷ [])
-places_push {O} Holds width index bytes outcomes outcome here so_far =
-    let Says : ℕ → Type 0 = λ k. IfSome (slice_get (outcomes ++ outcome ∷ []) k)
-    (λ o. Holds k (value_at width k bytes) o) in
-    let at_end : Says index =
-    last_of Holds (value_at width index bytes) (value_at width index bytes) outcomes outcome index so_far.size
-    refl here in
-    let before_it : (k : ℕ) → k < index → Says k = λ k h.
-    kept_of Holds (value_at width k bytes) (value_at width k bytes) outcomes (outcome ∷ []) k
-    (let size = so_far.size in omega (arith, size, h)) refl (so_far.each k) in
-    let longer : length (outcomes ++ outcome ∷ []) ≡ suc index =
-    length_push outcomes outcome ∙ (let size = so_far.size in omega (arith, size)) in
-    record {
-      size = longer;
-      each = λ k. ⊎_elim {C = Says k} (before_it k)
-          (λ h. ⊎_elim {C = Says k} (λ e. subst Says (sym e) at_end)
-          (λ past. none_of Holds _ (outcomes ++ outcome ∷ []) k (omega (arith, longer, past, h))) (cases_eq k index))
-          (cases_lt k index);
-    }
+places_push Holds width index bytes outcomes outcome here so_far =
+    places_next Holds width index (suc index) bytes bytes outcomes outcome (omega arith) here (λ k h. refl) so_far
 
 -- one more value is written to its place
 pub places_more : {O : Type 0} (Holds : ℕ → List ℕ → O → Type 0) (width index count : ℕ)
     (bytes new : List ℕ) (outcomes : List O) (outcome : O)
-    → index < count → length bytes ≡ count * width → length new ≡ width
-    → Holds index new outcome
-    → AreInPlaces Holds width index bytes outcomes
-    → AreInPlaces Holds width (index + 1)
+    → index < count → length bytes ≡ count * width → length new ≡ width → Holds index new outcome
+    → AreInPlaces Holds width index bytes outcomes → AreInPlaces Holds width (index + 1)
     (put_mid (index * width) (index * width + width - index * width) bytes new) (outcomes ++ outcome ∷ [])
-places_more {O} Holds width index count bytes new outcomes outcome before all size here so_far =
+places_more Holds width index count bytes new outcomes outcome before all size here so_far =
     let room = place_below index count width before in
     let within : index * width ≤ length bytes = omega arith in
-    let written : List ℕ = put_mid (index * width) (index * width + width - index * width) bytes new in
-    let Says : ℕ → Type 0 = λ k. IfSome (slice_get (outcomes ++ outcome ∷ []) k)
-    (λ o. Holds k
-    (value_at width k (put_mid (index * width) (index * width + width - index * width) bytes new)) o) in
-    let at_end : Says index =
-    last_of Holds new (value_at width index written) outcomes outcome index so_far.size
-    (latest width index bytes new within size) here in
-    let before_it : (k : ℕ) → k < index → Says k = λ k h.
-    kept_of Holds (value_at width k bytes) (value_at width k written) outcomes
-    (outcome ∷ []) k (omega arith)
-    (earlier width k index bytes new h within) (so_far.each k) in
-    let longer : length (outcomes ++ outcome ∷ []) ≡ index + 1 =
-    length_push outcomes outcome ∙ ap (λ n. n + 1) so_far.size in
-    record {
-      size = longer;
-      each = λ k. ⊎_elim {C = Says k} (before_it k)
-          (λ h. ⊎_elim {C = Says k} (λ e. subst Says (sym e) at_end)
-          (λ past. none_of Holds _ (outcomes ++ outcome ∷ []) k (omega arith)) (cases_eq k index))
-          (cases_lt k index);
-    }
+    places_next Holds width index (index + 1) bytes
+    (put_mid (index * width) (index * width + width - index * width) bytes new) outcomes outcome refl
+    (subst (λ (value : List ℕ). Holds index value outcome) (sym (latest width index bytes new within size)) here)
+    (λ k h. sym (earlier width k index bytes new h within)) so_far
 
 -- ---- blocks
 
@@ -183,8 +155,7 @@ block_none Holds source target input output = record
 pub block_more : (Holds : List ℕ → List ℕ → Outcome → Type 0) (source target index count : ℕ)
     (input output new : List ℕ) (counts : Counts) (outcome : Outcome)
     → index < count → length output ≡ count * target → length new ≡ target
-    → Holds (value_at source index input) new outcome
-    → IsBlock Holds source target index input output counts
+    → Holds (value_at source index input) new outcome → IsBlock Holds source target index input output counts
     → IsBlock Holds source target (index + 1) input
     (put_mid (index * target) (index * target + target - index * target) output new) (with_outcome counts outcome)
 block_more Holds source target index count input output new counts outcome before size width here so_far =
@@ -201,8 +172,7 @@ block_more Holds source target index count input output new counts outcome befor
 -- the same block, with its parts renamed
 pub block_named : (Holds : List ℕ → List ℕ → Outcome → Type 0) (source target count count' : ℕ)
     (input input' output output' : List ℕ) (counts : Counts)
-    → count ≡ count' → input ≡ input' → output ≡ output'
-    → IsBlock Holds source target count input output counts
+    → count ≡ count' → input ≡ input' → output ≡ output' → IsBlock Holds source target count input output counts
     → IsBlock Holds source target count' input' output' counts
 block_named Holds source target count count' input input' output output' counts same_count same_input same_output
     block =

@@ -53,8 +53,7 @@ same_elements [] [] size each = refl
 same_elements [] (p ∷ ps) size each = absurd (omega (arith, size))
 same_elements (o ∷ os) [] size each = absurd (omega (arith, size))
 same_elements {O} (o ∷ os) (p ∷ ps) size each =
-    ap (λ (x : O). x ∷ os) (each 0 o p refl refl)
-    ∙ ap (λ (l : List O). p ∷ l)
+    ap (λ (x : O). x ∷ os) (each 0 o p refl refl) ∙ ap (λ (l : List O). p ∷ l)
     (same_elements os ps (omega (arith, size)) (λ index. each (suc index)))
 
 -- ---- places
@@ -65,8 +64,7 @@ one_more_place : (width count : ℕ) (bytes : List ℕ)
 one_more_place width count bytes =
     let more = take (count * width + width) bytes in
     let within : count * width ≤ count * width + width = omega arith in
-    sym (take-append-drop (count * width) more)
-    ∙ ap (λ (front : List ℕ). front ++ drop (count * width) more)
+    sym (take-append-drop (count * width) more) ∙ ap (λ (front : List ℕ). front ++ drop (count * width) more)
     (take-take (count * width) (count * width + width) bytes within)
     ∙ ap (λ (last : List ℕ). take (count * width) bytes ++ last)
     (sym (between_is bytes (count * width) (count * width + width)))
@@ -88,11 +86,9 @@ same_places width (suc count) bytes other each =
     let split : suc count * width ≡ count * width + width = suc-mul count width in
     let front = same_places width count bytes other (λ index h. each index (omega (arith, h))) in
     let here : count < suc count = omega arith in
-    ap (λ (n : ℕ). take n bytes) split
-    ∙ one_more_place width count bytes
+    ap (λ (n : ℕ). take n bytes) split ∙ one_more_place width count bytes
     ∙ ap (λ (l : List ℕ). l ++ value_at width count bytes) front
-    ∙ ap (λ (l : List ℕ). take (count * width) other ++ l) (each count here)
-    ∙ sym (one_more_place width count other)
+    ∙ ap (λ (l : List ℕ). take (count * width) other ++ l) (each count here) ∙ sym (one_more_place width count other)
     ∙ ap (λ (n : ℕ). take n other) (sym split)
 
 -- values in the same place of lists of the same length have the same length

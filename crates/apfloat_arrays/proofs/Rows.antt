@@ -20,10 +20,8 @@ use Rattle.rustc_apfloat.specs.Flags.{bits_of}
 use Rattle.rustc_apfloat.specs.Format.{Format}
 use Rattle.rustc_apfloat.specs.Lawful.{Constants, format_with, layout_with}
 use Rattle.rustc_apfloat.specs.Layout.{datum_of}
-use Rattle.rustc_apfloat.specs.Rounding.{zero_sign}
 use Rattle.rustc_apfloat.specs.declared.Round.{Round}
-use Rattle.apfloat_model.specs.declared.kinds.NonfiniteBehavior.{NonfiniteBehavior}
-use Rattle.apfloat_model.specs.declared.kinds.NonfiniteBehavior.TheVariants.{IEEE754, NanOnly, NanNegativeZero}
+use Rattle.apfloat_model.proofs.arithmetic.Signs.{plus_zero}
 use Rattle.small_formats.specs.saturation.Saturation.{IsConversionBy, saturated}
 use Rattle.small_formats.specs.declared.saturation.saturation.Overflow.{Overflow}
 use Rattle.small_formats.specs.declared.saturation.saturation.Overflow.TheVariants.{Rounded, Saturated, Finite}
@@ -38,18 +36,15 @@ use Rattle.apfloat_arrays.proofs.Places.{counts_push, earlier, latest, place_bel
 
 -- ---- rows
 
-pub row_none : (Holds : List ℕ → List ℕ → Outcome → Type 0) (given : ℕ → List ℕ) (width : ℕ)
-    (output : List ℕ)
+pub row_none : (Holds : List ℕ → List ℕ → Outcome → Type 0) (given : ℕ → List ℕ) (width : ℕ) (output : List ℕ)
     → IsRow Holds given width 0 output (counts_of [])
 row_none Holds given width output =
     record { outcomes = []; places = places_none (λ k bytes o. Holds (given k) bytes o) width output; counted = refl }
 
-pub row_more : (Holds : List ℕ → List ℕ → Outcome → Type 0) (given : ℕ → List ℕ)
-    (width index count : ℕ)
+pub row_more : (Holds : List ℕ → List ℕ → Outcome → Type 0) (given : ℕ → List ℕ) (width index count : ℕ)
     (output new : List ℕ) (counts : Counts) (outcome : Outcome)
     → index < count → length output ≡ count * width → length new ≡ width → Holds (given index) new outcome
-    → IsRow Holds given width index output counts
-    → IsRow Holds given width (index + 1)
+    → IsRow Holds given width index output counts → IsRow Holds given width (index + 1)
     (put_mid (index * width) (index * width + width - index * width) output new) (with_outcome counts outcome)
 row_more Holds given width index count output new counts outcome before size wide here so_far = record {
   outcomes = so_far.outcomes ++ outcome ∷ [];
@@ -60,8 +55,7 @@ row_more Holds given width index count output new counts outcome before size wid
 }
 
 -- the same values, given otherwise
-pub row_given : (Holds : List ℕ → List ℕ → Outcome → Type 0) (given other : ℕ → List ℕ)
-    (width count : ℕ)
+pub row_given : (Holds : List ℕ → List ℕ → Outcome → Type 0) (given other : ℕ → List ℕ) (width count : ℕ)
     (output : List ℕ) (counts : Counts) → ((k : ℕ) → k < count → given k ≡ other k)
     → IsRow Holds given width count output counts → IsRow Holds other width count output counts
 row_given Holds given other width count output counts same row =
@@ -84,18 +78,12 @@ row_given Holds given other width count output counts same row =
     }
 
 -- a row of the values of a block
-pub row_block : (Holds : List ℕ → List ℕ → Outcome → Type 0) (given : ℕ → List ℕ)
-    (source width count : ℕ)
+pub row_block : (Holds : List ℕ → List ℕ → Outcome → Type 0) (given : ℕ → List ℕ) (source width count : ℕ)
     (input output : List ℕ) (counts : Counts) → ((k : ℕ) → k < count → given k ≡ value_at source k input)
     → IsRow Holds given width count output counts → IsBlock Holds source width count input output counts
 row_block Holds given source width count input output counts same row =
     let there = row_given Holds given (λ k. value_at source k input) width count output counts same row in
-    record {
-      outcomes = there.outcomes;
-      size = there.places.size;
-      each = there.places.each;
-      counted = there.counted;
-    }
+    record { outcomes = there.outcomes; size = there.places.size; each = there.places.each; counted = there.counted }
 
 -- ---- one value in place of another
 
@@ -146,14 +134,12 @@ counts_set outcomes index outcome within few quiet =
     cc
 
 -- a value in place of one that is not counted
-pub row_set : (Holds : List ℕ → List ℕ → Outcome → Type 0) (given other : ℕ → List ℕ)
-    (width index count : ℕ)
+pub row_set : (Holds : List ℕ → List ℕ → Outcome → Type 0) (given other : ℕ → List ℕ) (width index count : ℕ)
     (output new : List ℕ) (counts : Counts) (outcome : Outcome)
     → index < count → count < 2 ^ 64 → length output ≡ count * width → length new ≡ width
     → ((k : ℕ) → (k ≡ index → ⊥) → given k ≡ other k) → Holds (other index) new outcome
     → ((bytes : List ℕ) (o : Outcome) → Holds (given index) bytes o → IsQuiet o)
-    → IsRow Holds given width count output counts
-    → IsRow Holds other width count
+    → IsRow Holds given width count output counts → IsRow Holds other width count
     (put_mid (index * width) (index * width + width - index * width) output new) (with_flags counts outcome)
 row_set Holds given other width index count output new counts outcome before few room size same here quiet row =
     let outcomes = row.outcomes in
@@ -218,11 +204,6 @@ quiet_from o none number = record {
   nans = number;
 }
 
-plus_zero : (kind : NonfiniteBehavior) → zero_sign kind false ≡ false
-plus_zero IEEE754 = refl
-plus_zero NanOnly = refl
-plus_zero NanNegativeZero = refl
-
 -- a positive zero is converted exactly, and stays one
 zero_kept : (f g : Format) (mode : Round) (value : Datum) (status : ℕ) (loses : Bool)
     → IsConversion f g mode (finite false 0) value status loses → (status ≡ 0) × (value ≡ finite false 0)
@@ -231,8 +212,7 @@ zero_kept f g mode value status loses it =
     (it.status_is ∙ rw sign refl, it.value_is ∙ ap (λ (b : Bool). finite b 0) sign)
 
 zero_by : (overflow : Overflow) (f g : Format) (mode : Round) (value : Datum) (status : ℕ) (loses : Bool)
-    → IsConversionBy overflow f g mode (finite false 0) value status loses → (status ≡ 0) ×
-    (is_nan value ≡ false)
+    → IsConversionBy overflow f g mode (finite false 0) value status loses → (status ≡ 0) × (is_nan value ≡ false)
 zero_by Rounded f g mode value status loses it =
     let kept = zero_kept f g mode value status loses it in (kept.0, ap is_nan kept.1)
 zero_by Saturated f g mode value status loses it =
@@ -287,8 +267,7 @@ half_alike x =
     (λ (none : x % 2 ^ 16 ≡ 0).
     let is : odd_quotient x (2 ^ 16) ≡ x / 2 ^ 16 = exact_odd (x / 2 ^ 16) (x % 2 ^ 16) none in omega (arith, is))
     (λ (some : x % 2 ^ 16 ≡ 0 → ⊥).
-    let is : odd_quotient x (2 ^ 16) ≡ x / 2 ^ 16 + 1 - x / 2 ^ 16 % 2 =
-    inexact_odd (x / 2 ^ 16) (x % 2 ^ 16) some in
+    let is : odd_quotient x (2 ^ 16) ≡ x / 2 ^ 16 + 1 - x / 2 ^ 16 % 2 = inexact_odd (x / 2 ^ 16) (x % 2 ^ 16) some in
     omega (arith, is))
     (cases_eq (x % 2 ^ 16) 0))
 
@@ -312,8 +291,7 @@ done_there done input index before =
     then value_at 4 index input else []) (lt-ltb index done before)
 
 -- a zero stands for what is not a number
-pub zero_there : (index : ℕ) (input : List ℕ)
-    → ltb (number_of (value_at 4 index input) % 2 ^ 31) (255 * 2 ^ 23) ≡ false
+pub zero_there : (index : ℕ) (input : List ℕ) → ltb (number_of (value_at 4 index input) % 2 ^ 31) (255 * 2 ^ 23) ≡ false
     → number_from index input index ≡ []
 zero_there index input special =
     (λ i. if le-ltb index index (omega arith) i || special i then value_at 4 index input else [])
@@ -329,8 +307,7 @@ next_there index input k other =
     ap (λ (b : Bool). if b || ltb (number_of (value_at 4 k input) % 2 ^ 31) (255 * 2 ^ 23) then value_at 4 k input
     else []) same
 
-pub next_number : (index : ℕ) (input : List ℕ)
-    → ltb (number_of (value_at 4 index input) % 2 ^ 31) (255 * 2 ^ 23) ≡ true
+pub next_number : (index : ℕ) (input : List ℕ) → ltb (number_of (value_at 4 index input) % 2 ^ 31) (255 * 2 ^ 23) ≡ true
     → (k : ℕ) → number_from index input k ≡ number_from (index + 1) input k
 next_number index input number k =
     ⊎_elim {C = number_from index input k ≡ number_from (index + 1) input k}
@@ -374,8 +351,7 @@ cleared_finite half =
     (lt-ltb (half % 2 ^ 15) (255 * 2 ^ 7) l) in
     omega (arith, is, l))
     (λ (l : 255 * 2 ^ 7 ≤ half % 2 ^ 15).
-    let is : number_in half ≡ 0 = ap (λ (b : Bool). if b then half else 0)
-    (le-ltb (half % 2 ^ 15) (255 * 2 ^ 7) l) in
+    let is : number_in half ≡ 0 = ap (λ (b : Bool). if b then half else 0) (le-ltb (half % 2 ^ 15) (255 * 2 ^ 7) l) in
     omega (arith, is))
     (cases_lt (half % 2 ^ 15) (255 * 2 ^ 7))
 
@@ -398,8 +374,7 @@ made_there convert number input index zero is =
     then value_at 4 index input else []))) (sym none)
 
 -- the same of the upper half of a single, rounded to odd
-pub halves_there : (input : List ℕ) (index half : ℕ)
-    → half ≡ odd_quotient (number_of (value_at 4 index input)) (2 ^ 16)
+pub halves_there : (input : List ℕ) (index half : ℕ) → half ≡ odd_quotient (number_of (value_at 4 index input)) (2 ^ 16)
     → number_in half ≡ odd_quotient (number_of (number_from 0 input index)) (2 ^ 16)
 halves_there input index half is =
     let x = number_of (value_at 4 index input) in

@@ -35,14 +35,10 @@ use Rattle.small_formats.specs.saturation.Saturation.{IsConversionBy}
 use Rattle.apfloat_arrays.specs.ShortSources.{IsCoarseFor, IsShortFor, is_nan_of, short_of}
 use Rattle.apfloat_arrays.specs.Values.{IsAnswerFrom}
 use Rattle.apfloat_arrays.proofs.FarNumbers.{scale_is}
+use Rattle.fast_bits.proofs.lanes_lemmas.Cuts.{exact_odd, inexact_odd}
+use Rattle.fast_bits.proofs.lanes_lemmas.ScaledNumbers.{odd_some}
 
 -- ---- the quotient rounded to odd
-
-odd_for_some : (q r : ℕ) → (r ≡ 0 → ⊥) → odd_for_rest q r ≡ q + 1 - q % 2
-odd_for_some q r some = ap (λ (b : Bool). cond b q (q + 1 - q % 2)) (ne_eqb r 0 some)
-
-odd_for_none : (q r : ℕ) → r ≡ 0 → odd_for_rest q r ≡ q
-odd_for_none q r none = ap (λ (b : Bool). cond b q (q + 1 - q % 2)) (eq-eqb r 0 none)
 
 -- the odd one of two consecutive multiples
 odd_of_two : (q w : ℕ) (odd : Bool) → eqb (q % 2) 1 ≡ odd → cond odd (q * w) ((q + 1) * w) ≡ (q + 1 - q % 2) * w
@@ -86,7 +82,7 @@ module _ (u m c : ℕ) (unit : 0 < u) (fits : m < 64 * u) (full : (c ≡ 0) ⊎ 
       exact_above 6 (m / u * 2 ^ c) (m * 2 ^ c) u unit below.on_grid e in
       let same : odd_between (m / u * 2 ^ c) (m / u * 2 ^ c) ≡ odd_quotient m u * 2 ^ c =
       sym (cond_same (is_odd_below (m / u * 2 ^ c) (m / u * 2 ^ c)) (m / u * 2 ^ c))
-      ∙ ap (λ (n : ℕ). n * 2 ^ c) (sym (odd_for_none (m / u) (m % u) none)) in
+      ∙ ap (λ (n : ℕ). n * 2 ^ c) (sym (exact_odd (m / u) (m % u) none)) in
       let six : 0 < 6 = omega arith in
       subst (λ (n : ℕ). AgreesAtEven 5 (m * 2 ^ c) u n) same
       (odd_agrees 6 (m / u * 2 ^ c) (m / u * 2 ^ c) (m * 2 ^ c) u six unit below above)
@@ -100,9 +96,8 @@ module _ (u m c : ℕ) (unit : 0 < u) (fits : m < 64 * u) (full : (c ≡ 0) ⊎ 
       let above : IsAbove 6 ((m / u + 1) * 2 ^ c) (m * 2 ^ c) u =
       above_is_next 6 (2 ^ 5) (m / u) c (m * 2 ^ c) u enclosed strict in
       let same : odd_between (m / u * 2 ^ c) ((m / u + 1) * 2 ^ c) ≡ odd_quotient m u * 2 ^ c =
-      odd_of_two (m / u) (2 ^ c) (is_odd_below (m / u * 2 ^ c) ((m / u + 1) * 2 ^ c))
-      (sym (odd_below_is (m / u) c))
-      ∙ ap (λ (n : ℕ). n * 2 ^ c) (sym (odd_for_some (m / u) (m % u) some)) in
+      odd_of_two (m / u) (2 ^ c) (is_odd_below (m / u * 2 ^ c) ((m / u + 1) * 2 ^ c)) (sym (odd_below_is (m / u) c))
+      ∙ ap (λ (n : ℕ). n * 2 ^ c) (sym (inexact_odd (m / u) (m % u) some)) in
       let six : 0 < 6 = omega arith in
       subst (λ (n : ℕ). AgreesAtEven 5 (m * 2 ^ c) u n) same
       (odd_agrees 6 (m / u * 2 ^ c) ((m / u + 1) * 2 ^ c) (m * 2 ^ c) u six unit below above)
@@ -171,8 +166,7 @@ rounded_alike f h g mode negative n m value status loses p q alike x =
     subst
     (λ (b : Bool). MatchBool b
     (IsKept (finite (zero_sign g.nonfinite negative) 0) (loses_zero_sign g negative) value status loses)
-    (IsConvertedNumber f g mode negative n value status loses))
-    (sym (not_zero n p))
+    (IsConvertedNumber f g mode negative n value status loses)) (sym (not_zero n p))
     (record { is_delivered = alike value status y.is_delivered; loses_is = y.loses_is })
 
 number_alike : (overflow : Overflow) (f h g : Format) (mode : Round) (negative : Bool) (n m : ℕ) (value : Datum)
@@ -246,11 +240,11 @@ odd_above u h t unit =
     ap (λ (n : ℕ). odd_for_rest n ((2 * h * u + t) % u)) q ∙ ap (λ (n : ℕ). odd_for_rest (2 * h + t / u) n) r
     ∙ ⊎_elim {C = odd_for_rest (2 * h + t / u) (t % u) ≡ 2 * h + odd_for_rest (t / u) (t % u)}
     (λ (z : t % u ≡ 0).
-    odd_for_none (2 * h + t / u) (t % u) z ∙ ap (λ (n : ℕ). 2 * h + n) (sym (odd_for_none (t / u) (t % u) z)))
+    exact_odd (2 * h + t / u) (t % u) z ∙ ap (λ (n : ℕ). 2 * h + n) (sym (exact_odd (t / u) (t % u) z)))
     (λ (n : t % u ≡ 0 → ⊥).
-    odd_for_some (2 * h + t / u) (t % u) n
+    inexact_odd (2 * h + t / u) (t % u) n
     ∙ (let s : 2 * h + t / u + 1 - (2 * h + t / u) % 2 ≡ 2 * h + (t / u + 1 - t / u % 2) = even_apart h (t / u) in s)
-    ∙ ap (λ (k : ℕ). 2 * h + k) (sym (odd_for_some (t / u) (t % u) n)))
+    ∙ ap (λ (k : ℕ). 2 * h + k) (sym (inexact_odd (t / u) (t % u) n)))
     (cases_eq (t % u) 0)
   where
     even_apart : (h a : ℕ) → 2 * h + a + 1 - (2 * h + a) % 2 ≡ 2 * h + (a + 1 - a % 2)
@@ -258,27 +252,7 @@ odd_above u h t unit =
 
 odd_of_zero : (u t : ℕ) → 0 < u → t ≡ 0 → odd_quotient t u ≡ 0
 odd_of_zero u t unit z =
-    ap (λ (n : ℕ). odd_quotient n u) z
-    ∙ odd_for_none (0 / u) (0 % u) (zero-mod u) ∙ zero-div u
-
-odd_of_some : (u t : ℕ) → 0 < u → (t ≡ 0 → ⊥) → 0 < odd_quotient t u
-odd_of_some u t unit some =
-    ⊎_elim
-    (λ (z : t % u ≡ 0).
-    let e = odd_for_none (t / u) (t % u) z in
-    let parts : t / u * u + t % u ≡ t = div-add-mod' t u in
-    let p : 0 < t / u = ⊎_elim (λ (none : t / u ≡ 0).
-    let gone : t / u * u ≡ 0 * u = ap (λ (n : ℕ). n * u) none in absurd (some (omega (arith, parts, gone, z))))
-    (λ (more : t / u ≡ 0 → ⊥). omega (arith, more)) (cases_eq (t / u) 0) in
-    omega (arith, e, p))
-    (λ (n : t % u ≡ 0 → ⊥).
-    let e = odd_for_some (t / u) (t % u) n in
-    let k : 0 < t / u + 1 - t / u % 2 = odd_some (t / u) in
-    omega (arith, e, k))
-    (cases_eq (t % u) 0)
-  where
-    odd_some : (a : ℕ) → 0 < a + 1 - a % 2
-    odd_some a = omega arith
+    ap (λ (n : ℕ). odd_quotient n u) z ∙ exact_odd (0 / u) (0 % u) (zero-mod u) ∙ zero-div u
 
 module _ (overflow : Overflow) (f h g : Format) (mode : Round) (cut : ℕ) (coarse : IsCoarseFormat h.scale g)
     (scale : f.scale ≡ h.scale + cut) where
@@ -295,7 +269,7 @@ module _ (overflow : Overflow) (f h g : Format) (mode : Round) (cut : ℕ) (coar
       (subst (At h) (is ∙ odd_of_zero (2 ^ cut) trailing (pow_pos cut) z) x)))
       (λ (some : trailing ≡ 0 → ⊥).
       let p : 0 < trailing = omega (arith, some) in
-      let q : 0 < short = subst (λ (n : ℕ). 0 < n) (sym is) (odd_of_some (2 ^ cut) trailing (pow_pos cut) some) in
+      let q : 0 < short = subst (λ (n : ℕ). 0 < n) (sym is) (odd_some trailing (2 ^ cut) (pow_pos cut) p) in
       let fits : trailing < 64 * 2 ^ cut = omega (arith, low) in
       let unit : trailing * 2 ^ 0 ≡ trailing = omega arith in
       let short_unit : short ≡ odd_quotient trailing (2 ^ cut) * 2 ^ 0 =
@@ -330,8 +304,7 @@ module _ (overflow : Overflow) (f h g : Format) (mode : Round) (cut : ℕ) (coar
       subst (λ (n : ℕ). IsDelivered g mode negative ((32 * 2 ^ cut + trailing) * 2 ^ place * 2 ^ g.scale) (2 ^ n) v s)
       (sym scale)
       (delivered_alike g mode negative cut (32 * 2 ^ cut + trailing) place h.scale v s coarse fits (inr full)
-      (subst (λ (n : ℕ). IsDelivered g mode negative (n * 2 ^ place * 2 ^ g.scale) (2 ^ h.scale) v s) whole d)))
-      x
+      (subst (λ (n : ℕ). IsDelivered g mode negative (n * 2 ^ place * 2 ^ g.scale) (2 ^ h.scale) v s) whole d))) x
 
   -- values with the same sign and exponent are converted alike
   pub fields_alike : (top : ℕ) (negative : Bool) (biased trailing short : ℕ) (value : Datum) (status : ℕ)
@@ -368,8 +341,8 @@ odd_high : (q r : ℕ) → odd_for_rest q r / 32 ≡ q / 32
 odd_high q r = by_rest (cases_eq r 0)
   where
     by_rest : (r ≡ 0) ⊎ (r ≡ 0 → ⊥) → odd_for_rest q r / 32 ≡ q / 32
-    by_rest (inl z) = ap (λ (n : ℕ). n / 32) (odd_for_none q r z)
-    by_rest (inr n) = let e = odd_for_some q r n in ap (λ (k : ℕ). k / 32) e ∙ same q
+    by_rest (inl z) = ap (λ (n : ℕ). n / 32) (exact_odd q r z)
+    by_rest (inr n) = let e = inexact_odd q r n in ap (λ (k : ℕ). k / 32) e ∙ same q
       where
         same : (a : ℕ) → (a + 1 - a % 2) / 32 ≡ a / 32
         same a = omega arith
@@ -378,17 +351,15 @@ odd_low : (q r : ℕ) → odd_for_rest q r % 32 ≡ odd_for_rest (q % 32) r
 odd_low q r = by_rest (cases_eq r 0)
   where
     by_rest : (r ≡ 0) ⊎ (r ≡ 0 → ⊥) → odd_for_rest q r % 32 ≡ odd_for_rest (q % 32) r
-    by_rest (inl z) = ap (λ (n : ℕ). n % 32) (odd_for_none q r z) ∙ sym (odd_for_none (q % 32) r z)
-    by_rest (inr n) =
-        ap (λ (k : ℕ). k % 32) (odd_for_some q r n) ∙ same q ∙ sym (odd_for_some (q % 32) r n)
+    by_rest (inl z) = ap (λ (n : ℕ). n % 32) (exact_odd q r z) ∙ sym (exact_odd (q % 32) r z)
+    by_rest (inr n) = ap (λ (k : ℕ). k % 32) (inexact_odd q r n) ∙ same q ∙ sym (inexact_odd (q % 32) r n)
       where
         same : (a : ℕ) → (a + 1 - a % 2) % 32 ≡ a % 32 + 1 - a % 32 % 2
         same a = omega arith
 
 -- the fields of the short value: those above the trailing digits are the same, and these are rounded to odd
 short_high : (x u : ℕ) → odd_quotient x u / 32 ≡ x / (32 * u)
-short_high x u =
-    odd_high (x / u) (x % u) ∙ div-div-eq-div-mul x u 32 ∙ ap (λ (n : ℕ). x / n) (mul_comm u 32)
+short_high x u = odd_high (x / u) (x % u) ∙ div-div-eq-div-mul x u 32 ∙ ap (λ (n : ℕ). x / n) (mul_comm u 32)
 
 short_trailing : (x u : ℕ) → 0 < u → odd_quotient x u % 32 ≡ odd_quotient (x % (32 * u)) u
 short_trailing x u unit =
@@ -407,8 +378,7 @@ short_trailing x u unit =
     ∙ ap (λ (n : ℕ). odd_for_rest (x % (32 * u) / u) n) r
 
 -- the sign is at the same place from the exponent up
-short_sign : (x exp_bits cut : ℕ)
-    → odd_quotient x (2 ^ cut) / 2 ^ (exp_bits + 5) ≡ x / 2 ^ (exp_bits + (5 + cut))
+short_sign : (x exp_bits cut : ℕ) → odd_quotient x (2 ^ cut) / 2 ^ (exp_bits + 5) ≡ x / 2 ^ (exp_bits + (5 + cut))
 short_sign x exp_bits cut =
     let short : 2 ^ (exp_bits + 5) ≡ 32 * 2 ^ exp_bits = pow-add 2 exp_bits 5 ∙ mul_comm (2 ^ exp_bits) 32 in
     let long : 2 ^ (exp_bits + (5 + cut)) ≡ 2 ^ (5 + cut) * 2 ^ exp_bits =
@@ -416,10 +386,8 @@ short_sign x exp_bits cut =
     let power : 2 ^ (5 + cut) ≡ 32 * 2 ^ cut = pow-add 2 5 cut in
     ap (λ (n : ℕ). odd_quotient x (2 ^ cut) / n) short
     ∙ sym (div-div-eq-div-mul (odd_quotient x (2 ^ cut)) 32 (2 ^ exp_bits))
-    ∙ ap (λ (n : ℕ). n / 2 ^ exp_bits) (short_high x (2 ^ cut))
-    ∙ ap (λ (n : ℕ). x / n / 2 ^ exp_bits) (sym power)
-    ∙ div-div-eq-div-mul x (2 ^ (5 + cut)) (2 ^ exp_bits)
-    ∙ ap (λ (n : ℕ). x / n) (sym long)
+    ∙ ap (λ (n : ℕ). n / 2 ^ exp_bits) (short_high x (2 ^ cut)) ∙ ap (λ (n : ℕ). x / n / 2 ^ exp_bits) (sym power)
+    ∙ div-div-eq-div-mul x (2 ^ (5 + cut)) (2 ^ exp_bits) ∙ ap (λ (n : ℕ). x / n) (sym long)
 
 -- constants with some of their parts, and the rest of others
 abbrev with_parts : Constants → ℕ → ℕ → ℕ → NonfiniteBehavior → Bool → Constants
@@ -455,8 +423,7 @@ like_is c exp_bits cut bits exponents precision nonfinite implied =
     ∙ ap (λ (b : Bool). with_parts c c.bits c.exp_bits c.precision c.nonfinite b) (sym implied)
 
 -- the datum that bits encode, by their fields
-datum_is : (c : Constants) (exp_bits cut x : ℕ) → like c exp_bits cut ≡ c
-    → datum_of (format_with c) (layout_with c) x
+datum_is : (c : Constants) (exp_bits cut x : ℕ) → like c exp_bits cut ≡ c → datum_of (format_with c) (layout_with c) x
     ≡ read (2 ^ exp_bits - 1) (2 ^ (5 + cut)) (eqb (x / 2 ^ (exp_bits + (5 + cut)) % 2) 1)
     (x / 2 ^ (5 + cut) % 2 ^ exp_bits) (x % 2 ^ (5 + cut))
 datum_is c exp_bits cut x is =
@@ -477,8 +444,7 @@ implied_bits c lawful wide implied =
     let all = some.bits in
     let e : c.bits ≡ c.exp_bits + c.precision + 0 =
     subst (λ (b : Bool). c.bits ≡ c.exp_bits + c.precision + (if b then 1 else 0)) implied all in
-    omega (arith, e))
-    lawful.layout
+    omega (arith, e)) lawful.layout
 
 -- the short value has at most as many bits as its format
 pub record AreLow (x unit bound : ℕ) : Type 0 where
@@ -503,18 +469,15 @@ pub short_within : (c z : Constants) (x precision : ℕ) → IsShortFor c z → 
 short_within c z x precision short lawful_c lawful_z wide_c wide_z few low is =
     let bits = implied_bits c lawful_c wide_c short.implied in
     let width = implied_bits z lawful_z wide_z short.short_implied in
-    let exponents = short.exp_bits in
-    let digits = short.digits in
-    let more = short.more in
     let k : precision - 6 ≡ c.precision - 6 = ap (λ (n : ℕ). n - 6) is in
     let short_power : c.precision - 6 ≤ 31 = omega (arith, few, wide_c) in
     let small : 2 ^ (c.precision - 6) ≤ 2 ^ 31 = pow-le-pow_right two_pos short_power in
     let fits : 1 * 2 ^ (c.precision - 6) < 4294967296 = omega (arith, small) in
     let unit : 1 * 2 ^ (precision - 6) % 4294967296 ≡ 2 ^ (c.precision - 6) =
     ap (λ (n : ℕ). 1 * 2 ^ n % 4294967296) k ∙ mod-eq_of_lt fits ∙ one-mul (2 ^ (c.precision - 6)) in
-    let all : c.bits ≡ z.exp_bits + (6 + (c.precision - 6)) = omega (arith, bits, exponents, more) in
+    let all : c.bits ≡ z.exp_bits + (6 + (c.precision - 6)) = omega (arith, bits, short.exp_bits, short.more) in
     let bound : 2 ^ (z.exp_bits + 6) ≡ 2 ^ z.bits =
-    ap (λ (n : ℕ). 2 ^ n) (let same : z.exp_bits + 6 ≡ z.bits = omega (arith, width, digits) in same) in
+    ap (λ (n : ℕ). 2 ^ n) (let same : z.exp_bits + 6 ≡ z.bits = omega (arith, width, short.digits) in same) in
     subst (λ (n : ℕ). AreLow x n (2 ^ z.bits)) (sym unit)
     (subst (λ (n : ℕ). AreLow x (2 ^ (c.precision - 6)) n) bound
     (quotient_low x z.exp_bits (c.precision - 6) (subst (λ (n : ℕ). x < 2 ^ n) all low)))
@@ -572,7 +535,6 @@ short_answers overflow c z d mode x answer short lawful_c lawful_z lawful_d wide
     let bits = implied_bits c lawful_c wide_c short.implied in
     let width = implied_bits z lawful_z wide_z short.short_implied in
     let digits = short.digits in
-    let least = short.least in
     let like_c : like c z.exp_bits (c.precision - 6) ≡ c =
     like_is c z.exp_bits (c.precision - 6) (omega (arith, bits, exponents, more)) short.exp_bits (omega (arith, more))
     short.nonfinite short.implied in
@@ -598,24 +560,21 @@ short_answers overflow c z d mode x answer short lawful_c lawful_z lawful_d wide
     (short_of c x / 32 % 2 ^ z.exp_bits) (short_of c x % 32)) =
     subst
     (λ (n : ℕ). At (format_with z) (read (2 ^ z.exp_bits - 1) 32 (eqb (n % 2) 1)
-    (short_of c x / 32 % 2 ^ z.exp_bits) (short_of c x % 32)))
-    (short_sign x z.exp_bits (c.precision - 6)) read_y in
+    (short_of c x / 32 % 2 ^ z.exp_bits) (short_of c x % 32))) (short_sign x z.exp_bits (c.precision - 6)) read_y in
     let placed : At (format_with z)
     (read (2 ^ z.exp_bits - 1) 32 (eqb (x / 2 ^ (z.exp_bits + (5 + (c.precision - 6))) % 2) 1)
     (x / (32 * 2 ^ (c.precision - 6)) % 2 ^ z.exp_bits) (short_of c x % 32)) =
     subst
     (λ (n : ℕ). At (format_with z)
     (read (2 ^ z.exp_bits - 1) 32 (eqb (x / 2 ^ (z.exp_bits + (5 + (c.precision - 6))) % 2) 1)
-    (n % 2 ^ z.exp_bits) (short_of c x % 32)))
-    (short_high x (2 ^ (c.precision - 6))) signed in
+    (n % 2 ^ z.exp_bits) (short_of c x % 32))) (short_high x (2 ^ (c.precision - 6))) signed in
     let below_exponent : 2 ^ (c.precision - 1) ≡ 32 * 2 ^ (c.precision - 6) =
     ap (λ (n : ℕ). 2 ^ n) (let same : c.precision - 1 ≡ 5 + (c.precision - 6) = omega (arith, more) in same) ∙ power in
     let number : (eqb (x / (32 * 2 ^ (c.precision - 6)) % 2 ^ z.exp_bits) (2 ^ z.exp_bits - 1)
     && not (eqb (x % (32 * 2 ^ (c.precision - 6))) 0)) ≡ false =
     subst
     (λ (n : ℕ). (eqb (x / (32 * 2 ^ (c.precision - 6)) % 2 ^ n) (2 ^ n - 1)
-    && not (eqb (x % (32 * 2 ^ (c.precision - 6))) 0)) ≡ false)
-    short.exp_bits
+    && not (eqb (x % (32 * 2 ^ (c.precision - 6))) 0)) ≡ false) short.exp_bits
     (subst
     (λ (n : ℕ). (eqb (x / n % 2 ^ c.exp_bits) (2 ^ c.exp_bits - 1) && not (eqb (x % n) 0)) ≡ false)
     below_exponent is_number) in
@@ -626,11 +585,10 @@ short_answers overflow c z d mode x answer short lawful_c lawful_z lawful_d wide
     let scale_c = scale_is c lawful_c.parameters in
     let scale_z = scale_is z lawful_z.parameters in
     let scale : (format_with c).scale ≡ (format_with z).scale + (c.precision - 6) =
-    omega (arith, ints, scale_c, scale_z, digits, more, least) in
+    omega (arith, ints, scale_c, scale_z, digits, more, short.least) in
     let scale_d = scale_is d lawful_d.parameters in
-    let apart = coarse.quantum in
     let quantum : (format_with d).scale + 3 ≤ (format_with z).scale =
-    omega (arith, ints, scale_d, scale_z, digits, apart, lawful_d.parameters.precision_low) in
+    omega (arith, ints, scale_d, scale_z, digits, coarse.quantum, lawful_d.parameters.precision_low) in
     let room : IsCoarseFormat (format_with z).scale (format_with d) =
     record { low = lawful_d.parameters.precision_low; high = coarse.precision; quantum = quantum } in
     record {

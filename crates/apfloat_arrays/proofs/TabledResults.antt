@@ -22,8 +22,7 @@ use Rattle.apfloat_arrays.proofs.TalliedResults.{are_entries, looked_up as outco
 pub table_more : {O : Type 0} (Holds : ℕ → List ℕ → O → Type 0) (width index count : ℕ) (bytes new : List ℕ)
     (outcomes : List O) (outcome : O) → index < count → length outcomes ≡ count → length bytes ≡ count * width
     → length new ≡ width → Holds index new outcome → AreInPlaces Holds width index bytes (take index outcomes)
-    → AreInPlaces Holds width (index + 1)
-    (put_mid (index * width) (index * width + width - index * width) bytes new)
+    → AreInPlaces Holds width (index + 1) (put_mid (index * width) (index * width + width - index * width) bytes new)
     (take (index + 1) (set outcomes index outcome))
 table_more {O} Holds width index count bytes new outcomes outcome before all size wide here so_far =
     let within : index < length outcomes = omega arith in
@@ -42,16 +41,14 @@ module _ (Gives : ℕ → ℕ → Outcome → Type 0) where
       let here : Gives place (number_of (value_at width place values)) outcome =
       subst (λ (o : Option Outcome). IfSome o (λ x. Gives place (number_of (value_at width place values)) x)) found
       (table.each place) in
-      let same : value_at width place values ≡ new =
-      ap (λ (n : ℕ). value_at n place values) (sym wide) ∙ sym copied in
+      let same : value_at width place values ≡ new = ap (λ (n : ℕ). value_at n place values) (sym wide) ∙ sym copied in
       subst (λ (n : ℕ). Gives n (number_of new) outcome) is
       (subst (λ (bytes : List ℕ). Gives place (number_of bytes) outcome) same here)
 
   -- the results fit in the bytes of a value of the target
   pub entries_of : (bits width size : ℕ) (table : List ℕ)
       → ((place result : ℕ) (outcome : Outcome) → Gives place result outcome → result < 2 ^ bits)
-      → length table ≡ size * 8 → bits ≤ 8 * width → IsResultTable Gives size table
-      → AreEntries width size table
+      → length table ≡ size * 8 → bits ≤ 8 * width → IsResultTable Gives size table → AreEntries width size table
   entries_of bits width size table few room wide is =
       are_entries Gives outcome_tally width size table room
       (λ place result outcome made. fits result bits width (few place result outcome made) wide) is
@@ -60,8 +57,7 @@ module _ (Gives : ℕ → ℕ → Outcome → Type 0) where
   pub block_looked_up : (source width size count : ℕ) (input output table : List ℕ) (tally : Tally)
       (counts : Counts) → IsResultTable Gives size table
       → AreLookedUp (λ k. number_of (value_at source k input)) size width count table output tally
-      → counts ≡ counts_with count tally
-      → IsBlock (IsConvertedIn Gives) source width count input output counts
+      → counts ≡ counts_with count tally → IsBlock (IsConvertedIn Gives) source width count input output counts
   block_looked_up source width size count input output table tally counts is it counts_are =
       let found = outcomes_looked_up Gives outcome_tally (λ k. number_of (value_at source k input)) size width count
       table output tally is it in

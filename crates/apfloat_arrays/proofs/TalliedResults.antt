@@ -24,8 +24,7 @@ lowest digit rest packed is few = omega (arith, is, few)
 others : (digit rest packed : ℕ) → packed ≡ digit + 32 * rest → digit ≤ 31 → packed / 32 ≡ rest
 others digit rest packed is few = omega (arith, is, few)
 
-digits_added : (a b c d e f p q r s t u : ℕ)
-    → a + 32 * (b + 32 * (c + 32 * (d + 32 * (e + 32 * f))))
+digits_added : (a b c d e f p q r s t u : ℕ) → a + 32 * (b + 32 * (c + 32 * (d + 32 * (e + 32 * f))))
     + (p + 32 * (q + 32 * (r + 32 * (s + 32 * (t + 32 * u)))))
     ≡ a + p + 32 * (b + q + 32 * (c + r + 32 * (d + s + 32 * (e + t + 32 * (f + u)))))
 digits_added a b c d e f p q r s t u = omega arith
@@ -59,8 +58,7 @@ taken_out t most few it =
     same_tally (lowest t.inexact _ (all / 32 / 32 / 32 / 32) p4 (fits _ it.inexact))
     (lowest t.underflow _ (all / 32 / 32 / 32) p3 (fits _ it.underflow))
     (lowest t.overflow _ (all / 32 / 32) p2 (fits _ it.overflow))
-    (lowest t.div_by_zero _ (all / 32) p1 (fits _ it.div_by_zero))
-    (lowest t.invalid _ all refl (fits _ it.invalid)) p5
+    (lowest t.div_by_zero _ (all / 32) p1 (fits _ it.div_by_zero)) (lowest t.invalid _ all refl (fits _ it.invalid)) p5
 
 -- ---- sums
 
@@ -83,8 +81,7 @@ tally_most flags is_nan =
 pub most_sum : (first size : ℕ) (some others : Tally) → AreTalliesAtMost first some → AreTalliesAtMost size others
     → AreTalliesAtMost (first + size) (sum_of some others)
 most_sum first size some others p q =
-    let added : (a b : ℕ) → a ≤ first → b ≤ size → a + b ≤ first + size =
-    λ a b p q. omega (arith, p, q) in
+    let added : (a b : ℕ) → a ≤ first → b ≤ size → a + b ≤ first + size = λ a b p q. omega (arith, p, q) in
     record {
       inexact = added _ _ p.inexact q.inexact;
       underflow = added _ _ p.underflow q.underflow;
@@ -116,8 +113,7 @@ sum_assoc a b c =
 sum_none : (a : Tally) → sum_of a nothing ≡ a
 sum_none a =
     let none : (n : ℕ) → n + 0 ≡ n = λ n. omega arith in
-    same_tally (none a.inexact) (none a.underflow) (none a.overflow) (none a.div_by_zero) (none a.invalid)
-    (none a.nans)
+    same_tally (none a.inexact) (none a.underflow) (none a.overflow) (none a.div_by_zero) (none a.invalid) (none a.nans)
 
 -- ---- totals
 
@@ -185,17 +181,14 @@ total_more marks first index tally packed mark so_far =
     }
 
 -- the digits of the number are the tally
-digits_are : (marks : ℕ → ℕ) (first index size : ℕ) (tally : Tally) (packed : ℕ) → index ≡ first + size
-    → size ≤ 31
+digits_are : (marks : ℕ → ℕ) (first index size : ℕ) (tally : Tally) (packed : ℕ) → index ≡ first + size → size ≤ 31
     → (it : IsTallyTotal marks first index tally packed) → (it.done ≡ size) × (unpacked packed ≡ it.few)
 digits_are marks first index size tally packed last few it =
-    let is = it.index_is in
-    let all : it.done ≡ size = omega (arith, is, last) in
+    let all : it.done ≡ size = omega (arith, it.index_is, last) in
     let most : it.done ≤ 31 = omega (arith, all, few) in
     (all, ap unpacked it.packed_is ∙ taken_out it.few it.done most it.most)
 
-pub total_done : (marks : ℕ → ℕ) (first index size : ℕ) (tally : Tally) (packed : ℕ)
-    → index ≡ first + size
+pub total_done : (marks : ℕ → ℕ) (first index size : ℕ) (tally : Tally) (packed : ℕ) → index ≡ first + size
     → size ≤ 31 → AreTalliesAtMost first tally → IsTallyTotal marks first index tally packed
     → (sum_of tally (unpacked packed) ≡ total marks (first + size))
     × AreTalliesAtMost (first + size) (sum_of tally (unpacked packed))
@@ -209,15 +202,13 @@ total_done marks first index size tally packed last few before it =
 
 -- ---- entries
 
-quotient_is : (result mark entry power : ℕ) → entry ≡ result + power * mark → result < power
-    → entry / power ≡ mark
+quotient_is : (result mark entry power : ℕ) → entry ≡ result + power * mark → result < power → entry / power ≡ mark
 quotient_is result mark entry power is fits =
     let turned : power * mark ≡ mark * power = mul_comm power mark in
     let parts : entry ≡ mark * power + result = omega (arith, is, turned) in
     ap (λ (n : ℕ). n / power) parts ∙ div-mul-add mark power result fits
 
-rest_is : (result mark entry power : ℕ) → entry ≡ result + power * mark → result < power
-    → entry % power ≡ result
+rest_is : (result mark entry power : ℕ) → entry ≡ result + power * mark → result < power → entry % power ≡ result
 rest_is result mark entry power is fits =
     let turned : power * mark ≡ mark * power = mul_comm power mark in
     let parts : entry ≡ mark * power + result = omega (arith, is, turned) in
@@ -241,8 +232,7 @@ result_fits width entry it =
 
 pub each_more : (value : ℕ → ℕ) (width index count : ℕ) (output new : List ℕ) → index < count
     → length output ≡ count * width → length new ≡ width → number_of new ≡ value index
-    → ((k : ℕ) → k < index → number_of (value_at width k output) ≡ value k)
-    → (k : ℕ) → k < index + 1
+    → ((k : ℕ) → k < index → number_of (value_at width k output) ≡ value k) → (k : ℕ) → k < index + 1
     → number_of (value_at width k (put_mid (index * width) (index * width + width - index * width) output new))
     ≡ value k
 each_more value width index count output new before size wide here so_far k within =
@@ -257,16 +247,14 @@ each_more value width index count output new before size wide here so_far k with
     (cases_eq k index)
 
 -- what holds of the values up to an index holds of one more
-below_more : {P : ℕ → Type 0} (index : ℕ) → P index → ((k : ℕ) → k < index → P k)
-    → (k : ℕ) → k < index + 1 → P k
+below_more : {P : ℕ → Type 0} (index : ℕ) → P index → ((k : ℕ) → k < index → P k) → (k : ℕ) → k < index + 1 → P k
 below_more {P} index here so_far k within =
     ⊎_elim {C = P k} (λ (same : k ≡ index). subst P (sym same) here)
     (λ (other : k ≡ index → ⊥). so_far k (omega (arith, other, within))) (cases_eq k index)
 
 -- what was looked up, the tally of the values since `first` packed in a number
 pub record AreLookedUpSince (place : ℕ → ℕ) (size width first index : ℕ) (table output : List ℕ)
-    (tally : Tally)
-    (packed : ℕ) : Type 0 where
+    (tally : Tally) (packed : ℕ) : Type 0 where
   pub within : (k : ℕ) → k < index → place k < size
   pub copied : (k : ℕ) → k < index → number_of (value_at width k output) ≡ entry_of table (place k) % 2 ^ 32
   pub counted : IsTallyTotal (λ k. entry_of table (place k) / 2 ^ 32) first index tally packed
@@ -285,8 +273,7 @@ module _ (place : ℕ → ℕ) (size width first : ℕ) (table : List ℕ) (tall
 
   pub since_more : (index count : ℕ) (output new : List ℕ) (at packed mark : ℕ) → index < count
       → length output ≡ count * width → length new ≡ width → at ≡ place index → at < size
-      → AreEntries width size table → number_of new ≡ entry_of table at % 2 ^ 32
-      → mark ≡ entry_of table at / 2 ^ 32
+      → AreEntries width size table → number_of new ≡ entry_of table at % 2 ^ 32 → mark ≡ entry_of table at / 2 ^ 32
       → AreLookedUpSince place size width first index table output tally packed
       → AreLookedUpSince place size width first (index + 1) table
       (put_mid (index * width) (index * width + width - index * width) output new) tally (packed + mark)
@@ -305,14 +292,12 @@ module _ (place : ℕ → ℕ) (size width first : ℕ) (table : List ℕ) (tall
 
   pub since_fits : (index few : ℕ) (output : List ℕ) (packed : ℕ) → index ≡ first + few → few ≤ 31
       → first + few < 2 ^ 64 → AreTalliesAtMost first tally
-      → AreLookedUpSince place size width first index table output tally packed
-      → Fits (sum_of tally (unpacked packed))
+      → AreLookedUpSince place size width first index table output tally packed → Fits (sum_of tally (unpacked packed))
   since_fits index few output packed last is_few room before it =
       sum_fits (first + few) (sum_of tally (unpacked packed)) room
       (total_done marks first index few tally packed last is_few before it.counted).1
 
-  pub since_done : (index few : ℕ) (output : List ℕ) (all : Tally) (packed : ℕ) → index ≡ first + few
-      → few ≤ 31
+  pub since_done : (index few : ℕ) (output : List ℕ) (all : Tally) (packed : ℕ) → index ≡ first + few → few ≤ 31
       → AreTalliesAtMost first tally → all ≡ sum_of tally (unpacked packed)
       → AreLookedUpSince place size width first index table output tally packed
       → AreLookedUp place size width (first + few) table output all

@@ -1,6 +1,5 @@
 -- Arrays that are converted between two formats.
-use Rattle.std.proofs.Common.{◌≡◌, ℕ, ◌-◌, ◌*◌, ◌^◌, ◌<◌, ◌≤◌, List, length, sym, ap}
-use Rattle.std.proofs.Common.{◌∙◌, subst}
+use Rattle.std.proofs.Common.{◌≡◌, ℕ, ◌-◌, ◌*◌, ◌^◌, ◌<◌, ◌≤◌, List, length, sym, ap, ◌∙◌, subst}
 use Rattle.std.specs.Prelude.{slice_range}
 use borrow.Rule.Slice.PartMut.{put_mid}
 use Rattle.rustc_apfloat.specs.Lawful.{Constants}
@@ -23,8 +22,7 @@ singles_width c d width other count input output same it =
 
 -- the singles after the first ones
 pub singles_after : (c d : Constants) (width target done count : ℕ) (input output made : List ℕ)
-    → target ≡ width → done ≤ count → length made ≡ length output
-    → AreSingles c d width count input output
+    → target ≡ width → done ≤ count → length made ≡ length output → AreSingles c d width count input output
     → AreSingles c d width (count - done) (slice_range input (done * 4) (count * 4))
     (slice_range made (done * target) (count * target))
 singles_after c d width target done count input output made same before kept it =

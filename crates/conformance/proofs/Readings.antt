@@ -16,8 +16,7 @@ use Rattle.conformance.specs.Statuses.{HasFlagsTogether}
 
 pub read_together : (format : Format) (mode : Round) (text : List ℕ) (result : Result (StatusAnd Datum) ParseError)
     → IsRead format mode text result → HasFlagsTogether result
-read_together format mode text (Ok answer) h =
-    reading_together format mode text answer.value (bits_of answer.status) h
+read_together format mode text (Ok answer) h = reading_together format mode text answer.value (bits_of answer.status) h
 read_together format mode text (Err error) h = tt
 
 pub pair_read_together : (mode : Round) (text : List ℕ) (result : Result (StatusAnd Pair) ParseError)

@@ -1,7 +1,6 @@
 -- The laws of exact sums.
 use Rattle.std.proofs.Common.{◌≡◌, ℕ, zero, suc, ◌*◌, ◌^◌, ◌<◌, eqb, Bool, true, false, not, ◌&&◌, ◌||◌}
-use Rattle.std.proofs.Common.{List, [], ◌∷◌, ◌++◌, Option, Some, None, if◌then◌else◌, refl, sym, ap}
-use Rattle.std.proofs.Common.{subst, ◌∙◌, inl}
+use Rattle.std.proofs.Common.{List, [], ◌∷◌, ◌++◌, Option, Some, None, if◌then◌else◌, refl, sym, ap, subst, ◌∙◌, inl}
 use Rattle.std.proofs.Common.{inr, arith}
 use Rattle.std.specs.Prelude.{◌⊎◌}
 use Rattle.std.proofs.lemmas.Bool.{false≢true}
@@ -102,8 +101,7 @@ two_swapped r s t = record {
       (omega arith) refl (or_swapped r.invalid s.invalid t.invalid)
       (or_swapped r.positive_infinity s.positive_infinity t.positive_infinity)
       (or_swapped r.negative_infinity s.negative_infinity t.negative_infinity)
-      (or_swapped r.positive s.positive t.positive) (or_swapped r.negative s.negative t.negative)
-      (omega (arith, ints));
+      (or_swapped r.positive s.positive t.positive) (or_swapped r.negative s.negative t.negative) (omega (arith, ints));
   nans = nan_swapped r.first_nan s.first_nan t.first_nan;
 }
 
@@ -215,8 +213,7 @@ single_product f mode (finite b m) (infinite c) value status h =
     zero_or_infinite f mode (eqb m 0) (product_sign b c) value status h
 single_product f mode (infinite b) (finite c n) value status h =
     zero_or_infinite f mode (eqb n 0) (product_sign b c) value status h
-single_product f mode (infinite b) (infinite c) value status h =
-    infinite_term f mode (product_sign b c) value status h
+single_product f mode (infinite b) (infinite c) value status h = infinite_term f mode (product_sign b c) value status h
 single_product f mode (finite b m) (finite c n) value status h =
     number_term f mode (product_sign b c) (m * n) value status h
 

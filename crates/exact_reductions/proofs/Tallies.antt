@@ -1,7 +1,6 @@
 -- Tallies: joining them, one term more, and the terms of each kind.
 use Rattle.std.proofs.Common.{◌≡◌, ℕ, ◌+◌, ◌*◌, ◌^◌, ◌<◌, ◌≤◌, eqb, Bool, true, false, not, ◌&&◌, ◌||◌, ℤ, pos, ◌+ℤ◌}
-use Rattle.std.proofs.Common.{List, ◌∷◌, length, get_or, drop, Option, Some, None, if◌then◌else◌, ⊎_elim}
-use Rattle.std.proofs.Common.{refl, sym}
+use Rattle.std.proofs.Common.{List, ◌∷◌, length, get_or, drop, Option, Some, None, if◌then◌else◌, ⊎_elim, refl, sym}
 use Rattle.std.proofs.Common.{ap, ◌∙◌, arith}
 use Rattle.std.proofs.Math.Bool.{or-false}
 use Rattle.std.proofs.lemmas.Bool.{cases_eq, ne_eqb, false≢true}
@@ -38,10 +37,8 @@ make terms first_nan wrong positive_infinity negative_infinity positive negative
       exact = exact;
     }
 
-made_same : (m n : ℕ) (x y : Option Datum) (a b c d e a' b' c' d' e' : Bool) (u v : ℤ) → m ≡ n → x ≡ y
-    → a ≡ a'
-    → b ≡ b' → c ≡ c' → d ≡ d' → e ≡ e' → u ≡ v
-    → make m x a b c d e u ≡ make n y a' b' c' d' e' v
+made_same : (m n : ℕ) (x y : Option Datum) (a b c d e a' b' c' d' e' : Bool) (u v : ℤ) → m ≡ n → x ≡ y → a ≡ a'
+    → b ≡ b' → c ≡ c' → d ≡ d' → e ≡ e' → u ≡ v → make m x a b c d e u ≡ make n y a' b' c' d' e' v
 made_same m n x y a b c d e a' b' c' d' e' u v f g h i j k l o = rw (f, g, h, i, j, k, l, o) refl
 
 -- tallies with the same fields are the same
@@ -77,8 +74,7 @@ joined_again r s t =
     (first_joined r.first_nan s.first_nan t.first_nan) (or_joined r.invalid s.invalid t.invalid)
     (or_joined r.positive_infinity s.positive_infinity t.positive_infinity)
     (or_joined r.negative_infinity s.negative_infinity t.negative_infinity)
-    (or_joined r.positive s.positive t.positive) (or_joined r.negative s.negative t.negative)
-    (omega (arith, ints))
+    (or_joined r.positive s.positive t.positive) (or_joined r.negative s.negative t.negative) (omega (arith, ints))
 
 -- a loop over terms: `done` has i terms more than `before`, and the others are left
 pub record IsUnderWay (before done all left : Tally) (i : ℕ) : Type 0 where
@@ -87,8 +83,7 @@ pub record IsUnderWay (before done all left : Tally) (i : ℕ) : Type 0 where
 
 -- a step of it
 pub one_done : (before done next all left rest term : Tally) (i : ℕ) → IsUnderWay before done all left i
-    → left ≡ joined term rest → next ≡ joined done term → term.terms ≡ 1
-    → IsUnderWay before next all rest (i + 1)
+    → left ≡ joined term rest → next ≡ joined done term → term.terms ≡ 1 → IsUnderWay before next all rest (i + 1)
 one_done before done next all left rest term i x here added one =
     let more = ap (λ (t : Tally). t.terms) added in
     let terms = x.terms in
@@ -101,8 +96,7 @@ one_done before done next all left rest term i x here added one =
 -- its end
 pub all_done : (before done all left : Tally) (i : ℕ) → IsUnderWay before done all left i → left ≡ no_terms
     → done ≡ joined before all
-all_done before done all left i x none =
-    sym (joined_none done) ∙ sym (ap (λ (t : Tally). joined done t) none) ∙ x.total
+all_done before done all left i x none = sym (joined_none done) ∙ sym (ap (λ (t : Tally). joined done t) none) ∙ x.total
 
 -- all terms, if there were none before
 pub from_none : (before after all : Tally) → before ≡ no_terms → after ≡ joined before all → after ≡ all
@@ -125,15 +119,13 @@ pub magnitudes_here : (f : Format) (xs : List Datum) (i : ℕ) (x : Datum) → i
 magnitudes_here f xs i x h e = ap (λ (l : List Datum). tally (magnitude_terms f l)) (here_is xs i x h e)
 
 pub products_here : (f : Format) (xs ys : List Datum) (i : ℕ) (x y : Datum) → i < length xs → i < length ys
-    → x ≡ get_or xs i x → y ≡ get_or ys i y
-    → tally (product_terms f (drop i xs) (drop i ys))
+    → x ≡ get_or xs i x → y ≡ get_or ys i y → tally (product_terms f (drop i xs) (drop i ys))
     ≡ joined (tally_of (product f x y)) (tally (product_terms f (drop (i + 1) xs) (drop (i + 1) ys)))
 products_here f xs ys i x y h k e d =
     ap (λ (l : List Datum). tally (product_terms f l (drop i ys))) (here_is xs i x h e)
     ∙ ap (λ (l : List Datum). tally (product_terms f (x ∷ drop (i + 1) xs) l)) (here_is ys i y k d)
 
-pub values_done : (f : Format) (xs : List Datum) (i : ℕ) → length xs ≤ i
-    → tally (value_terms f (drop i xs)) ≡ no_terms
+pub values_done : (f : Format) (xs : List Datum) (i : ℕ) → length xs ≤ i → tally (value_terms f (drop i xs)) ≡ no_terms
 values_done f xs i l = ap (λ (z : List Datum). tally (value_terms f z)) (drop_all i xs l)
 
 pub magnitudes_done : (f : Format) (xs : List Datum) (i : ℕ) → length xs ≤ i
@@ -152,8 +144,7 @@ finite_value f (finite b m) e = refl
 finite_value f (infinite b) e = absurd (false≢true e)
 finite_value f (nan b s) e = absurd (false≢true e)
 
-pub finite_product : (f : Format) (x y : Datum) → is_finite x ≡ true → is_finite y ≡ true
-    → tally_of (product f x y)
+pub finite_product : (f : Format) (x y : Datum) → is_finite x ≡ true → is_finite y ≡ true → tally_of (product f x y)
     ≡ number_tally (product_sign (is_negative x) (is_negative y)) (quanta_of x * quanta_of y)
 finite_product f (finite b m) (finite c n) e d = refl
 finite_product f (finite b m) (infinite c) e d = absurd (false≢true d)
@@ -167,8 +158,7 @@ value_one f (finite b m) = refl
 value_one f (infinite b) = refl
 value_one f (nan b s) = refl
 
-one_if : (f : Format) (test sign : Bool)
-    → (tally_of (if test then invalid f else exactly (infinite sign))).terms ≡ 1
+one_if : (f : Format) (test sign : Bool) → (tally_of (if test then invalid f else exactly (infinite sign))).terms ≡ 1
 one_if f true sign = refl
 one_if f false sign = refl
 
@@ -201,8 +191,7 @@ zero_or_infinite f mode true sign value status h = settled_special value status 
 zero_or_infinite f mode false sign value status h = settled_special value status _ _ _ h refl refl
 
 pub special_product : (f : Format) (mode : Round) (x y value : Datum) (status : ℕ)
-    → (is_finite x && is_finite y) ≡ false → IsProduct f mode x y value status
-    → IsSpecial value status (product f x y)
+    → (is_finite x && is_finite y) ≡ false → IsProduct f mode x y value status → IsSpecial value status (product f x y)
 special_product f mode (nan b s) y value status e h = settled_special value status _ _ _ h refl refl
 special_product f mode (finite b m) (nan c t) value status e h = settled_special value status _ _ _ h refl refl
 special_product f mode (infinite b) (nan c t) value status e h = settled_special value status _ _ _ h refl refl
@@ -223,15 +212,13 @@ not_infinite : (test : Bool) → (if test then Zero else Normal) ≡ Infinity �
 not_infinite true e = cc
 not_infinite false e = cc
 
-pub infinite_tally : (x : Datum) (flags : ℕ) → category_of x ≡ Infinity
-    → special_tally x flags
+pub infinite_tally : (x : Datum) (flags : ℕ) → category_of x ≡ Infinity → special_tally x flags
     ≡ record no_terms { terms = 1; positive_infinity = not (is_negative x); negative_infinity = is_negative x }
 infinite_tally (finite b n) flags e = absurd (not_infinite (eqb n 0) e)
 infinite_tally (infinite b) flags e = refl
 infinite_tally (nan b s) flags e = absurd cc
 
-pub nan_tally : (x : Datum) (flags : ℕ) → is_finite x ≡ false → (category_of x ≡ Infinity → ⊥)
-    → special_tally x flags
+pub nan_tally : (x : Datum) (flags : ℕ) → is_finite x ≡ false → (category_of x ≡ Infinity → ⊥) → special_tally x flags
     ≡ record no_terms { terms = 1; first_nan = Some x; invalid = not (eqb flags ok_bits) }
 nan_tally (finite b n) flags e d = absurd (false≢true (sym e))
 nan_tally (infinite b) flags e d = absurd (d refl)
@@ -267,8 +254,7 @@ amounts_joined sides others = omega (arith, ints)
 
 -- a finite value that is no nonzero number is a zero
 zero_quanta : (n : ℕ) → ((if eqb n 0 then Zero else Normal) ≡ Normal → ⊥) → n ≡ 0
-zero_quanta n h =
-    ⊎_elim (λ (e : n ≡ 0). e) (λ (e : n ≡ 0 → ⊥). absurd (h (rw (ne_eqb n 0 e) refl))) (cases_eq n 0)
+zero_quanta n h = ⊎_elim (λ (e : n ≡ 0). e) (λ (e : n ≡ 0 → ⊥). absurd (h (rw (ne_eqb n 0 e) refl))) (cases_eq n 0)
 
 pub finite_zero : (x : Datum) → is_finite x ≡ true → (category_of x ≡ Normal → ⊥) → quanta_of x ≡ 0
 finite_zero (finite b n) e h = zero_quanta n h

@@ -19,8 +19,7 @@ same_answer : (c : Constants) (Says : Datum → ℕ → Type 0) (first second : 
     → (first.bits ≡ second.bits) × (bits_of first.status ≡ bits_of second.status)
 same_answer c Says first second once law wide one other =
     let same = once one.value other.value (bits_of first.status) (bits_of second.status) one.says other.says in (
-      encoded_once (format_with c) (layout_with c) other.value first.bits second.bits
-          (lawful_interchange c law wide)
+      encoded_once (format_with c) (layout_with c) other.value first.bits second.bits (lawful_interchange c law wide)
           (subst (λ (v : Datum). IsEncodedBy (format_with c) (layout_with c) first.bits v) same.0 one.is_encoded)
           other.is_encoded,
       same.1,

@@ -126,12 +126,11 @@ pub converted_if_some : (c d : Constants) (mode : Round) (bits : ℕ) (x : Numbe
     → IfSome answer (IsEncodedConversion c d mode bits)
 converted_if_some c d mode bits x None is given = given
 converted_if_some c d mode bits x (Some encoded) is given =
-    let full = is.is_full.full in
     let whole : 0 < 2 ^ (c.precision - 1) = pow_pos (c.precision - 1) in
     record {
       negative = x.negative;
       quanta = quanta_of x;
       read = is.read;
-      some = mul-pos (omega (arith, full, whole)) (pow_pos x.place);
+      some = mul-pos (omega (arith, is.is_full.full, whole)) (pow_pos x.place);
       number = given;
     }

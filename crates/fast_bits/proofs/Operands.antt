@@ -62,8 +62,7 @@ product_stands m from n to moved scale =
     let left : 2 ^ (scale + moved) ≡ 2 ^ scale * 2 ^ moved = pow-add 2 scale moved in
     let right : 2 ^ (from + to) ≡ 2 ^ from * 2 ^ to = pow-add 2 from to in
     let first : m * 2 ^ from * (n * 2 ^ to) * 2 ^ (scale + moved)
-    ≡ m * 2 ^ from * (n * 2 ^ to) * (2 ^ scale * 2 ^ moved) =
-    ap (λ (x : ℕ). m * 2 ^ from * (n * 2 ^ to) * x) left in
+    ≡ m * 2 ^ from * (n * 2 ^ to) * (2 ^ scale * 2 ^ moved) = ap (λ (x : ℕ). m * 2 ^ from * (n * 2 ^ to) * x) left in
     let second : m * n * 2 ^ moved * (2 ^ scale * 2 ^ (from + to))
     ≡ m * n * 2 ^ moved * (2 ^ scale * (2 ^ from * 2 ^ to)) =
     ap (λ (x : ℕ). m * n * 2 ^ moved * (2 ^ scale * x)) right in
@@ -80,8 +79,7 @@ product_kept precision m from n to moved scale product place half some is fits f
     let long : precision < 2 * precision = omega (arith, some) in
     let rest_is : product % 2 ^ precision ≡ product % 2 ^ (2 * precision - precision) =
     ap (λ (x : ℕ). product % 2 ^ x) (sym digits) in
-    let half_there : half ≡ 2 ^ (2 * precision - precision - 1) =
-    half_is ∙ ap (λ (x : ℕ). 2 ^ (x - 1)) (sym digits) in
+    let half_there : half ≡ 2 ^ (2 * precision - precision - 1) = half_is ∙ ap (λ (x : ℕ). 2 ^ (x - 1)) (sym digits) in
     let split : IsSplitRest precision product (2 * precision) place (product % 2 ^ precision) half (from + to)
     (scale + moved) = record {
       some = some;
@@ -108,8 +106,7 @@ product_kept precision m from n to moved scale product place half some is fits f
     } in
     subst
     (λ (x : ℕ). IsKeptNumber precision (product / 2 ^ x) (product % 2 ^ precision) half place
-    (m * 2 ^ from * (n * 2 ^ to)) (2 ^ scale))
-    digits there
+    (m * 2 ^ from * (n * 2 ^ to)) (2 ^ scale)) digits there
 
 -- ---- products of significands
 
@@ -119,8 +116,7 @@ product_fits precision m n left right =
     let power : 2 ^ (2 * precision) ≡ 2 ^ precision * 2 ^ precision =
     ap (λ (x : ℕ). 2 ^ x) twice ∙ pow-add 2 precision precision in
     let low : m * n ≤ m * 2 ^ precision = mul-le-mul_left m (omega (arith, right)) in
-    let high : m * 2 ^ precision < 2 ^ precision * 2 ^ precision =
-    mul-lt-mul_of_pos_right left (pow_pos precision) in
+    let high : m * 2 ^ precision < 2 ^ precision * 2 ^ precision = mul-lt-mul_of_pos_right left (pow_pos precision) in
     omega (arith, power, low, high)
 
 -- the highest digits of a product with twice the digits
@@ -167,10 +163,8 @@ total_kept precision m digits top place last half up down amount parts some shor
     let there : IsKeptNumber precision (top / 2 ^ (64 - precision)) (top % 2 ^ (64 - precision)) half place amount
     parts =
     record {
-      full =
-          top_cut_full 64 precision m digits top place (top % 2 ^ (64 - precision)) half up down split;
-      fits =
-          top_cut_fits 64 precision m digits top place (top % 2 ^ (64 - precision)) half up down split;
+      full = top_cut_full 64 precision m digits top place (top % 2 ^ (64 - precision)) half up down split;
+      fits = top_cut_fits 64 precision m digits top place (top % 2 ^ (64 - precision)) half up down split;
       enclosed =
           top_cut_encloses 64 precision m digits top place (top % 2 ^ (64 - precision)) half up down amount parts split
           parts_some rounded;
@@ -214,6 +208,5 @@ answered_if_some c mode negative sign amount parts (Some encoded) same given = r
 -- a positive number of quanta
 pub quanta_some : (c : Constants) (x : Number) → IsFullNumber c x → 0 < quanta_of x
 quanta_some c x is =
-    let full = is.full in
     let whole : 0 < 2 ^ (c.precision - 1) = pow_pos (c.precision - 1) in
-    mul-pos (omega (arith, full, whole)) (pow_pos x.place)
+    mul-pos (omega (arith, is.full, whole)) (pow_pos x.place)

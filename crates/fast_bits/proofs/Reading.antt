@@ -44,8 +44,7 @@ number_read c bits implied some few =
     let x = fields_of (format_with c) (layout_with c) bits in
     cond-false c.explicit_integer_bit _ _ implied
     ∙ number_of_fields c.nonfinite (format_with c) (layout_with c) x.negative x.biased_exponent x.trailing
-    (ne_eqb x.biased_exponent 0 (λ e. omega arith))
-    (ne_eqb x.biased_exponent (all_ones c.exp_bits) (λ e. omega arith))
+    (ne_eqb x.biased_exponent 0 (λ e. omega arith)) (ne_eqb x.biased_exponent (all_ones c.exp_bits) (λ e. omega arith))
 
 pub trailing_low : (c : Constants) (bits : ℕ) → c.explicit_integer_bit ≡ false
     → (fields_of (format_with c) (layout_with c) bits).trailing < 2 ^ (c.precision - 1)
@@ -103,11 +102,7 @@ number_is c bits biased x implied biased_is some few near negative_is place_is s
     let place_there : x.place ≡ fields.biased_exponent - 1 = place_is ∙ ap (λ (n : ℕ). n - 1) biased_is in
     let read = number_read c bits implied some_there few_there in
     record {
-      is_full = record {
-        full = omega (arith, significand_is);
-        fits = fits;
-        near = omega (arith, place_is, near);
-      };
+      is_full = record { full = omega (arith, significand_is); fits = fits; near = omega (arith, place_is, near) };
       read = rw (negative_is, place_there, significand_is) read;
     }
 
@@ -117,8 +112,7 @@ number_is c bits biased x implied biased_is some few near negative_is place_is s
 pub word_field : (n word k j : ℕ) → k + j ≤ word → n % 2 ^ word / 2 ^ k % 2 ^ j ≡ n / 2 ^ k % 2 ^ j
 word_field n word k j room =
     let at : word ≡ word - (j + k) + j + k = omega (arith, room) in
-    ap (λ (x : ℕ). n % 2 ^ x / 2 ^ k % 2 ^ j) at
-    ∙ ap (λ (m : ℕ). m % 2 ^ j) (field_of n (word - (j + k) + j) k)
+    ap (λ (x : ℕ). n % 2 ^ x / 2 ^ k % 2 ^ j) at ∙ ap (λ (m : ℕ). m % 2 ^ j) (field_of n (word - (j + k) + j) k)
     ∙ mod-mod-pow (n / 2 ^ k) (word - (j + k)) j
 
 -- a word that has all bits of a value encodes it
@@ -128,12 +122,11 @@ word_read c bits word law room =
     let f = format_with c in
     let layout = layout_with c in
     let t = trailing_bits (format_with c) in
-    let sized = law.bits in
     let sign : bits % 2 ^ word / 2 ^ (c.bits - 1) % 2 ^ 1 ≡ bits / 2 ^ (c.bits - 1) % 2 ^ 1 =
-    word_field bits word (c.bits - 1) 1 (omega (arith, sized, room)) in
+    word_field bits word (c.bits - 1) 1 (omega (arith, law.bits, room)) in
     let biased : bits % 2 ^ word / 2 ^ t % 2 ^ c.exp_bits ≡ bits / 2 ^ t % 2 ^ c.exp_bits =
-    word_field bits word t c.exp_bits (omega (arith, sized, room)) in
-    let trailing : bits % 2 ^ word % 2 ^ t ≡ bits % 2 ^ t = lower_mod bits word t (omega (arith, sized, room)) in
+    word_field bits word t c.exp_bits (omega (arith, law.bits, room)) in
+    let trailing : bits % 2 ^ word % 2 ^ t ≡ bits % 2 ^ t = lower_mod bits word t (omega (arith, law.bits, room)) in
     ap (λ (n : ℕ). datum_of_fields f layout (fields_with (eqb n 1) (bits % 2 ^ word / 2 ^ t % 2 ^ c.exp_bits)
     (bits % 2 ^ word % 2 ^ t))) sign
     ∙ ap (λ (n : ℕ). datum_of_fields f layout (fields_with (eqb (bits / 2 ^ (c.bits - 1) % 2) 1) n

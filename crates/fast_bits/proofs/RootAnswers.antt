@@ -1,5 +1,5 @@
 -- Square roots of numbers that are counted in quanta.
-use Rattle.std.proofs.Common.{◌≡◌, ℕ, ◌+◌, ◌-◌, ◌*◌, ◌/◌, ◌%◌, ◌^◌, ◌<◌, ◌≤◌, Bool, Option, Some, None, false, sym, ap, ◌∙◌, subst, inr, ⊎_elim}
+use Rattle.std.proofs.Common.{◌≡◌, ℕ, ◌+◌, ◌-◌, ◌*◌, ◌/◌, ◌%◌, ◌^◌, ◌<◌, ◌≤◌, Option, Some, None, false, sym, ap, ◌∙◌, subst, inr, ⊎_elim}
 use Rattle.std.proofs.Common.{arith}
 use Rattle.std.specs.Prelude.{IfSome}
 use Rattle.std.proofs.Math.Nat.{mod-eq_of_lt, mul-le-mul_left, mul-le-mul_right, mul-lt-mul_of_pos_right, mul-pos, pow-le-pow_right}
@@ -9,7 +9,7 @@ use Rattle.apfloat_model.specs.arithmetic.Roots.{IsDeliveredRoot, IsRoot}
 use Rattle.apfloat_model.specs.declared.kinds.Round.{Round}
 use Rattle.apfloat_model.specs.declared.loss.Loss.{Loss}
 use Rattle.apfloat_model.specs.declared.loss.Loss.TheVariants.{ExactlyZero, LessThanHalf, ExactlyHalf, MoreThanHalf}
-use Rattle.apfloat_model.specs.formats.Datum.{Datum, finite}
+use Rattle.apfloat_model.specs.formats.Datum.{finite}
 use Rattle.apfloat_model.specs.formats.Lawful.{Constants, format_with}
 use Rattle.apfloat_model.specs.rounding.Enclosure.{IsEnclosed}
 use Rattle.apfloat_model.specs.rounding.Flags.{bits_of}
@@ -154,8 +154,7 @@ pub root_encoded : (c : Constants) (mode : Round) (m from zeros place whole : �
     → IsEnclosed c.precision (2 ^ (c.precision - 1)) whole place amount parts
     → StandsFor whole loss amount (2 ^ place * parts)
     → IsEncodedNumber c mode false amount parts answer)
-    → IsEncodedAnswer c
-    (IsDeliveredRoot (format_with c) mode (m * 2 ^ from * 2 ^ (format_with c).scale) 1) answer
+    → IsEncodedAnswer c (IsDeliveredRoot (format_with c) mode (m * 2 ^ from * 2 ^ (format_with c).scale) 1) answer
 root_encoded c mode m from zeros place whole loss answer some full fits balance is encoded =
     root_answered c mode (m * 2 ^ from * 2 ^ (format_with c).scale) (m * 2 ^ zeros) (2 ^ place) whole loss answer
     (pow_pos place) (radicand_is m from (format_with c).scale zeros place balance) is

@@ -1,8 +1,7 @@
 //! Significands of at most 24 digits, rounded in words: one is moved so that its last kept digit has a place of its
 //! own, and one sum below that digit rounds it.
 
-ghost use Rattle.std.specs.Prelude.{◌≡◌, ◌+◌, ◌-◌, ◌*◌, ◌/◌, ◌%◌, ◌^◌, ◌<◌};
-ghost use Rattle.std.specs.Prelude.{◌≤◌, min, true, false, eqb};
+ghost use Rattle.std.specs.Prelude.{◌≡◌, ◌+◌, ◌-◌, ◌*◌, ◌/◌, ◌%◌, ◌^◌, ◌<◌, ◌≤◌, min, true, false, eqb};
 ghost use Rattle.std.specs.Int.RustNames.{bit_and};
 ghost use Rattle.apfloat_model.specs.rounding.Rounding.{leads_out};
 ghost use Rattle.fast_bits.specs.Addends.{rounded_by};

@@ -33,8 +33,7 @@ in_units b c n m k some unit =
       not_above = omega arith;
       greatest = λ h. le_of_mul-le-mul_right h unit;
       cut = ap not (sym (eqb_self (n * k)));
-    })
-    (int_cmp (signed b n) (signed c m)) refl
+    }) (int_cmp (signed b n) (signed c m)) refl
 
 pub one_format : IsOrderOfOneFormat
 one_format f (nan b s) y = refl

@@ -1,27 +1,21 @@
 -- OVERFLOW and UNDERFLOW are raised only together with INEXACT.
-use Rattle.std.proofs.Common.{◌≡◌, ℕ, eqb, refl, sym, subst, arith}
-use Rattle.std.specs.Prelude.{bit_and, ℤ}
+use Rattle.std.proofs.Common.{◌≡◌, ℕ, eqb, refl, sym, subst}
+use Rattle.std.specs.Prelude.{ℤ}
 use Rattle.apfloat_model.specs.declared.kinds.Round.{Round}
 use Rattle.apfloat_model.specs.formats.Format.{Format}
 use Rattle.apfloat_model.specs.formats.Datum.{Datum, finite, infinite, nan}
 use Rattle.apfloat_model.specs.rounding.Answer.{IsAnswer}
 use Rattle.apfloat_model.specs.rounding.RaisedFlags.{FlagsGoTogether}
-use Rattle.apfloat_model.specs.arithmetic.Quotients.{div_by_zero_bit}
 use Rattle.apfloat_model.specs.whole_numbers.WholeNumbersOut.{to_signed, to_unsigned}
 use Rattle.apfloat_model.proofs.rounding.FlagsTogether.{ok_together, delivered_together, from_signed_together}
 use Rattle.apfloat_model.proofs.rounding.FlagsTogether.{to_signed_together, to_unsigned_together}
 use Rattle.apfloat_model.proofs.general.Choices.{match_case}
 use Rattle.apfloat_model.proofs.rounding.FlagsTogether.{invalid_if_together, answer_together}
+use Rattle.apfloat_model.proofs.rounding.StatusesTogether.{div_by_zero_together}
 use Rattle.apfloat_conversions.specs.Scalings.{IsScaled}
 use Rattle.ieee_operations.specs.RaisedFlags.{RaisesTogether, OperationFlagsGoTogether}
 use Rattle.ieee_operations.specs.Exponents.{IsLogB, IsLogBOfNumber}
 use Rattle.ieee_operations.specs.WholeNumbers.{IsRoundedToIntegral}
-
-div_by_zero_together : FlagsGoTogether div_by_zero_bit
-div_by_zero_together =
-    let o : bit_and 2 4 ≡ 0 = refl in
-    let u : bit_and 2 8 ≡ 0 = refl in
-    record { overflow = λ h. absurd (omega (arith, h, o)); underflow = λ h. absurd (omega (arith, h, u)) }
 
 -- a status that is a given one
 given_together : (flags status : ℕ) → FlagsGoTogether flags → status ≡ flags → FlagsGoTogether status

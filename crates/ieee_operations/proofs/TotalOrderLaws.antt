@@ -56,8 +56,7 @@ abbrev significands : Datum → Datum → Ordering
 significands = then_cmp (on high nat_cmp) (flip_args (on low nat_cmp))
 
 abbrev rank : Format → Datum → Datum → Ordering
-rank f =
-    then_cmp (on (region f) nat_cmp) (then_cmp (on number int_cmp) (then_cmp (on sign_key nat_cmp) significands))
+rank f = then_cmp (on (region f) nat_cmp) (then_cmp (on number int_cmp) (then_cmp (on sign_key nat_cmp) significands))
 
 -- each key is totally ordered, and so are all of them in turn
 rank_total : (f : Format) → IsTotalOrder (rank f)
@@ -114,8 +113,7 @@ nan_and_infinity false false true rest = (refl, refl)
 nan_and_infinity false false false rest = (refl, refl)
 
 -- two positive NaNs, by whether each is signaling and the order of the significands
-of_positive : (q p u : Bool) (r : Ordering) → u ≡ not (is_gt r)
-    → (if q then not p || u else not p && u)
+of_positive : (q p u : Bool) (r : Ordering) → u ≡ not (is_gt r) → (if q then not p || u else not p && u)
     ≡ not (is_gt (ordering_then (nat_cmp (nan_region false q) (nan_region false p)) (ordering_then r Equal)))
 of_positive true true u Less e = e
 of_positive true true u Equal e = e
@@ -127,8 +125,7 @@ of_positive false false u Equal e = e
 of_positive false false u Greater e = e
 
 -- two negative NaNs, with the right one first
-of_negative : (q p u : Bool) (r : Ordering) → u ≡ not (is_gt r)
-    → (if p then not q || u else not q && u)
+of_negative : (q p u : Bool) (r : Ordering) → u ≡ not (is_gt r) → (if p then not q || u else not q && u)
     ≡ not (is_gt (ordering_then (nat_cmp (nan_region true q) (nan_region true p)) r))
 of_negative true true u r e = e
 of_negative true false u r e = refl
@@ -258,8 +255,7 @@ keys_of f x y e =
 same_data : (f : Format) (x y : Datum) → AreKeysSame f x y → x ≡ y
 same_data f (nan b s) (nan c t) k =
     nans_alike b c s t
-    (sym (nan_side b (is_signaling f s)) ∙ ap (λ n. ltb n 3) k.regions ∙ nan_side c (is_signaling f t))
-    k.highs k.lows
+    (sym (nan_side b (is_signaling f s)) ∙ ap (λ n. ltb n 3) k.regions ∙ nan_side c (is_signaling f t)) k.highs k.lows
 same_data f (nan b s) (infinite c) k =
     absurd (false≢true (sym (nan_apart b (is_signaling f s)) ∙ ap is_middle k.regions ∙ infinity_within c))
 same_data f (nan b s) (finite c n) k =
@@ -268,8 +264,7 @@ same_data f (infinite b) (nan c t) k =
     absurd (false≢true (sym (nan_apart c (is_signaling f t)) ∙ ap is_middle (sym k.regions) ∙ infinity_within b))
 same_data f (infinite b) (infinite c) k =
     ap infinite (sym (infinity_side b) ∙ ap (λ n. ltb n 3) k.regions ∙ infinity_side c)
-same_data f (infinite b) (finite c n) k =
-    absurd (false≢true (sym (infinity_apart b) ∙ ap (λ n. eqb n 3) k.regions))
+same_data f (infinite b) (finite c n) k = absurd (false≢true (sym (infinity_apart b) ∙ ap (λ n. eqb n 3) k.regions))
 same_data f (finite b m) (nan c t) k =
     absurd (false≢true (sym (nan_apart c (is_signaling f t)) ∙ ap is_middle (sym k.regions)))
 same_data f (finite b m) (infinite c) k =
@@ -309,8 +304,7 @@ less_is (Some Equal) h = cc
 less_is (Some Greater) h = cc
 
 -- the order of two numbers, one of which is less
-below_numbers : (x y : Datum) → is_below x y ≡ true
-    → (numbers_in_order x y ≡ true) × (numbers_in_order y x ≡ false)
+below_numbers : (x y : Datum) → is_below x y ≡ true → (numbers_in_order x y ≡ true) × (numbers_in_order y x ≡ false)
 below_numbers x y h =
     let less : compared x y ≡ Some Less = less_is (compared x y) h in
     let greater : compared y x ≡ Some Greater =
@@ -319,8 +313,7 @@ below_numbers x y h =
       ap (λ o. is_some_and is_lt o || (is_some_and is_eq o && (is_negative y || not (is_negative x)))) greater,
     )
 
-below : (f : Format) (x y : Datum) → is_below x y ≡ true
-    → (total_order f x y ≡ true) × (total_order f y x ≡ false)
+below : (f : Format) (x y : Datum) → is_below x y ≡ true → (total_order f x y ≡ true) × (total_order f y x ≡ false)
 below f (nan b s) y h = cc
 below f (finite b m) (nan c t) h = cc
 below f (infinite b) (nan c t) h = cc

@@ -50,8 +50,7 @@ fewer amount parts q m is_cut t h =
 more : (amount parts q m : ℕ) (is_cut : Bool) → IsGreatest amount parts q m is_cut → m < q → m * parts < amount
 more amount parts q m is_cut t h =
     let k : m * parts < q * parts = mul-lt-mul_of_pos_right h t.some_parts in
-    let l = t.not_above in
-    omega (arith, k, l)
+    omega (arith, k, t.not_above)
 
 test_kept : (test : Bool) → false ≡ not test → test ≡ true
 test_kept true e = refl
@@ -81,8 +80,7 @@ stays_less : (order : Ordering) (is_cut negative : Bool) → order ≡ Less → 
 stays_less order true b e = rw e refl
 stays_less order false b e = e
 
-stays_greater : (order : Ordering) (is_cut negative : Bool) → order ≡ Greater
-    → settled order is_cut negative ≡ Greater
+stays_greater : (order : Ordering) (is_cut negative : Bool) → order ≡ Greater → settled order is_cut negative ≡ Greater
 stays_greater order true b e = rw e refl
 stays_greater order false b e = e
 
@@ -114,8 +112,7 @@ level_zero amount parts q m true t h = refl
 level_zero amount parts q m false t h =
     let k = all_kept (q * parts) amount t.cut in
     let l = ap (λ j. j * parts) h in
-    let s = t.some in
-    absurd (omega (arith, k, l, s))
+    absurd (omega (arith, k, l, t.some))
 
 -- the order of the truncated number and m quanta, settled, is that of the number
 pub settles : (b c : Bool) (amount parts q m : ℕ) (is_cut : Bool) → IsGreatest amount parts q m is_cut
@@ -140,18 +137,16 @@ settles true true amount parts q m is_cut t order e =
     stays_greater order is_cut true (e ∙ d)
     ∙ int_cmp_is (neg_ℤ (pos amount)) (neg_ℤ (pos (m * parts))) Greater (omega (arith, ints, l)))
 settles false true amount parts q m is_cut t order e =
-    let s = t.some in
     let answer : Greater ≡ int_cmp (pos amount) (neg_ℤ (pos (m * parts))) =
-    int_cmp_is (pos amount) (neg_ℤ (pos (m * parts))) Greater (omega (arith, ints, s)) in
+    int_cmp_is (pos amount) (neg_ℤ (pos (m * parts))) Greater (omega (arith, ints, t.some)) in
     by_ranked (pos q <ℤ neg_ℤ (pos m)) (pos q ≡ neg_ℤ (pos m)) (neg_ℤ (pos m) <ℤ pos q)
     (int_cmp (pos q) (neg_ℤ (pos m))) (int_ranks (pos q) (neg_ℤ (pos m)))
     (λ d h. absurd (omega (arith, ints, h)))
     (λ d h. rw (level_zero amount parts q m is_cut t (omega (arith, ints, h)), e ∙ d) answer)
     (λ d h. stays_greater order is_cut false (e ∙ d) ∙ answer)
 settles true false amount parts q m is_cut t order e =
-    let s = t.some in
     let answer : Less ≡ int_cmp (neg_ℤ (pos amount)) (pos (m * parts)) =
-    int_cmp_is (neg_ℤ (pos amount)) (pos (m * parts)) Less (omega (arith, ints, s)) in
+    int_cmp_is (neg_ℤ (pos amount)) (pos (m * parts)) Less (omega (arith, ints, t.some)) in
     by_ranked (neg_ℤ (pos q) <ℤ pos m) (neg_ℤ (pos q) ≡ pos m) (pos m <ℤ neg_ℤ (pos q))
     (int_cmp (neg_ℤ (pos q)) (pos m)) (int_ranks (neg_ℤ (pos q)) (pos m))
     (λ d h. stays_less order is_cut true (e ∙ d) ∙ answer)
@@ -191,8 +186,7 @@ truncated_past : (g : Format) (b : Bool) (amount parts p : ℕ) (value : Datum) 
     → IsTruncated g b amount parts value is_cut
 truncated_past g b amount parts p value status is_cut some below past v s c =
     let k : largest g * parts < p * parts = mul-lt-mul_of_pos_right past some in
-    let l = below.not_above in
-    let less : largest g * parts < amount = omega (arith, k, l) in
+    let less : largest g * parts < amount = omega (arith, k, below.not_above) in
     record {
       sign = b;
       quanta = largest g;
@@ -279,8 +273,7 @@ pub record IsTruncation (f g : Format) (x r : Datum) (is_cut : Bool) : Type 0 wh
 
 -- a nonzero number, converted toward zero
 truncated_number : (f g : Format) (b : Bool) (n : ℕ) (r : Datum) (status : ℕ) (is_cut : Bool)
-    → IsConvertedNumber f g TowardZero b n r status is_cut
-    → IsTruncated g b (n * 2 ^ g.scale) (2 ^ f.scale) r is_cut
+    → IsConvertedNumber f g TowardZero b n r status is_cut → IsTruncated g b (n * 2 ^ g.scale) (2 ^ f.scale) r is_cut
 truncated_number f g b n r status is_cut d =
     truncated g b (n * 2 ^ g.scale) (2 ^ f.scale) r status is_cut (pow_pos f.scale) d.is_delivered d.loses_is
 

@@ -8,7 +8,7 @@ use Rattle.apfloat_model.specs.formats.Nan.{invalid_if, is_signaling}
 use Rattle.apfloat_model.specs.arithmetic.Exact.{signed}
 use Rattle.apfloat_model.specs.rounding.Rounding.{ok_bits, inexact_bit}
 use Rattle.apfloat_model.specs.whole_numbers.WholeNumbers.{IsRoundToIntegral, inexact_unless, whole_pick, whole_quanta}
-use Rattle.apfloat_model.specs.whole_numbers.WholeNumbersOut.{Whole, whole_within, invalid_whole, exact_or_not}
+use Rattle.apfloat_model.specs.whole_numbers.WholeNumbersOut.{whole_within, invalid_whole, exact_or_not}
 use Rattle.ieee_operations.specs.StatusFlags.{lowered}
 use Rattle.ieee_operations.specs.WholeNumbers.{IsRoundedToIntegral, is_out_of_range}
 
@@ -35,8 +35,7 @@ integral_lowered f mode (infinite b) value status h =
 integral_lowered f mode (finite b n) value status h =
     record {
       value_is = h.value_is;
-      status_is = ap (λ (t : ℕ). lowered t inexact_bit) h.status_is
-          ∙ lowered_inexact (eqb (whole_quanta f mode b n) n);
+      status_is = ap (λ (t : ℕ). lowered t inexact_bit) h.status_is ∙ lowered_inexact (eqb (whole_quanta f mode b n) n);
     }
 
 ranged_lowered : (below past exact minus_zero : Bool) (low high number : ℤ)

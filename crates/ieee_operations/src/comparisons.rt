@@ -7,8 +7,7 @@ ghost use Rattle.apfloat_ieee.specs.FlaggedTypes.{format_of};
 ghost use Rattle.ieee_operations.specs.declared.predicates.OnNan.TheVariants.{Quiet, Signaling};
 ghost use Rattle.ieee_operations.specs.declared.predicates.Predicate.TheVariants.{Equal, NotEqual, Unordered};
 ghost use Rattle.ieee_operations.specs.declared.predicates.Predicate.TheVariants.{Ordered, Greater, GreaterEqual};
-ghost use Rattle.ieee_operations.specs.declared.predicates.Predicate.TheVariants.{NotGreater};
-ghost use Rattle.ieee_operations.specs.declared.predicates.Predicate.TheVariants.{Less, LessEqual, NotLess};
+ghost use Rattle.ieee_operations.specs.declared.predicates.Predicate.TheVariants.{NotGreater, Less, LessEqual, NotLess};
 ghost use Rattle.ieee_operations.specs.declared.predicates.Predicate.TheVariants.{LessUnordered, GreaterUnordered};
 ghost use Rattle.ieee_operations.specs.Comparisons.{IsComparison, is_invalid};
 

@@ -1,7 +1,6 @@
 -- Lengths that fit.
 use Rattle.std.proofs.Common.{◌≡◌, ℕ, ◌+◌, ◌*◌, ◌/◌, ◌%◌, ◌<◌, ◌≤◌, ◌==◌}
-use Rattle.std.proofs.Common.{◌&&◌, Bool, true, false, if◌then◌else◌, refl, sym, ap, ◌∙◌, arith, zero}
-use Rattle.std.proofs.Common.{suc}
+use Rattle.std.proofs.Common.{◌&&◌, Bool, true, false, if◌then◌else◌, refl, sym, ap, ◌∙◌, arith, zero, suc}
 use Rattle.std.specs.Prelude.{Result, Ok, Err}
 use Rattle.std.proofs.Math.Nat.{le-mul_of_pos_right, mod-add-div, mul-le-mul_right, mul_comm}
 use Rattle.std.proofs.lemmas.Bool.{and_parts, eqb-false, eqb-true}
@@ -81,8 +80,7 @@ by_tests block width values scales codes count false true true true e f g h said
     record {
       some = some_of block (eqb-false block 0 e);
       scales_are = known;
-      codes_are = as_many
-          ∙ whole (values / width) block (eqb-true (values / width % block) 0 g)
+      codes_are = as_many ∙ whole (values / width) block (eqb-true (values / width % block) 0 g)
           ∙ ap (λ (n : ℕ). n * block) (sym blocks ∙ known);
       values_are = whole values width (eqb-true (values % width) 0 f) ∙ ap (λ (n : ℕ). n * width) (sym as_many);
     }

@@ -1,6 +1,5 @@
 -- Blocks that are made one after another.
-use Rattle.std.proofs.Common.{◌≡◌, ℕ, ◌+◌, ◌-◌, ◌*◌, ◌<◌, refl, sym, ap}
-use Rattle.std.proofs.Common.{◌∙◌, arith, List, [], ◌∷◌, ◌++◌, length, take}
+use Rattle.std.proofs.Common.{◌≡◌, ℕ, ◌+◌, ◌-◌, ◌*◌, ◌<◌, refl, sym, ap, ◌∙◌, arith, List, [], ◌∷◌, ◌++◌, length, take}
 use Rattle.std.specs.Prelude.{map, slice_set}
 use Rattle.std.proofs.lemmas.List.{map-append, take_more_set}
 use borrow.Rule.Slice.PartMut.{put_mid}
@@ -42,8 +41,7 @@ total_push length before (first ∷ blocks) block =
 pub made_more : (q : Quantization) (values : List ℕ) (index count : ℕ) (scales codes new : List ℕ)
     (counts : Counts) (block : Block) → index < count → length scales ≡ count
     → length codes ≡ count * q.length → length new ≡ q.length → IsBlockOf q values index new block
-    → AreMade q values index scales codes counts
-    → AreMade q values (index + 1) (slice_set scales index block.scale)
+    → AreMade q values index scales codes counts → AreMade q values (index + 1) (slice_set scales index block.scale)
     (put_mid (index * q.length) (index * q.length + q.length - index * q.length) codes new)
     (sum_of counts (counts_with q.length block))
 made_more q values index count scales codes new counts block before many all size here so_far = record {

@@ -1,6 +1,5 @@
 -- Arrays in blocks have one answer.
-use Rattle.std.proofs.Common.{◌≡◌, ℕ, ◌*◌, List, length, take, refl, sym, ap, ◌∙◌}
-use Rattle.std.proofs.Common.{subst, arith}
+use Rattle.std.proofs.Common.{◌≡◌, ℕ, ◌*◌, List, length, take, refl, sym, ap, ◌∙◌, subst, arith}
 use Rattle.std.specs.Prelude.{map, Result, Ok, Err}
 use Rattle.std.proofs.lemmas.List.{take_all}
 use Rattle.rustc_apfloat.specs.declared.Round.{Round}
@@ -40,11 +39,8 @@ whole_once : (width count : ℕ) (before after other : List ℕ) → length befo
     → AreLeftIn before after → AreLeftIn before other
     → take (count * width) after ≡ take (count * width) other → after ≡ other
 whole_once width count before after other size a b same =
-    let one = a.size in
-    let two = b.size in
-    sym (take_all (count * width) after (omega (arith, one, size)))
-    ∙ same
-    ∙ take_all (count * width) other (omega (arith, two, size))
+    sym (take_all (count * width) after (omega (arith, a.size, size))) ∙ same
+    ∙ take_all (count * width) other (omega (arith, b.size, size))
 
 -- ---- into blocks
 
@@ -62,8 +58,7 @@ blocks_once : (q : Quantization) (values : List ℕ) (count : ℕ) (scales other
 blocks_once q values count scales other_scales old codes other counts more size a b x y =
     let same = places_once (IsBlockOf q values) q.length count codes other x.blocks y.blocks (blocks_fixed q values)
     a.are_bytes b.are_bytes (a.size ∙ sym b.size) x.places y.places in (
-      x.scales_are
-          ∙ ap (λ (blocks : List Block). map (λ (block : Block). block.scale) blocks) same.1
+      x.scales_are ∙ ap (λ (blocks : List Block). map (λ (block : Block). block.scale) blocks) same.1
           ∙ sym y.scales_are,
       whole_once q.length count old codes other size a b same.0,
       x.counted ∙ ap (total_of q.length no_counts) same.1 ∙ sym y.counted,
@@ -78,13 +73,10 @@ quantized_by : (q : Quantization) (values before scales other_scales old codes o
 quantized_by q values before scales other_scales old codes other (Ok count) (Ok counts) (Ok more) fits a b x y =
     let same = blocks_once q values count scales other_scales old codes other counts more (fits count refl) a b x y in
     (same.0, same.1, ap (λ (k : Counts). Ok k) same.2)
-quantized_by q values before scales other_scales old codes other (Ok count) (Ok counts) (Err e) fits a b x y =
-    absurd y
+quantized_by q values before scales other_scales old codes other (Ok count) (Ok counts) (Err e) fits a b x y = absurd y
 quantized_by q values before scales other_scales old codes other (Ok count) (Err e) reply fits a b x y = absurd x
-quantized_by q values before scales other_scales old codes other (Err e) (Ok counts) reply fits a b x y =
-    absurd x
-quantized_by q values before scales other_scales old codes other (Err e) (Err f) (Ok more) fits a b x y =
-    absurd y
+quantized_by q values before scales other_scales old codes other (Err e) (Ok counts) reply fits a b x y = absurd x
+quantized_by q values before scales other_scales old codes other (Err e) (Err f) (Ok more) fits a b x y = absurd y
 quantized_by q values before scales other_scales old codes other (Err e) (Err f) (Err g) fits a b x y =
     (x.1 ∙ sym y.1, x.2 ∙ sym y.2, ap (λ (error : ArrayError). Err error) (x.0 ∙ sym y.0))
 
@@ -93,15 +85,13 @@ quantized_once q values before scales other_scales old codes other answer reply 
     quantized_by q values before scales other_scales old codes other
     (blocks_of q.length (width_in q) (length values) (length before) (length old)) answer reply
     (λ count said.
-    (fitting q.length (width_in q) (length values) (length before) (length old) count said).codes_are)
-    a b x y
+    (fitting q.length (width_in q) (length values) (length before) (length old) count said).codes_are) a b x y
 
 -- ---- out of blocks
 
 scaled_code_once : (element : ElementFormat) (d : Constants) (mode : Round) (scale code : ℕ) (bytes other : List ℕ)
     (outcome also : Outcome) → HasLaw d → IsScaledCode element d mode scale code bytes outcome
-    → IsScaledCode element d mode scale code other also
-    → (number_of bytes ≡ number_of other) × (outcome ≡ also)
+    → IsScaledCode element d mode scale code other also → (number_of bytes ≡ number_of other) × (outcome ≡ also)
 scaled_code_once element d mode scale code bytes other outcome also has x y =
     let same = scaled_once element (format_with d) mode scale code x.value y.value (bits_of outcome.status)
     (bits_of also.status) x.is_scaled y.is_scaled in
@@ -127,8 +117,7 @@ values_once q d width scales codes before after other counts more has size a b x
 dequantized_by : (q : Dequantization) (scales codes before after other : List ℕ) (known : Result ℕ ArrayError)
     (answer reply : Result Counts ArrayError)
     → ((count : ℕ) → known ≡ Ok count → length before ≡ length codes * width_out q)
-    → AreLeftIn before after → AreLeftIn before other
-    → IsDequantizedArray q known scales codes before after answer
+    → AreLeftIn before after → AreLeftIn before other → IsDequantizedArray q known scales codes before after answer
     → IsDequantizedArray q known scales codes before other reply → (after ≡ other) × (answer ≡ reply)
 dequantized_by q scales codes before after other (Ok count) (Ok counts) (Ok more) fits a b x y =
     let same = values_once q (flagged_constants q.target) (width_out q) scales codes before after other counts more
@@ -156,5 +145,4 @@ dequantized_once q scales codes before after other answer reply a b x y =
     dequantized_by q scales codes before after other
     (blocks_of q.length (width_out q) (length before) (length scales) (length codes)) answer reply
     (λ count said.
-    (fitting q.length (width_out q) (length before) (length scales) (length codes) count said).values_are)
-    a b x y
+    (fitting q.length (width_out q) (length before) (length scales) (length codes) count said).values_are) a b x y

@@ -1,6 +1,5 @@
 -- Elements that are multiplied one after another.
-use Rattle.std.proofs.Common.{◌≡◌, ℕ, ◌+◌, ◌-◌, ◌*◌, ◌^◌, ◌<◌, refl, ap, ◌∙◌, List}
-use Rattle.std.proofs.Common.{[], ◌∷◌, ◌++◌, length, arith}
+use Rattle.std.proofs.Common.{◌≡◌, ℕ, ◌+◌, ◌-◌, ◌*◌, ◌^◌, ◌<◌, refl, ap, ◌∙◌, List, Bool, [], ◌∷◌, ◌++◌, length, arith}
 use Rattle.std.proofs.lemmas.List.Sums.{count_by-le-length}
 use Rattle.std.specs.Prelude.{count_by}
 use borrow.Rule.Slice.PartMut.{put_mid}
@@ -35,8 +34,7 @@ scaled_none q d width scales codes values = record {
 pub scaled_more : (q : Dequantization) (d : Constants) (width : ℕ) (scales codes : List ℕ) (index count : ℕ)
     (values new : List ℕ) (counts : Counts) (outcome : Outcome) → index < count → length values ≡ count * width
     → length new ≡ width → IsScaledAt q d scales codes index new outcome
-    → AreScaled q d width scales codes index values counts
-    → AreScaled q d width scales codes (index + 1)
+    → AreScaled q d width scales codes index values counts → AreScaled q d width scales codes (index + 1)
     (put_mid (index * width) (index * width + width - index * width) values new) (with_outcome counts outcome)
 scaled_more q d width scales codes index count values new counts outcome before all size here so_far = record {
   outcomes = so_far.outcomes ++ outcome ∷ [];
@@ -50,23 +48,15 @@ pub room_for : (outcomes : List Outcome) (counts : Counts) → counts ≡ counts
     → length outcomes < 2 ^ 64 - 1 → HaveRoom counts
 room_for outcomes counts e l =
     let values : counts.values ≡ length outcomes = ap (λ (k : Counts). k.values) e in
-    let inexact : counts.inexact ≡ count_by (raised 16) outcomes = ap (λ (k : Counts). k.inexact) e in
-    let underflow : counts.underflow ≡ count_by (raised 8) outcomes = ap (λ (k : Counts). k.underflow) e in
-    let overflow : counts.overflow ≡ count_by (raised 4) outcomes = ap (λ (k : Counts). k.overflow) e in
-    let invalid : counts.invalid ≡ count_by (raised 1) outcomes = ap (λ (k : Counts). k.invalid) e in
-    let nans : counts.nans ≡ count_by became_nan outcomes = ap (λ (k : Counts). k.nans) e in
-    let few_inexact = count_by-le-length (raised 16) outcomes in
-    let few_underflow = count_by-le-length (raised 8) outcomes in
-    let few_overflow = count_by-le-length (raised 4) outcomes in
-    let few_invalid = count_by-le-length (raised 1) outcomes in
-    let few_nans = count_by-le-length became_nan outcomes in
+    let few : (test : Outcome → Bool) (n : ℕ) → n ≡ count_by test outcomes → n < 2 ^ 64 - 1 =
+    λ test n is. let most = count_by-le-length test outcomes in omega (arith, is, most, l) in
     record {
       values = omega (arith, values, l);
-      inexact = omega (arith, inexact, few_inexact, l);
-      underflow = omega (arith, underflow, few_underflow, l);
-      overflow = omega (arith, overflow, few_overflow, l);
-      invalid = omega (arith, invalid, few_invalid, l);
-      nans = omega (arith, nans, few_nans, l);
+      inexact = few (raised 16) counts.inexact (ap (λ (k : Counts). k.inexact) e);
+      underflow = few (raised 8) counts.underflow (ap (λ (k : Counts). k.underflow) e);
+      overflow = few (raised 4) counts.overflow (ap (λ (k : Counts). k.overflow) e);
+      invalid = few (raised 1) counts.invalid (ap (λ (k : Counts). k.invalid) e);
+      nans = few became_nan counts.nans (ap (λ (k : Counts). k.nans) e);
     }
 
 -- a rule of flags changes no width

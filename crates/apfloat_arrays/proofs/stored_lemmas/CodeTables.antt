@@ -46,8 +46,7 @@ like_byte UE4M3 place past within =
 
 loaded_like : (overflow : Overflow) (format : StoredFormat) (d : Constants) (mode : Round) (like place bits : ℕ)
     (outcome : Outcome) → datum_in format like ≡ datum_in format place
-    → IsLoaded overflow format d mode like bits outcome
-    → IsLoaded overflow format d mode place bits outcome
+    → IsLoaded overflow format d mode like bits outcome → IsLoaded overflow format d mode place bits outcome
 loaded_like overflow format d mode like place bits outcome same it =
     record {
       value = it.value;
@@ -55,8 +54,7 @@ loaded_like overflow format d mode like place bits outcome same it =
       is_conversion =
           subst
           (λ (x : Datum). IsConversionBy overflow (format_in format) (format_with d) mode x it.value
-          (bits_of outcome.status) it.loses)
-          same it.is_conversion;
+          (bits_of outcome.status) it.loses) same it.is_conversion;
       is_encoded = it.is_encoded;
       nan_is = it.nan_is;
     }
@@ -64,8 +62,7 @@ loaded_like overflow format d mode like place bits outcome same it =
 -- one more entry is copied to its place
 pub entry_copied : (overflow : Overflow) (format : StoredFormat) (d : Constants) (mode : Round) (codes place : ℕ)
     (table entry : List ℕ) → codes ≡ 2 ^ bits_in format → codes ≤ place → place < 256
-    → length table ≡ 256 * 8
-    → length entry ≡ 8 → entry ≡ value_at 8 (place - codes) table
+    → length table ≡ 256 * 8 → length entry ≡ 8 → entry ≡ value_at 8 (place - codes) table
     → AreCodeEntries overflow format d mode place table
     → AreCodeEntries overflow format d mode (place + 1) (put_mid (place * 8) (place * 8 + 8 - place * 8) table entry)
 entry_copied overflow format d mode codes place table entry codes_are past within long wide copied so_far =

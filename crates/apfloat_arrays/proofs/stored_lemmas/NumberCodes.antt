@@ -1,6 +1,5 @@
 -- Numbers that became codes, with any treatment of overflow.
-use Rattle.std.proofs.Common.{◌≡◌, ℕ, ◌+◌, ◌-◌, ◌*◌, ◌^◌, ◌<◌, ◌⊎◌, Bool, true, false}
-use Rattle.std.proofs.Common.{cond, not, eqb, refl, sym, ap}
+use Rattle.std.proofs.Common.{◌≡◌, ℕ, ◌+◌, ◌-◌, ◌*◌, ◌^◌, ◌<◌, ◌⊎◌, Bool, true, false, cond, not, eqb, refl, sym, ap}
 use Rattle.std.proofs.Common.{◌∙◌, subst, ⊎_elim}
 use Rattle.std.specs.Int.RustNames.{bit_and}
 use Rattle.std.proofs.lemmas.Bool.{eq-eqb}
@@ -41,8 +40,7 @@ module _ (format : StoredFormat) (s : StorageConstants) (f : Format) (mode : Rou
       sym (ap (λ (b : Bool). cond (not b) (largest_code format negative) code) (eq-eqb (bit_and status 4) 0 none)))
       (λ (top : code ≡ cond negative (2 ^ (s.bits - 1)) 0 + (2 ^ (s.bits - 1) - 1)).
       either_way (not (eqb (bit_and status 4) 0)) code (largest_code format negative)
-      (top ∙ sym (has.largest negative)))
-      past
+      (top ∙ sym (has.largest negative))) past
 
   saturated_code_is : IsSaturatedCode format f mode (finite negative n) code status
   saturated_code_is =

@@ -1,22 +1,18 @@
 -- Numbers that become codes: a significand that is moved up, cut and rounded.
-use Rattle.std.proofs.Common.{◌≡◌, ℕ, ◌+◌, ◌-◌, ◌*◌, ◌/◌, ◌%◌, ◌^◌, ◌<◌, ◌≤◌}
-use Rattle.std.proofs.Common.{◌⊎◌, min, Bool, true, false, cond, not}
+use Rattle.std.proofs.Common.{◌≡◌, ℕ, ◌+◌, ◌-◌, ◌*◌, ◌/◌, ◌%◌, ◌^◌, ◌<◌, ◌≤◌, ◌⊎◌, min, Bool, true, false, cond, not}
 use Rattle.std.proofs.Common.{eqb, leb, ltb, refl, sym, ap, ◌∙◌, subst, inl, inr, ⊎_elim, arith}
 use Rattle.std.specs.Bool.{MatchBool}
 use Rattle.std.specs.Int.RustNames.{bit_and}
 use Rattle.std.proofs.Math.Nat.{add-mul-mod_self_right, div-eq_of_lt, min-eq_left, min-eq_right, min-le_right}
 use Rattle.std.proofs.Math.Nat.{mod-eq_of_lt, mul-le-mul_right, mul-lt-mul_of_pos_right, pow-le-pow_right}
-use Rattle.std.proofs.lemmas.Bool.{cases_eq, cases_lt, cond-false, eq-eqb, eqb-true, le-leb, le-ltb, lt-leb, lt-ltb}
+use Rattle.std.proofs.lemmas.Bool.{cases_eq, cases_lt, cond-false, eq-eqb, eqb-true, le-leb, le-ltb, lt-leb, lt-ltb, eqb-false}
 use Rattle.std.proofs.lemmas.Bool.{ne_eqb}
 use Rattle.std.proofs.lemmas.Nat.{div-add-mod', mod_below, pow-add, pow_pos}
-use Rattle.apfloat_model.specs.bits.Layout.{Layout, all_ones, datum_of, datum_of_fields, implied_datum}
-use Rattle.apfloat_model.specs.bits.Layout.{implied_number, trailing_bits}
-use Rattle.apfloat_model.specs.declared.kinds.NonfiniteBehavior.{NonfiniteBehavior}
+use Rattle.apfloat_model.specs.bits.Layout.{datum_of, datum_of_fields, trailing_bits}
 use Rattle.apfloat_model.specs.declared.kinds.NonfiniteBehavior.TheVariants.{IEEE754}
 use Rattle.apfloat_model.specs.declared.kinds.Round.{Round}
-use Rattle.apfloat_model.specs.declared.loss.Loss.TheVariants.{ExactlyZero, LessThanHalf, ExactlyHalf, MoreThanHalf}
 use Rattle.apfloat_model.specs.formats.Datum.{finite}
-use Rattle.apfloat_model.specs.formats.Format.{Format, largest, smallest_normalized}
+use Rattle.apfloat_model.specs.formats.Format.{Format, largest}
 use Rattle.apfloat_model.specs.formats.Lawful.{Constants, format_with as constants_format, layout_with}
 use Rattle.apfloat_model.specs.rounding.Enclosure.{IsEnclosed, rounds_up}
 use Rattle.apfloat_model.specs.rounding.Rounding.{leads_out}
@@ -25,9 +21,10 @@ use Rattle.apfloat_model.proofs.bits.EncodedOnce.{fields_with}
 use Rattle.apfloat_model.proofs.general.Powers.{twice_half, two_pos}
 use Rattle.apfloat_model.proofs.rounding.KeptDigits.{enclosed_from, fits_cut, full_cut}
 use Rattle.apfloat_rounding.specs.Cuts.{loss_at}
-use Rattle.apfloat_rounding.proofs.CutRests.{loss_zero, rest_stands}
+use Rattle.apfloat_rounding.proofs.CutRests.{loss_zero, rest_stands, loss_some}
 use Rattle.fast_bits.specs.Addends.{rounded_by}
 use Rattle.fast_bits.proofs.lanes_lemmas.Cuts.{far_below, in_quanta}
+use Rattle.fast_bits.proofs.lanes_lemmas.Singles.{fields_number, zero_factor}
 use Rattle.small_formats.specs.Codes.{datum_of as number_of_code, largest_index, magnitude_of, point}
 use Rattle.small_formats.specs.Conversions.{IsGiven, IsInto, IsSaturated, IsStoredNumber}
 use Rattle.small_formats.specs.Picks.{IsPickedAt}
@@ -74,8 +71,7 @@ none_stands low w m amount unit none nothing =
 
 -- P digits of which p are kept, with 32 places of room
 module _ (p P low first e m to from : ℕ) (some : 0 < p) (more : p ≤ P) (few : p ≤ 16) (fits : m < 2 ^ P)
-    (full : (e ≡ 0) ⊎ (2 ^ (P - 1) ≤ m)) (scales : from ≡ to + (P - p) + first)
-    (low_is : low ≡ P - p + 32) where
+    (full : (e ≡ 0) ⊎ (2 ^ (P - 1) ≤ m)) (scales : from ≡ to + (P - p) + first) (low_is : low ≡ P - p + 32) where
   abbrev Stands : ℕ → ℕ → Type 0
   Stands w place =
       StandsFor (m * 2 ^ w / 2 ^ low) (loss_at (m * 2 ^ w % 2 ^ low) (2 ^ (low - 1))) (m * 2 ^ e * 2 ^ to)
@@ -88,8 +84,7 @@ module _ (p P low first e m to from : ℕ) (some : 0 < p) (more : p ≤ P) (few 
       let power : 2 ^ P ≤ 2 ^ (low - 1) = pow-le-pow_right two_pos digits in
       subst
       (λ (t : ℕ). StandsFor (t / 2 ^ low) (loss_at (t % 2 ^ low) (2 ^ (low - 1))) (m * 2 ^ e * 2 ^ to)
-      (2 ^ 0 * 2 ^ from))
-      same
+      (2 ^ 0 * 2 ^ from)) same
       (far_below m m low P e to from any fits any (omega (arith, fits, power)) (omega (arith, low_is))
       (omega (arith, scales, far, more, few)))
 
@@ -159,17 +154,6 @@ moved_sum : (up : Bool) (kept more : ℕ) → cond up (kept + 1) kept + more ≡
 moved_sum true kept more = omega arith
 moved_sum false kept more = refl
 
-some_loss : (less equal : Bool) → cond less LessThanHalf (cond equal ExactlyHalf MoreThanHalf) ≡ ExactlyZero → ⊥
-some_loss true equal e = cc
-some_loss false true e = cc
-some_loss false false e = cc
-
-inexact_loss : (rest half : ℕ) → eqb rest 0 ≡ false → loss_at rest half ≡ ExactlyZero → ⊥
-inexact_loss rest half other e =
-    some_loss (ltb rest half) (eqb rest half)
-    (sym (ap (λ (b : Bool). cond b ExactlyZero (cond (ltb rest half) LessThanHalf (cond (eqb rest half) ExactlyHalf
-    MoreThanHalf))) other) ∙ e)
-
 pub picked : (p low place t amount parts index : ℕ) (mode : Round) (negative : Bool) → 0 < p → 0 < parts
     → IsCutAt p low place t amount parts → index ≡ rounded_by low mode negative t + place * 2 ^ (p - 1)
     → IsPickedAt p mode negative amount parts index (eqb (t % 2 ^ low) 0)
@@ -181,7 +165,7 @@ picked p low place t amount parts index mode negative some any it is =
     picked_at p mode negative kept place amount parts index loss up (eqb rest 0) some any it.enclosed it.stands refl
     (is ∙ moved_sum up kept (place * 2 ^ (p - 1)))
     (λ e. loss_zero rest (2 ^ (low - 1)) (eqb-true rest 0 e))
-    (inexact_loss rest (2 ^ (low - 1)))
+    (λ e. let some = eqb-false rest 0 e in loss_some rest (2 ^ (low - 1)) (omega (arith, some)))
 
 -- ---- what is delivered
 
@@ -190,8 +174,7 @@ record HasParts (half magnitude code : ℕ) (negative : Bool) : Type 0 where
   sign : leb half code ≡ negative
   rest : code % half ≡ magnitude
 
-parts_of_code : (half magnitude code : ℕ) (negative : Bool) → magnitude < half
-    → code ≡ cond negative half 0 + magnitude
+parts_of_code : (half magnitude code : ℕ) (negative : Bool) → magnitude < half → code ≡ cond negative half 0 + magnitude
     → HasParts half magnitude code negative
 parts_of_code half magnitude code true l e =
     let swapped : code ≡ magnitude + 1 * half = omega (arith, e) in
@@ -222,20 +205,27 @@ pub record IsCodeOf (c : StorageConstants) (negative : Bool) (index code : ℕ) 
   pub is : code ≡ cond negative (2 ^ (c.bits - 1)) 0 + min index (2 ^ (c.bits - 1) - 1)
 
 -- the code has the bits of its format
-pub code_below : (c : StorageConstants) (negative : Bool) (index code : ℕ) → 1 ≤ c.bits
-    → IsCodeOf c negative index code
+pub code_below : (c : StorageConstants) (negative : Bool) (index code : ℕ) → 1 ≤ c.bits → IsCodeOf c negative index code
     → code < 2 ^ c.bits
 code_below c negative index code some is =
     let twice : 2 * 2 ^ (c.bits - 1) ≡ 2 ^ c.bits = twice_half c.bits some in
     let half : 0 < 2 ^ (c.bits - 1) = pow_pos (c.bits - 1) in
     let most : min index (2 ^ (c.bits - 1) - 1) ≤ 2 ^ (c.bits - 1) - 1 = min-le_right index (2 ^ (c.bits - 1) - 1) in
     let sign : cond negative (2 ^ (c.bits - 1)) 0 ≤ 2 ^ (c.bits - 1) = sign_most negative (2 ^ (c.bits - 1)) in
-    let code_is = is.is in
-    omega (arith, twice, half, most, sign, code_is)
+    omega (arith, twice, half, most, sign, is.is)
 
 pub record IsStatusOf (c : StorageConstants) (leads : Bool) (index : ℕ) (exact : Bool) (status : ℕ) : Type 0 where
   pub is : status ≡ cond (ltb (2 ^ (c.bits - 1) - 1) index) (cond leads 20 16)
       (cond exact 0 (cond (ltb index (2 ^ (c.precision - 1))) 24 16))
+
+-- the status of an index that is not past the largest one
+status_within : (c : StorageConstants) (leads exact : Bool) (index status : ℕ)
+    → IsStatusOf c leads index exact status → index ≤ largest_index c
+    → status ≡ cond exact 0 (cond (ltb index (2 ^ (c.precision - 1))) 24 16)
+status_within c leads exact index status flags within =
+    flags.is
+    ∙ ap (λ (b : Bool). cond b (cond leads 20 16) (cond exact 0 (cond (ltb index (2 ^ (c.precision - 1))) 24 16)))
+    (le-ltb (largest_index c) index within)
 
 pub number_saturated : (c : StorageConstants) (mode : Round) (negative leads exact : Bool)
     (amount parts index code status : ℕ) → IsLawfulStorage c
@@ -255,8 +245,7 @@ number_saturated c mode negative leads exact amount parts index code status law 
     let raised : status ≡ cond (leads_out mode negative) 20 16 =
     flags.is
     ∙ ap (λ (b : Bool). cond b (cond leads 20 16) (cond exact 0 (cond (ltb index (2 ^ (c.precision - 1))) 24 16)))
-    (lt-ltb (largest_index c) index past)
-    ∙ ap (λ (b : Bool). cond b 20 16) out in
+    (lt-ltb (largest_index c) index past) ∙ ap (λ (b : Bool). cond b 20 16) out in
     saturated c mode negative amount parts index code status exact at
     (past_delivered c mode negative amount parts index code status law past value raised))
     (λ (within : index ≤ largest_index c).
@@ -265,10 +254,7 @@ number_saturated c mode negative leads exact amount parts index code status law 
     is.is ∙ ap (λ (n : ℕ). cond negative (2 ^ (c.bits - 1)) 0 + n) least in
     let value : number_of_code c code ≡ finite negative (point c.precision index) =
     datum_is c index code negative (omega (arith, top, within)) whole in
-    let raised : status ≡ cond exact 0 (cond (ltb index (2 ^ (c.precision - 1))) 24 16) =
-    flags.is
-    ∙ ap (λ (b : Bool). cond b (cond leads 20 16) (cond exact 0 (cond (ltb index (2 ^ (c.precision - 1))) 24 16)))
-    (le-ltb (largest_index c) index within) in
+    let raised = status_within c leads exact index status flags within in
     saturated c mode negative amount parts index code status exact at
     (within_delivered c mode negative amount parts index code status exact law at.exact_is within value raised))
     (cases_lt (largest_index c) index)
@@ -288,24 +274,13 @@ overflow_only_past c negative leads exact index code status is flags =
     let most : min index (2 ^ (c.bits - 1) - 1) ≡ 2 ^ (c.bits - 1) - 1 = min-eq_right (omega (arith, past)) in
     inr (is.is ∙ ap (λ (n : ℕ). cond negative (2 ^ (c.bits - 1)) 0 + n) most))
     (λ (within : index ≤ largest_index c).
-    let raised : status ≡ cond exact 0 (cond (ltb index (2 ^ (c.precision - 1))) 24 16) =
-    flags.is
-    ∙ ap (λ (b : Bool). cond b (cond leads 20 16) (cond exact 0 (cond (ltb index (2 ^ (c.precision - 1))) 24 16)))
-    (le-ltb (largest_index c) index within) in
+    let raised = status_within c leads exact index status flags within in
     inl (ap (λ (n : ℕ). bit_and n 4) raised ∙ no_overflow exact (ltb index (2 ^ (c.precision - 1)))))
     (cases_lt (largest_index c) index)
 
 -- ---- zeros and other numbers
 
-zero_factor : (m unit : ℕ) → 0 < unit → m * unit ≡ 0 → m ≡ 0
-zero_factor m unit some none =
-    ⊎_elim {C = m ≡ 0} (λ (z : m < 1). omega (arith, z))
-    (λ (any : 1 ≤ m).
-    let more : 1 * unit ≤ m * unit = mul-le-mul_right unit any in absurd (omega (arith, more, some, none)))
-    (cases_lt m 1)
-
-zero_rounded : (low : ℕ) (mode : Round) (negative : Bool) (t : ℕ) → t ≡ 0
-    → rounded_by low mode negative t ≡ 0
+zero_rounded : (low : ℕ) (mode : Round) (negative : Bool) (t : ℕ) → t ≡ 0 → rounded_by low mode negative t ≡ 0
 zero_rounded low mode negative t none =
     let some : 0 < 2 ^ low = pow_pos low in
     let less : t < 2 ^ low = omega (arith, none, some) in
@@ -338,8 +313,7 @@ number_into c f mode negative leads P low first e m index code status law more f
     picked c.precision low (e - first) t amount (2 ^ f.scale) index mode negative some (pow_pos f.scale) cut is in
     let rounded = number_saturated c mode negative leads exact amount (2 ^ f.scale) index code status law at out code_is
     flags in
-    let Says : Bool → Type 0 = λ b. MatchBool b
-    (IsGiven c (finite negative 0) 0 false code status (not (eqb status 0)))
+    let Says : Bool → Type 0 = λ b. MatchBool b (IsGiven c (finite negative 0) 0 false code status (not (eqb status 0)))
     (IsStoredNumber c f mode negative (m * 2 ^ e) code status (not (eqb status 0))) in
     ⊎_elim {C = Says (eqb (m * 2 ^ e) 0)}
     (λ (none : m * 2 ^ e ≡ 0).
@@ -365,11 +339,8 @@ number_into c f mode negative leads P low first e m index code status law more f
     let remainder : t % 2 ^ low ≡ 0 = mod-eq_of_lt (let l : t < 2 ^ low = omega (arith, nothing, low_some) in l)
     ∙ nothing in
     let raised : status ≡ 0 =
-    flags.is
-    ∙ ap (λ (b : Bool). cond b (cond leads 20 16) (cond exact 0 (cond (ltb index (2 ^ (c.precision - 1))) 24 16)))
-    (le-ltb (2 ^ (c.bits - 1) - 1) index (omega (arith, first_index)))
-    ∙ ap (λ (b : Bool). cond b 0 (cond (ltb index (2 ^ (c.precision - 1))) 24 16))
-    (eq-eqb (t % 2 ^ low) 0 remainder) in
+    status_within c leads exact index status flags (omega (arith, first_index))
+    ∙ ap (λ (b : Bool). cond b 0 (cond (ltb index (2 ^ (c.precision - 1))) 24 16)) (eq-eqb (t % 2 ^ low) 0 remainder) in
     subst Says (sym (eq-eqb (m * 2 ^ e) 0 none))
     (record {
       value_is = value;
@@ -382,49 +353,18 @@ number_into c f mode negative leads P low first e m index code status law more f
 
 -- ---- from bits
 
--- the number that fields below the greatest exponent encode
-fields_number : (f : Format) (layout : Layout) (negative : Bool) (biased trailing : ℕ) → f.nonfinite ≡ IEEE754
-    → f.explicit_integer_bit ≡ false → eqb biased (all_ones layout.exponent_bits) ≡ false
-    → datum_of_fields f layout (fields_with negative biased trailing)
-    ≡ finite negative ((trailing + min biased 1 * 2 ^ (f.precision - 1)) * 2 ^ (biased - 1))
-fields_number f layout negative biased trailing kind implied few =
-    cond-false f.explicit_integer_bit _ _ implied
-    ∙ ap (λ (k : NonfiniteBehavior). implied_datum k f layout (fields_with negative biased trailing)) kind
-    ∙ rw few
-    (⊎_elim {C = implied_number f (fields_with negative biased trailing)
-    ≡ finite negative ((trailing + min biased 1 * 2 ^ (f.precision - 1)) * 2 ^ (biased - 1))}
-    (λ (none : biased ≡ 0).
-    let same : trailing ≡ (trailing + min biased 1 * 2 ^ (f.precision - 1)) * 2 ^ (biased - 1) =
-    rw none (let e : trailing ≡ (trailing + 0 * 2 ^ (f.precision - 1)) * 2 ^ 0 = omega arith in e) in
-    rw (eq-eqb biased 0 none) (ap (finite negative) same))
-    (λ (some : biased ≡ 0 → ⊥).
-    let least : 1 ≤ biased =
-    ⊎_elim {C = 1 ≤ biased} (λ (z : biased < 1). absurd (some (omega (arith, z)))) (λ (q : 1 ≤ biased). q)
-    (cases_lt biased 1) in
-    let one : min biased 1 ≡ 1 = min-eq_right least in
-    let times : min biased 1 * 2 ^ (f.precision - 1) ≡ 1 * 2 ^ (f.precision - 1) =
-    ap (λ (n : ℕ). n * 2 ^ (f.precision - 1)) one in
-    let significand : smallest_normalized f + trailing ≡ trailing + min biased 1 * 2 ^ (f.precision - 1) =
-    omega (arith, times) in
-    rw (ne_eqb biased 0 some) (ap (λ (n : ℕ). finite negative (n * 2 ^ (biased - 1))) significand))
-    (cases_eq biased 0))
-
 pub number_read : (c : Constants) (x : ℕ) → c.nonfinite ≡ IEEE754 → c.explicit_integer_bit ≡ false
-    → (biased_of c x ≡ 2 ^ c.exp_bits - 1 → ⊥)
-    → datum_of (constants_format c) (layout_with c) x
+    → (biased_of c x ≡ 2 ^ c.exp_bits - 1 → ⊥) → datum_of (constants_format c) (layout_with c) x
     ≡ finite (is_minus c x) (significand_of c x * 2 ^ (biased_of c x - 1))
 number_read c x kind implied some =
-    let width : trailing_bits (constants_format c) ≡ c.precision - 1 =
-    cond-false c.explicit_integer_bit _ _ implied in
+    let width : trailing_bits (constants_format c) ≡ c.precision - 1 = cond-false c.explicit_integer_bit _ _ implied in
     (λ i. datum_of_fields (constants_format c) (layout_with c)
     (fields_with (is_minus c x) (x / 2 ^ width i % 2 ^ c.exp_bits) (x % 2 ^ width i)))
-    ∙ fields_number (constants_format c) (layout_with c) (is_minus c x) (biased_of c x)
-    (x % 2 ^ (c.precision - 1)) kind
+    ∙ fields_number (constants_format c) (layout_with c) (is_minus c x) (biased_of c x) (x % 2 ^ (c.precision - 1)) kind
     implied (ne_eqb (biased_of c x) (2 ^ c.exp_bits - 1) some)
 
 -- only denormal numbers lack the integer bit
-pub normal_full : (c : Constants) (x : ℕ)
-    → (biased_of c x - 1 ≡ 0) ⊎ (2 ^ (c.precision - 1) ≤ significand_of c x)
+pub normal_full : (c : Constants) (x : ℕ) → (biased_of c x - 1 ≡ 0) ⊎ (2 ^ (c.precision - 1) ≤ significand_of c x)
 normal_full c x =
     ⊎_elim {C = (biased_of c x - 1 ≡ 0) ⊎ (2 ^ (c.precision - 1) ≤ significand_of c x)}
     (λ (z : biased_of c x < 1). inl (omega (arith, z)))

@@ -1,5 +1,5 @@
 -- The conversion of a value into a storage format or out of it is unique.
-use Rattle.std.proofs.Common.{◌≡◌, ℕ, ◌^◌, ◌<◌, Bool, true, false, List, sym, refl, ap, ◌∙◌, subst, lit≤}
+use Rattle.std.proofs.Common.{◌≡◌, ℕ, ◌^◌, ◌<◌, Bool, true, false, List, sym, refl, ap, ◌∙◌, subst}
 use Rattle.std.specs.Bool.{MatchBool}
 use Rattle.std.specs.Prelude.{⊤}
 use Rattle.rustc_apfloat.specs.declared.Round.{Round}
@@ -9,7 +9,6 @@ use Rattle.rustc_apfloat.specs.Flags.{bits_of}
 use Rattle.rustc_apfloat.specs.Format.{Format}
 use Rattle.rustc_apfloat.specs.Lawful.{Constants, IsLawful, format_with, layout_with}
 use Rattle.rustc_apfloat.specs.Layout.{datum_of, IsEncodedBy}
-use Rattle.apfloat_model.specs.bits.Interchange.{IsInterchange}
 use Rattle.apfloat_model.proofs.Once.{conversion_once}
 use Rattle.apfloat_model.proofs.bits.EncodedOnce.{encoded_once}
 use Rattle.apfloat_model.proofs.bits.Encodings.{lawful_interchange}
@@ -17,6 +16,7 @@ use Rattle.small_formats.specs.Float8E3M4.{e3m4_datum, e3m4_format, e3m4_layout}
 use Rattle.small_formats.specs.LawTest.{lawful_from_test}
 use Rattle.small_formats.proofs.OneAnswer.{into_once, unsigned_once}
 use Rattle.small_formats.proofs.ScaleModes.{scale_once}
+use Rattle.small_formats.proofs.NarrowCodes.{e3m4_encoded, e3m4_interchange}
 use Rattle.formats_at_run_time.specs.BuiltIns.{constants_in}
 use Rattle.formats_at_run_time.specs.FlaggedKinds.{flagged_constants}
 use Rattle.small_formats.specs.declared.saturation.FiniteNan.{FiniteNan}
@@ -36,19 +36,6 @@ use Rattle.apfloat_arrays.specs.stored.Formats.{format_in, keeps_infinity}
 use Rattle.apfloat_arrays.specs.stored.Stored.{IsFiniteCode, IsLargest, IsOwn, IsSaturatedCode, IsStoredBy, saturated_code}
 
 -- ---- the format's own conversion
-
-e3m4_interchange : IsInterchange e3m4_format e3m4_layout
-e3m4_interchange = record {
-  precise = lit≤ tt;
-  some = lit≤ tt;
-  bits = refl;
-  within = lit≤ tt;
-  span = refl;
-  explicit = tt;
-}
-
-e3m4_encoded : (code : ℕ) → code < 256 → IsEncodedBy e3m4_format e3m4_layout code (e3m4_datum code)
-e3m4_encoded code l = record { below = l; canonical = refl; is = refl }
 
 own_once : (format : StoredFormat) (f : Format) (mode : Round) (x : Datum) (code other status flags : ℕ)
     → code < 2 ^ bits_in format → other < 2 ^ bits_in format → IsOwn format f mode x code status
@@ -87,10 +74,8 @@ saturated_code_once : (format : StoredFormat) (f : Format) (mode : Round) (x : D
     → IsSaturatedCode format f mode x other flags → (code ≡ other) × (status ≡ flags)
 saturated_code_once format f mode x code other status flags h j =
     let same = own_once format f mode x h.own j.own status flags h.own_fits j.own_fits h.is_own j.is_own in (
-      h.code_is
-          ∙ ap (λ (n : ℕ). saturated_code format (is_negative x) n status) same.0
-          ∙ ap (λ (n : ℕ). saturated_code format (is_negative x) j.own n) same.1
-          ∙ sym j.code_is,
+      h.code_is ∙ ap (λ (n : ℕ). saturated_code format (is_negative x) n status) same.0
+          ∙ ap (λ (n : ℕ). saturated_code format (is_negative x) j.own n) same.1 ∙ sym j.code_is,
       same.1,
     )
 
@@ -144,8 +129,7 @@ stored_once overflow c format mode bits code other outcome also h j =
     let same = stored_by_once overflow format (format_with c) mode (datum_of (format_with c) (layout_with c) bits)
     code other (bits_of outcome.status) (bits_of also.status) h.fits j.fits h.is_stored j.is_stored in (
       same.0,
-      same_outcome outcome also same.1
-          (h.nan_is ∙ ap (λ (n : ℕ). is_nan (datum_in format n)) same.0 ∙ sym j.nan_is),
+      same_outcome outcome also same.1 (h.nan_is ∙ ap (λ (n : ℕ). is_nan (datum_in format n)) same.0 ∙ sym j.nan_is),
     )
 
 pub loaded_once : (overflow : Overflow) (format : StoredFormat) (d : Constants) (mode : Round) (code bits other : ℕ)
@@ -171,8 +155,7 @@ HasLaw (OutOf source target) =
 -- the conversion of a value determines the number in its bytes and the outcome
 pub converted_at_once : (overflow : Overflow) (mode : Round) (ends : Ends) (input bytes other : List ℕ)
     (outcome also : Outcome) → HasLaw ends → IsConvertedAt overflow mode ends input bytes outcome
-    → IsConvertedAt overflow mode ends input other also
-    → (number_of bytes ≡ number_of other) × (outcome ≡ also)
+    → IsConvertedAt overflow mode ends input other also → (number_of bytes ≡ number_of other) × (outcome ≡ also)
 converted_at_once overflow mode (Into source target) input bytes other outcome also law h j =
     stored_once overflow (constants_in source) target mode (number_of input) (number_of bytes) (number_of other)
     outcome also h j

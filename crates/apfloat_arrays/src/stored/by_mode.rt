@@ -10,8 +10,7 @@ ghost use Rattle.small_formats.specs.Types.{constants_of as storage_constants_of
 ghost use Rattle.apfloat_arrays.specs.stored.Formats.{bits_in};
 ghost use Rattle.apfloat_arrays.specs.Bytes.{number_of};
 ghost use Rattle.apfloat_arrays.specs.stored.ByMode.{AreStoredWith, HasDigits, HasRandomAt, HasRandoms, IsModeWith};
-ghost use Rattle.apfloat_arrays.specs.stored.ByMode.{IsOwnBy};
-ghost use Rattle.apfloat_arrays.specs.stored.ByMode.{IsStoredByMode, IsStoredWith, mode_width, random_of};
+ghost use Rattle.apfloat_arrays.specs.stored.ByMode.{IsOwnBy, IsStoredByMode, IsStoredWith, mode_width, random_of};
 
 use crate::specials::word_of;
 use crate::stored::formats::StoredFormat;

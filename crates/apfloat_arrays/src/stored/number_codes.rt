@@ -1,8 +1,7 @@
 //! Numbers of at most 24 digits as codes of a storage format without infinities and NaNs, from bits to bits: with the
 //! place of the number added, what is kept of its significand (`fast_bits::words`) is the code without its sign.
 
-ghost use Rattle.std.specs.Prelude.{◌≡◌, ◌⊎◌, ◌+◌, ◌-◌, ◌*◌, ◌/◌, ◌%◌, ◌^◌};
-ghost use Rattle.std.specs.Prelude.{◌<◌, ◌≤◌, min, pos, negsuc, ◌-ℤ◌, ◌≤ℤ◌};
+ghost use Rattle.std.specs.Prelude.{◌≡◌, ◌⊎◌, ◌+◌, ◌-◌, ◌*◌, ◌/◌, ◌%◌, ◌^◌, ◌<◌, ◌≤◌, min, pos, negsuc, ◌-ℤ◌, ◌≤ℤ◌};
 ghost use Rattle.std.specs.Prelude.{false, not, eqb, ltb, if◌then◌else◌, IsTrue};
 ghost use Rattle.std.specs.Int.RustNames.{bit_and};
 ghost use Rattle.apfloat_model.specs.declared.kinds.NonfiniteBehavior.TheVariants.{IEEE754};
@@ -11,8 +10,7 @@ ghost use Rattle.rustc_apfloat.specs.Layout.{datum_of};
 ghost use Rattle.rustc_apfloat.specs.Types.{constants_of, format_of, layout_of};
 ghost use Rattle.small_formats.specs.Conversions.{IsInto};
 ghost use Rattle.small_formats.specs.Types.{constants_of as storage_constants_of};
-ghost use Rattle.apfloat_arrays.specs.stored.NumberCodes.{IsWordSource, biased_of, is_minus};
-ghost use Rattle.apfloat_arrays.specs.stored.NumberCodes.{significand_of};
+ghost use Rattle.apfloat_arrays.specs.stored.NumberCodes.{IsWordSource, biased_of, is_minus, significand_of};
 
 use fast_bits::words::{WordPlan, round_word};
 use rustc_apfloat::ieee::{NonfiniteBehavior, Semantics};

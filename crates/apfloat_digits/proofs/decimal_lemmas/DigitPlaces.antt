@@ -1,7 +1,6 @@
 -- The number of digits of a value, from the places of its first and its last one.
 use Rattle.std.proofs.Common.{◌≡◌, ℕ, ◌+◌, ◌-◌, ◌*◌, ◌/◌, ◌%◌, ◌^◌, ◌<◌, ◌≤◌, Bool, true, eqb, sym}
-use Rattle.std.proofs.Common.{ap, ◌∙◌, subst, ⊎_elim}
-use Rattle.std.proofs.Common.{arith, zero, suc, ℤ}
+use Rattle.std.proofs.Common.{ap, ◌∙◌, subst, ⊎_elim, arith, zero, suc, ℤ}
 use Rattle.std.proofs.Math.Nat.{le_of_mul-le-mul_right, lt_of_mul-lt-mul_right, mul-le-mul_right}
 use Rattle.std.proofs.Math.Nat.{mul-lt-mul_of_pos_right, mul-pos, mul-mod_left, mul-div_cancel}
 use Rattle.std.proofs.lemmas.Bool.{cases_lt}
@@ -49,8 +48,7 @@ not_above q d uf df up' dp s t x e =
 pub digits_between : (q d uf df up' dp s t : ℕ) → HasPlaces q d uf df up' dp s → uf + dp ≡ t + up' + df
     → (10 ^ t ≤ d) × (d < 10 ^ (t + 1))
 digits_between q d uf df up' dp s t x e =
-    let l : 1 * 10 ^ uf * 2 ^ s * 10 ^ dp ≡ 1 * 10 ^ t * 10 ^ up' * 2 ^ s * 10 ^ df =
-    lowered 1 uf df up' dp t s e in
+    let l : 1 * 10 ^ uf * 2 ^ s * 10 ^ dp ≡ 1 * 10 ^ t * 10 ^ up' * 2 ^ s * 10 ^ df = lowered 1 uf df up' dp t s e in
     let n : q * 10 ^ dp * 10 ^ df ≡ d * 10 ^ up' * 2 ^ s * 10 ^ df = ap (λ (k : ℕ). k * 10 ^ df) x.number in
     let a : 1 * 10 ^ uf * 2 ^ s * 10 ^ dp ≤ q * 10 ^ df * 10 ^ dp = mul-le-mul_right (10 ^ dp) x.least in
     let b : q * 10 ^ df * 10 ^ dp < 10 * 10 ^ uf * 2 ^ s * 10 ^ dp = mul-lt-mul_of_pos_right x.less (ten_pos dp) in

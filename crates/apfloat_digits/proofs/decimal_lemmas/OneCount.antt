@@ -64,8 +64,6 @@ one_count f quanta count other x y =
 pub one_answer : (f : Format) (x : Datum) (answer other : Option ℕ) → GivesDigitCount f x answer
     → GivesDigitCount f x other → answer ≡ other
 one_answer f x None None h k = refl
-one_answer f x None (Some b) h k =
-    absurd (false≢true (sym h ∙ ap is_finite_non_zero_category k.0))
-one_answer f x (Some a) None h k =
-    absurd (false≢true (sym k ∙ ap is_finite_non_zero_category h.0))
+one_answer f x None (Some b) h k = absurd (false≢true (sym h ∙ ap is_finite_non_zero_category k.0))
+one_answer f x (Some a) None h k = absurd (false≢true (sym k ∙ ap is_finite_non_zero_category h.0))
 one_answer f x (Some a) (Some b) h k = ap Some (one_count f (quanta_of x) a b h.1 k.1)

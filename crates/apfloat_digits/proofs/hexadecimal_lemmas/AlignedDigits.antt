@@ -24,8 +24,7 @@ widened f q s digits exponent first some few fits full number is more =
     let p = f.precision in
     let last = last_place f 31 first in
     let long : q * 2 ^ down last ≡ s * 2 ^ (125 - p) * 2 ^ up last =
-    significand_lengthened q s (125 - p) (exponent +ℤ pos f.scale) last number
-    (omega (arith, ints, is, some, few)) in
+    significand_lengthened q s (125 - p) (exponent +ℤ pos f.scale) last number (omega (arith, ints, is, some, few)) in
     record {
       low = subst (λ (n : ℕ). 2 ^ 124 ≤ n) (sym more) (lengthened_full p s 125 (omega (arith, some)) few full);
       high = subst (λ (n : ℕ). n < 2 ^ 125) (sym more) (lengthened_fits p s 125 few fits);
@@ -59,9 +58,8 @@ shortening_goes_on fraction places digits some none x =
 pub shortening_fits : (fraction places digits : ℕ) → fraction < 2 ^ 124 → IsShortening fraction places digits
     → digits < 16 ^ places
 shortening_fits fraction places digits below x =
-    let few = x.few in
     let same = x.same in
-    let e : places + (31 - places) ≡ 31 = omega (arith, few) in
+    let e : places + (31 - places) ≡ 31 = omega (arith, x.few) in
     let all : 16 ^ places * 16 ^ (31 - places) ≡ 16 ^ 31 =
     sym (pow-add 16 places (31 - places)) ∙ ap (λ (n : ℕ). 16 ^ n) e in
     let top : 16 ^ 31 ≡ 2 ^ 124 = refl in

@@ -1,9 +1,7 @@
 -- Digits and exponents as characters: what they are read as, and how many there are.
 use Rattle.std.proofs.Common.{◌≡◌, ℕ, zero, suc, ◌+◌, ◌-◌, ◌*◌, ◌/◌, ◌%◌}
-use Rattle.std.proofs.Common.{◌^◌, ◌<◌, ◌≤◌, true, false, refl, sym, ap, ◌∙◌}
-use Rattle.std.proofs.Common.{⊎_elim, arith, add-one, List, [], ◌∷◌}
-use Rattle.std.proofs.Common.{◌++◌, length, length-append, append_assoc, eqb, leb}
-use Rattle.std.proofs.Common.{ℤ, pos, negsuc, neg_ℤ, ◌≤ℤ◌}
+use Rattle.std.proofs.Common.{◌^◌, ◌<◌, ◌≤◌, true, false, refl, sym, ap, ◌∙◌, ⊎_elim, arith, add-one, List, [], ◌∷◌}
+use Rattle.std.proofs.Common.{◌++◌, length, length-append, append_assoc, eqb, leb, ℤ, pos, negsuc, neg_ℤ, ◌≤ℤ◌}
 use Rattle.std.proofs.lemmas.Bool.{and_from, and_parts, cases_lt, leb-true, le-leb, lt-leb, le-ltb, lt-ltb, ne_eqb}
 use Rattle.std.proofs.lemmas.Int.{ints}
 use Rattle.std.proofs.lemmas.Nat.{pow-add}
@@ -127,11 +125,7 @@ exponent_written (pos m) low high =
     let few : m < 10 ^ 64 = omega (arith, ints, high) in
     let x = number_of_decimal m few in
     let mark = unmarked (decimal m) x.are_digits x.some in
-    record {
-      are_digits = rw mark.1 x.are_digits;
-      some = rw mark.1 x.some;
-      is = rw (mark.0, mark.1, x.number_is) refl;
-    }
+    record { are_digits = rw mark.1 x.are_digits; some = rw mark.1 x.some; is = rw (mark.0, mark.1, x.number_is) refl }
 exponent_written (negsuc m) low high =
     let few : suc m < 10 ^ 64 = omega (arith, ints, low) in
     let x = number_of_decimal (suc m) few in

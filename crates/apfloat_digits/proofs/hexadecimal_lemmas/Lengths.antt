@@ -1,6 +1,6 @@
 -- How long texts are.
 use Rattle.std.proofs.Common.{◌≡◌, ℕ, zero, suc, ◌+◌, ◌^◌, ◌<◌, ◌≤◌, Bool}
-use Rattle.std.proofs.Common.{true, false, cond, sym, subst, arith, lit≤, eqb, length, length-append}
+use Rattle.std.proofs.Common.{false, cond, sym, subst, arith, lit≤, eqb, length, length-append}
 use Rattle.std.proofs.Common.{◌++◌, ◌∷◌, List, [], codes, ℤ, pos, negsuc}
 use Rattle.std.proofs.lemmas.Bool.{ne_eqb}
 use Rattle.std.proofs.lemmas.Fmt.{length_signed_le}
@@ -9,17 +9,16 @@ use Rattle.std.specs.Fmt.{signed_decimal}
 use Rattle.apfloat_model.specs.rounding.Bounds.{IsWithin}
 use Rattle.apfloat_decimals.specs.Texts.{sign_text}
 use Rattle.apfloat_decimals.proofs.spelled.WrittenNumbers.{length_more}
+use Rattle.apfloat_decimals.proofs.spelled.Lines.{sign_length}
 use Rattle.apfloat_digits.specs.hexadecimal.HexTexts.{character, digits_text, dotted, magnitude_text, number_text}
 use Rattle.apfloat_digits.proofs.hexadecimal_lemmas.Characters.{digits_length}
 
 pub exponent_length : (e : ℤ) → IsWithin (2 ^ 23) e → length (signed_decimal e) ≤ 8
 exponent_length (pos n) w =
-    let high = w.high in
-    let few : n + 1 < 10 ^ 7 = omega (arith, ints, high) in
+    let few : n + 1 < 10 ^ 7 = omega (arith, ints, w.high) in
     length_signed_le 7 (pos n) few (omega (arith, few))
 exponent_length (negsuc n) w =
-    let low = w.low in
-    let few : n + 1 < 10 ^ 7 = omega (arith, ints, low) in
+    let few : n + 1 < 10 ^ 7 = omega (arith, ints, w.low) in
     length_signed_le 7 (negsuc n) few (omega (arith, few))
 
 pub dotted_length : (places fraction : ℕ) → length (dotted places fraction) ≤ places + 1
@@ -30,10 +29,6 @@ dotted_length (suc p) fraction =
     let both = length-append (codes ".") (digits_text (suc p) fraction) in
     subst (λ (b : Bool). length (cond b [] (codes "." ++ digits_text (suc p) fraction)) ≤ suc p + 1) (sym some)
     (omega (arith, digits, both))
-
-pub sign_length : (negative : Bool) → length (sign_text negative) ≤ 1
-sign_length true = lit≤ tt
-sign_length false = lit≤ tt
 
 pub number_length : (negative : Bool) (first places fraction : ℕ) (e : ℤ) → places ≤ 31 → IsWithin (2 ^ 23) e
     → length (number_text negative first places fraction e) ≤ 45

@@ -12,6 +12,7 @@ use Rattle.std.proofs.lemmas.Bool.{cases_Bool, cases_lt, cond_both, eqb-true, eq
 use Rattle.std.proofs.lemmas.Bool.{and_parts}
 use Rattle.std.proofs.lemmas.Nat.{and_comm, and_mask, div-add-mod', or_disjoint, pow_pos}
 use Rattle.std.proofs.lemmas.Nat.Bits.{and_pow}
+use Rattle.std.proofs.lemmas.List.{append-nil}
 use Rattle.apfloat_model.specs.bits.Layout.{Layout, Fields, trailing_bits, fields_of, has_all_ones, implied_number}
 use Rattle.apfloat_model.specs.bits.Layout.{implied_datum, written_number, written_datum, datum_of}
 use Rattle.apfloat_model.specs.declared.kinds.Category.{Category}
@@ -127,8 +128,7 @@ payload_of_none = record { none = λ e. refl; some = λ p. absurd (omega (arith,
 
 -- as many digits as a number of `count` binary digits has
 pub payload_of_some : (payload count : ℕ) (text : List ℕ) → 0 < payload → 2 ^ (count - 1) ≤ payload
-    → payload < 2 ^ count → text ≡ codes "0x" ++ digits_text ((count - 1) / 4 + 1) payload
-    → IsPayloadText payload text
+    → payload < 2 ^ count → text ≡ codes "0x" ++ digits_text ((count - 1) / 4 + 1) payload → IsPayloadText payload text
 payload_of_some payload count text some low high e =
     let places = (count - 1) / 4 in
     let below : 4 * places ≤ count - 1 = omega arith in
@@ -146,24 +146,17 @@ pub count_some : (payload count : ℕ) → 0 < payload → payload < 2 ^ count �
 count_some payload zero some l = absurd (omega (arith, some, l))
 count_some payload (suc n) some l = omega arith
 
-pub prefixed : (text digits : List ℕ)
-    → ((text ++ (48 ∷ [])) ++ (120 ∷ [])) ++ digits ≡ text ++ (codes "0x" ++ digits)
-prefixed text digits =
-    append_assoc (text ++ (48 ∷ [])) (120 ∷ []) digits ∙ append_assoc text (48 ∷ []) (120 ∷ digits)
-
-append_none : (xs : List ℕ) → xs ++ [] ≡ xs
-append_none [] = refl
-append_none (x ∷ xs) = ap (λ (t : List ℕ). x ∷ t) (append_none xs)
+pub prefixed : (text digits : List ℕ) → ((text ++ (48 ∷ [])) ++ (120 ∷ [])) ++ digits ≡ text ++ (codes "0x" ++ digits)
+prefixed text digits = append_assoc (text ++ (48 ∷ [])) (120 ∷ []) digits ∙ append_assoc text (48 ∷ []) (120 ∷ digits)
 
 -- a value without a payload
-pub full_of : (f : Format) (x : Datum) (text : List ℕ) → payload_of f x ≡ 0 → IsHexText f x text
-    → IsFullText f x text
+pub full_of : (f : Format) (x : Datum) (text : List ℕ) → payload_of f x ≡ 0 → IsHexText f x text → IsFullText f x text
 full_of f x text none is = record {
   front = text;
   rest = [];
   is_front = is;
   is_rest = subst (λ (n : ℕ). IsPayloadText n []) (sym none) payload_of_none;
-  text_is = sym (append_none text);
+  text_is = sym (append-nil text);
 }
 
 -- ---- one text
@@ -220,8 +213,7 @@ payload_back payload places below few =
     let none : 0 * 16 ^ (places + 1) + payload ≡ payload = omega arith in
     digits_read ds payload (omega (arith, size)) (digits_hexadecimal (places + 1) payload) (value ∙ none) few
 
-nan_special : (negative signaling : Bool) (ds : List ℕ)
-    → special_of (nan_text negative signaling ++ (codes "0x" ++ ds))
+nan_special : (negative signaling : Bool) (ds : List ℕ) → special_of (nan_text negative signaling ++ (codes "0x" ++ ds))
     ≡ with_payload negative signaling (payload_read (codes "0x" ++ ds))
 nan_special true true ds = refl
 nan_special true false ds = refl
@@ -229,8 +221,7 @@ nan_special false true ds = refl
 nan_special false false ds = refl
 
 pub nan_means_payload : (negative signaling : Bool) (payload places : ℕ) → payload < 16 ^ (places + 1)
-    → payload < 2 ^ 128
-    → Means (nan_text negative signaling ++ (codes "0x" ++ digits_text (places + 1) payload))
+    → payload < 2 ^ 128 → Means (nan_text negative signaling ++ (codes "0x" ++ digits_text (places + 1) payload))
     (not_a_number negative signaling payload)
 nan_means_payload negative signaling payload places below few =
     nan_special negative signaling (digits_text (places + 1) payload)
@@ -294,8 +285,7 @@ signaling_case (suc (suc d)) u s q l e n = absurd (omega (arith, l))
 cleared_is : (q k : ℕ) → q < 2 ^ k → (2 ^ k + q) - bit_and (2 ^ k + q) (2 ^ k) ≡ q
 cleared_is q k l =
     let one : (2 ^ k + q) / 2 ^ k ≡ 1 = div-eq_of_lt-le (2 ^ k) (omega arith) (omega (arith, l)) in
-    let set : bit_and (2 ^ k + q) (2 ^ k) ≡ 1 * 2 ^ k =
-    tested (2 ^ k + q) k ∙ ap (λ (n : ℕ). (n % 2) * 2 ^ k) one in
+    let set : bit_and (2 ^ k + q) (2 ^ k) ≡ 1 * 2 ^ k = tested (2 ^ k + q) k ∙ ap (λ (n : ℕ). (n % 2) * 2 ^ k) one in
     ap (λ (n : ℕ). (2 ^ k + q) - n) set ∙ rest (2 ^ k) q
   where
     rest : (u q : ℕ) → (u + q) - 1 * u ≡ q
@@ -368,10 +358,8 @@ read_is f s wide kind implied some l =
     let same : read_significand f.nonfinite f.explicit_integer_bit f.precision s
     (payload_in f.nonfinite f.precision s) ≡ s =
     ap (λ (n : NonfiniteBehavior). read_significand n f.explicit_integer_bit f.precision s
-    (payload_in n f.precision s)) kind
-    ∙ ap (λ (b : Bool). read_significand IEEE754 b f.precision s (s % 2 ^ k)) implied
-    ∙ ap (λ (n : ℕ). made s (2 ^ k) (2 ^ n - 1)) e
-    ∙ made_is s k some (subst (λ (n : ℕ). s < 2 ^ n) e l) in
+    (payload_in n f.precision s)) kind ∙ ap (λ (b : Bool). read_significand IEEE754 b f.precision s (s % 2 ^ k)) implied
+    ∙ ap (λ (n : ℕ). made s (2 ^ k) (2 ^ n - 1)) e ∙ made_is s k some (subst (λ (n : ℕ). s < 2 ^ n) e l) in
     same
 
 -- ---- each value is read back
@@ -380,7 +368,7 @@ without_payload : (f : Format) (x : Datum) (text : List ℕ) → payload_of f x 
     → IsHexText f x text
 without_payload f x text none t =
     let rest = t.is_rest.none none in
-    let same : text ≡ t.front = t.text_is ∙ ap (λ (r : List ℕ). t.front ++ r) rest ∙ append_none t.front in
+    let same : text ≡ t.front = t.text_is ∙ ap (λ (r : List ℕ). t.front ++ r) rest ∙ append-nil t.front in
     subst (λ (s : List ℕ). IsHexText f x s) (sym same) t.is_front
 
 nan_means_full : (negative signaling : Bool) (payload : ℕ) (front rest text : List ℕ) → payload < 2 ^ 128
@@ -399,7 +387,7 @@ nan_means_full negative signaling payload front rest text few is x e =
     let rest_is = x.none zero_is in
     let plain = nan_means negative signaling in
     let longer : nan_text negative signaling ++ rest ≡ nan_text negative signaling =
-    ap (λ (t : List ℕ). nan_text negative signaling ++ t) rest_is ∙ append_none (nan_text negative signaling) in
+    ap (λ (t : List ℕ). nan_text negative signaling ++ t) rest_is ∙ append-nil (nan_text negative signaling) in
     subst (λ (t : List ℕ). Means t (not_a_number negative signaling payload)) (sym longer)
     (subst (λ (n : ℕ). Means (nan_text negative signaling) (not_a_number negative signaling n)) (sym zero_is) plain))
     (cases_lt 0 payload))
@@ -412,7 +400,6 @@ full_text_of f mode (infinite b) text ranges kind implied member t =
     text_of f mode (infinite b) text ranges member (without_payload f (infinite b) text refl t)
 full_text_of f mode (nan b s) text ranges kind implied member t =
     let wide = ranges.precision_low in
-    let narrow = ranges.precision_high in
     let payload = payload_in f.nonfinite f.precision s in
     let parts : (0 < s) × (s < 2 ^ (f.precision - 1)) =
     subst (λ (e : Bool). IsNanSignificand IEEE754 e f.precision s) implied
@@ -421,7 +408,7 @@ full_text_of f mode (nan b s) text ranges kind implied member t =
     let payload_is : payload ≡ s % 2 ^ (f.precision - 2) =
     ap (λ (n : NonfiniteBehavior). payload_in n f.precision s) kind in
     let below : s % 2 ^ (f.precision - 2) < 2 ^ (f.precision - 2) = mod-lt s (pow_pos (f.precision - 2)) in
-    let short : f.precision - 2 ≤ 123 = omega (arith, narrow) in
+    let short : f.precision - 2 ≤ 123 = omega (arith, ranges.precision_high) in
     let most : 2 ^ (f.precision - 2) ≤ 2 ^ 123 = pow-le-pow_right two_pos short in
     let few : payload < 2 ^ 128 = omega (arith, payload_is, below, most) in
     record {

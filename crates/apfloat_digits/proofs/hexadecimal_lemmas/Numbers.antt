@@ -1,7 +1,6 @@
 -- Numbers of hexadecimal digits: where their first digit is, and that the shortest is the only one.
 use Rattle.std.proofs.Common.{◌≡◌, ◌⊎◌, ℕ, zero, suc, ◌+◌, ◌-◌, ◌*◌, ◌%◌}
-use Rattle.std.proofs.Common.{◌^◌, ◌<◌, ◌≤◌, refl, sym, ap, ◌∙◌, subst, inl, inr}
-use Rattle.std.proofs.Common.{⊎_elim, arith, add-one, ℤ}
+use Rattle.std.proofs.Common.{◌^◌, ◌<◌, ◌≤◌, refl, sym, ap, ◌∙◌, subst, inl, inr, ⊎_elim, arith, add-one, ℤ}
 use Rattle.std.proofs.Math.Nat.{eq_of_mul-eq-mul_right, mul-le-mul_right, mul-lt-mul_of_pos_right, mul-mod_left}
 use Rattle.std.proofs.lemmas.Bool.{cases_lt}
 use Rattle.std.proofs.lemmas.Int.{ints}
@@ -33,8 +32,7 @@ moved a b c d u d' u' s t x y e =
     ap (λ (n : ℕ). n * 2 ^ t) (sym (pow-add 2 u d')) ∙ sym (pow-add 2 (u + d') t) ∙ ap (λ (n : ℕ). 2 ^ n) e
     ∙ pow-add 2 (u' + d) s ∙ ap (λ (n : ℕ). n * 2 ^ s) (pow-add 2 u' d) in
     eq_of_mul-eq-mul_right (2 ^ d * 2 ^ s) (two_factors (2 ^ d) (2 ^ s) (pow_pos d) (pow_pos s)) (a * 2 ^ d')
-    (c * 2 ^ u')
-    (product a b c (2 ^ d) (2 ^ u) (2 ^ d') (2 ^ u') (2 ^ s) (2 ^ t) x y powers)
+    (c * 2 ^ u') (product a b c (2 ^ d) (2 ^ u) (2 ^ d') (2 ^ u') (2 ^ s) (2 ^ t) x y powers)
   where
     two_factors : (d s : ℕ) → 0 < d → 0 < s → 0 < d * s
     two_factors d s p q = let l : 0 * s < d * s = mul-lt-mul_of_pos_right p q in omega (arith, l)
@@ -106,8 +104,7 @@ exponent_within f q places fraction e ranges some within fits number =
     exponent_below (4 * places + up z) (f.precision + f.span + down z) (omega (arith, low, most, split)) in
     let p = ranges.precision_high in
     let s = ranges.scale in
-    let t = ranges.span in
-    record { low = omega (arith, ints, under, p, s, t); high = omega (arith, ints, over, p, s, t) }
+    record { low = omega (arith, ints, under, p, s, ranges.span); high = omega (arith, ints, over, p, s, ranges.span) }
 
 -- ---- one number
 

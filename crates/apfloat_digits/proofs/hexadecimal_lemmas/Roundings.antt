@@ -15,8 +15,9 @@ use Rattle.apfloat_model.specs.formats.Format.{Format}
 use Rattle.apfloat_model.specs.rounding.Enclosure.{rounds_up}
 use Rattle.apfloat_model.specs.rounding.Standing.{StandsFor}
 use Rattle.apfloat_model.specs.whole_numbers.WholeNumbers.{whole_pick}
-use Rattle.apfloat_model.proofs.general.Powers.{exponent_between, two_pos}
+use Rattle.apfloat_model.proofs.general.Powers.{two_pos}
 use Rattle.apfloat_model.proofs.rounding.Losses.{stands_from, stands_to}
+use Rattle.apfloat_model.proofs.arithmetic.Inverses.{logarithm_once}
 use Rattle.apfloat_conversions.proofs.Wholes.{whole_at, exact_at}
 use Rattle.apfloat_decimals.proofs.numbers.DecimalPowers.{stands_moved}
 use Rattle.apfloat_digits.specs.hexadecimal.HexTexts.{last_place, number_text}
@@ -124,14 +125,6 @@ rounded_at f mode negative q places s n fraction loss moves exact first exponent
 
 -- ---- one result
 
-one_first : (f : Format) (q : ℕ) (e k : ℤ) → IsLogarithm f q e → IsLogarithm f q k → e ≡ k
-one_first f q e k x y =
-    let low = exponent_between q x.place y.place x.low y.high in
-    let high = exponent_between q y.place x.place y.low x.high in
-    let a = x.is in
-    let b = y.is in
-    omega (arith, ints, low, high, a, b)
-
 record AreSame (fraction other : ℕ) (exponent place : ℤ) (exact lost : Bool) : Type 0 where
   fractions : fraction ≡ other
   exponents : exponent ≡ place
@@ -139,10 +132,9 @@ record AreSame (fraction other : ℕ) (exponent place : ℤ) (exact lost : Bool)
 
 one_rounded : (f : Format) (mode : Round) (negative : Bool) (q places fraction other : ℕ) (exponent place : ℤ)
     (exact lost : Bool) → IsHexRoundedNumber f mode negative q places fraction exponent exact
-    → IsHexRoundedNumber f mode negative q places other place lost
-    → AreSame fraction other exponent place exact lost
+    → IsHexRoundedNumber f mode negative q places other place lost → AreSame fraction other exponent place exact lost
 one_rounded f mode negative q places fraction other exponent place exact lost x y =
-    let same : y.first ≡ x.first = one_first f q y.first x.first y.is_first x.is_first in
+    let same : y.first ≡ x.first = logarithm_once f q y.first x.first y.is_first x.is_first in
     let picked = subst (λ (z : ℤ).
     IsHexCarried places (whole_pick mode negative (units f q places z) (unit f places z)) z other place) same
     y.picked in
@@ -174,10 +166,8 @@ one_rounded_text : (f : Format) (mode : Round) (negative : Bool) (q places : ℕ
 one_rounded_text f mode negative q places text other exact lost x y =
     let same = one_rounded f mode negative q places x.fraction y.fraction x.exponent y.exponent exact lost x.number
     y.number in (
-      x.text_is
-          ∙ ap (λ (a : ℕ). number_text negative 1 places a x.exponent) same.fractions
-          ∙ ap (λ (e : ℤ). number_text negative 1 places y.fraction e) same.exponents
-          ∙ sym y.text_is,
+      x.text_is ∙ ap (λ (a : ℕ). number_text negative 1 places a x.exponent) same.fractions
+          ∙ ap (λ (e : ℤ). number_text negative 1 places y.fraction e) same.exponents ∙ sym y.text_is,
       same.exactly,
     )
 

@@ -28,8 +28,6 @@ pub pair_read_once : IsPairReadOnce
 pair_read_once mode text (Ok r) (Ok s) x y =
     let same = pair_decimal_reading_once mode text r.value s.value (bits_of r.status) (bits_of s.status) x y in
     same_answer r s same.0 same.1
-pair_read_once mode text (Ok r) (Err e) x y =
-    reading_or_refusal mode text e.0.now r.value (bits_of r.status) x y
-pair_read_once mode text (Err e) (Ok r) x y =
-    reading_or_refusal mode text e.0.now r.value (bits_of r.status) y x
+pair_read_once mode text (Ok r) (Err e) x y = reading_or_refusal mode text e.0.now r.value (bits_of r.status) x y
+pair_read_once mode text (Err e) (Ok r) x y = reading_or_refusal mode text e.0.now r.value (bits_of r.status) y x
 pair_read_once mode text (Err e) (Err d) x y = decimal_refusal_once text e.0.now d.0.now x y

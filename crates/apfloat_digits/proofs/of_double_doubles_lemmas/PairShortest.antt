@@ -75,8 +75,7 @@ make_decimal negative digits exponent = record { negative = negative; digits = d
 
 same_decimal : (x y : Decimal) → x.negative ≡ y.negative → x.digits ≡ y.digits → x.exponent ≡ y.exponent → x ≡ y
 same_decimal x y n d e =
-    ap (λ (i : Bool). make_decimal i x.digits x.exponent) n
-    ∙ ap (λ (i : ℕ). make_decimal y.negative i x.exponent) d
+    ap (λ (i : Bool). make_decimal i x.digits x.exponent) n ∙ ap (λ (i : ℕ). make_decimal y.negative i x.exponent) d
     ∙ ap (λ (i : ℤ). make_decimal y.negative y.digits i) e
 
 -- a finite value has at most one shortest decimal
@@ -94,8 +93,7 @@ shortest_of_once f b (suc n) d e p x y =
 shortest_once : (f : Format) (x : Datum) → 0 < f.precision → Determines (GivesShortest f x)
 shortest_once f (finite b n) p None other g h = absurd g
 shortest_once f (finite b n) p (Some d) None g h = absurd h
-shortest_once f (finite b n) p (Some d) (Some e) g h =
-    ap (λ (k : Decimal). Some k) (shortest_of_once f b n d e p g h)
+shortest_once f (finite b n) p (Some d) (Some e) g h = ap (λ (k : Decimal). Some k) (shortest_of_once f b n d e p g h)
 shortest_once f (infinite b) p answer other g h = g ∙ sym h
 shortest_once f (nan b s) p answer other g h = g ∙ sym h
 
@@ -169,8 +167,7 @@ text_read_back x d text digits exponent (Ok answer) g spells same read =
     read_back wide g.joined d digits exponent read.value (bits_of answer.status) (lit< tt)
     (member_of wide g.joined d refl chosen.1) chosen.1 same delivered in
     split_once g.joined answer.value g.back (subst (λ (v : Datum). IsSplit v answer.value) value read.is_split)
-    g.is_split
-    ∙ pair_same g.back x chosen.0
+    g.is_split ∙ pair_same g.back x chosen.0
 text_read_back x d text digits exponent (Err error) g spells same read =
     text_read wide NearestTiesToEven text (Err error) d.negative digits exponent spells read
 

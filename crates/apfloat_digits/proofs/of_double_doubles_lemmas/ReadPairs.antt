@@ -1,5 +1,5 @@
 -- A pair that a text is read as has a shortest decimal, if its high part is finite.
-use Rattle.std.proofs.Common.{◌≡◌, ◌≤◌, ℕ, zero, suc, ◌∙◌, Bool, true, false, cond, eqb, ltb, refl, sym, ap, subst, List, inl, inr}
+use Rattle.std.proofs.Common.{◌≡◌, ◌≤◌, ℕ, zero, suc, ◌∙◌, Bool, true, false, eqb, ltb, refl, sym, ap, subst, List, inl, inr}
 use Rattle.std.proofs.Common.{Option, arith}
 use Rattle.std.specs.Prelude.{IsSome, if◌then◌else◌}
 use Rattle.std.specs.Bool.{MatchBool}
@@ -10,14 +10,14 @@ use Rattle.apfloat_model.specs.formats.Format.{largest, nan_base}
 use Rattle.apfloat_model.specs.formats.Members.{IsMember}
 use Rattle.apfloat_model.specs.order.Classes.{is_finite, is_finite_non_zero}
 use Rattle.apfloat_model.specs.rounding.Grid.{IsOnGrid}
-use Rattle.apfloat_model.specs.rounding.Rounding.{IsPick, IsDelivered, leads_out, past_largest, signed_quanta, zero_sign}
+use Rattle.apfloat_model.specs.rounding.Rounding.{IsDelivered, leads_out, past_largest, signed_quanta, zero_sign}
 use Rattle.apfloat_model.specs.texts.Specials.{TextMeaning, infinity, not_a_number, hexadecimal}
 use Rattle.apfloat_model.specs.texts.Readings.{IsMeant}
 use Rattle.apfloat_model.proofs.rounding.Laws.{zero_on_grid}
+use Rattle.apfloat_model.proofs.rounding.ModesAgree.{pick_on_grid}
 use Rattle.apfloat_pair_theory.specs.PairFormats.{wide}
 use Rattle.apfloat_pair_theory.specs.Pairs.{Pair, IsJoined, IsSplit, IsSumOfParts, IsWidened}
 use Rattle.apfloat_pair_theory.proofs.numbers.Roundings.{largest_on_grid}
-use Rattle.apfloat_pair_theory.proofs.numbers.Signed.{on_grid_as}
 use Rattle.apfloat_decimals.specs.declared.decimal.Decimal.{Decimal}
 use Rattle.apfloat_decimals.specs.DecimalTexts.{IsDecimalReading}
 use Rattle.apfloat_digits.specs.of_double_doubles.PairReadings.{IsPairDecimalReading}
@@ -25,16 +25,6 @@ use Rattle.apfloat_digits.specs.of_double_doubles.PairShortest.{GivesPairShortes
 use Rattle.apfloat_digits.proofs.of_double_doubles_lemmas.SplitsJoined.{joined_has_decimal, split_has_decimal}
 
 -- ---- what is delivered in the wide format belongs to it
-
-either_on_grid : (test : Bool) (precision x y : ℕ) → IsOnGrid precision x → IsOnGrid precision y
-    → IsOnGrid precision (cond test x y)
-either_on_grid true precision x y g h = g
-either_on_grid false precision x y g h = h
-
-pick_on_grid : (precision : ℕ) (mode : Round) (negative : Bool) (amount parts p : ℕ)
-    → IsPick precision mode negative amount parts p → IsOnGrid precision p
-pick_on_grid precision mode negative amount parts p x =
-    on_grid_as (sym x.is) (either_on_grid _ precision _ _ x.is_above.on_grid x.is_below.on_grid)
 
 at_least_zero : (n : ℕ) → 0 ≤ n
 at_least_zero n = omega arith
@@ -74,8 +64,7 @@ delivered_member mode b amount parts value status x f =
     (sym (ap is_finite x.value_is) ∙ f))
 
 meant_member : (mode : Round) (meaning : TextMeaning) (value : Datum) (status : ℕ)
-    → IsMeant wide mode meaning value status
-    → is_finite value ≡ true → IsMember wide value
+    → IsMeant wide mode meaning value status → is_finite value ≡ true → IsMember wide value
 meant_member mode (infinity b) value status x f = absurd (false≢true (sym (ap is_finite x.value_is) ∙ f))
 meant_member mode (not_a_number b s p) value status x f = absurd (false≢true (sym (ap is_finite x.value_is) ∙ f))
 meant_member mode (hexadecimal b h places e) value status x f = delivered_member mode b _ _ value status x f
@@ -111,10 +100,8 @@ value_has_decimal (finite b zero) x answer m f s g =
     joined_has_decimal b 0 x answer s g (zero_joined b x g.joined s g.is_joined)
 value_has_decimal (finite b (suc n)) x answer m f s g =
     split_has_decimal b (suc n) x answer (omega arith) (m refl) f s g
-value_has_decimal (infinite b) x answer m f s g =
-    absurd (false≢true (ap is_finite (sym s.high_is.value_is) ∙ f))
-value_has_decimal (nan b t) x answer m f s g =
-    absurd (false≢true (ap is_finite (sym s.high_is.value_is) ∙ f))
+value_has_decimal (infinite b) x answer m f s g = absurd (false≢true (ap is_finite (sym s.high_is.value_is) ∙ f))
+value_has_decimal (nan b t) x answer m f s g = absurd (false≢true (ap is_finite (sym s.high_is.value_is) ∙ f))
 
 pub read_has_decimal : (mode : Round) (text : List ℕ) (x : Pair) (status : ℕ) (answer : Option Decimal)
     → IsPairDecimalReading mode text x status → is_finite x.high ≡ true → GivesPairShortest x answer → IsSome answer

@@ -2,7 +2,6 @@
 use Rattle.std.proofs.Common.{◌≡◌, ◌<◌, ◌≤◌, ◌*◌, ℕ, zero, suc, ◌∙◌, Bool, true, false, refl, sym, ap, subst, ⊎_elim}
 use Rattle.std.proofs.Common.{Option, Some, None, arith, lit≤, ℤ, pos, ◌+ℤ◌}
 use Rattle.std.specs.Prelude.{◌-ℤ◌, IsSome}
-use Rattle.std.specs.Bool.{MatchBool}
 use Rattle.std.proofs.Math.Path.{subst₂}
 use Rattle.std.proofs.lemmas.Bool.{cases_lt, false≢true, lt-ltb}
 use Rattle.std.proofs.lemmas.Int.{ints}
@@ -19,6 +18,7 @@ use Rattle.apfloat_model.specs.rounding.Rounding.{ok_bits, delivered_value}
 use Rattle.apfloat_model.proofs.arithmetic.Signs.{magnitude_signed}
 use Rattle.apfloat_model.proofs.order.Categories.{same_of}
 use Rattle.apfloat_model.proofs.rounding.Laws.{delivered_once}
+use Rattle.apfloat_model.proofs.general.Choices.{chosen}
 use Rattle.apfloat_pair_theory.specs.PairFormats.{double, wide}
 use Rattle.apfloat_pair_theory.specs.PairParts.{same_pair}
 use Rattle.apfloat_pair_theory.specs.Pairs.{Pair, pair_number, positive_zero, low_part, IsJoined, IsSplit, IsSumOfParts, IsWidened}
@@ -27,8 +27,8 @@ use Rattle.apfloat_pair_theory.proofs.numbers.Roundings.{beyond_is, finite_is}
 use Rattle.apfloat_pair_theory.proofs.numbers.Signed.{magnitude-sub, on_grid_as, IsGridNumber}
 use Rattle.apfloat_pair_theory.proofs.numbers.WholeProducts.{product_error_on_grid}
 use Rattle.apfloat_pair_theory.proofs.pairs.Normalised.{rounded_exactly}
-use Rattle.apfloat_pair_theory.proofs.pairs.SplitLaws.{exact_split, number_converted, split_exactly, wide_number}
-use Rattle.apfloat_pair_theory.proofs.pairs.SplitSteps.{widened_same}
+use Rattle.apfloat_pair_theory.proofs.pairs.SplitLaws.{exact_split, number_converted, split_exactly, wide_number, member_of}
+use Rattle.apfloat_pair_theory.proofs.pairs.SplitSteps.{widened_same, eighth_within}
 use Rattle.apfloat_pair_theory.proofs.sums.ClosingSums.{wide_enough}
 use Rattle.apfloat_pair_theory.proofs.sums.PairRoundings.{error_eighth}
 use Rattle.apfloat_decimals.specs.declared.decimal.Decimal.{Decimal}
@@ -36,16 +36,6 @@ use Rattle.apfloat_decimals.specs.ShortestSearch.{GivesShortest}
 use Rattle.apfloat_digits.specs.of_double_doubles.PairShortest.{GivesPairShortest}
 
 -- ---- the parts are doubles
-
-double_of_number : (datum : Datum) → is_finite datum ≡ true → IsGridNumber double.precision (number datum)
-    → magnitude (number datum) ≤ largest double → IsMember double datum
-double_of_number (finite b n) f g l = record {
-  on_grid = on_grid_as (magnitude_signed b n) g;
-  within = subst (λ (i : ℕ). i ≤ largest double) (magnitude_signed b n) l;
-  zero_has = λ z. refl;
-}
-double_of_number (infinite b) f g l = absurd (false≢true f)
-double_of_number (nan b s) f g l = absurd (false≢true f)
 
 -- a pick that gives a finite value is within the largest double
 finite_within : (negative : Bool) (p : ℕ) (high : Datum) → is_finite high ≡ true
@@ -59,9 +49,6 @@ finite_within b p high f v =
     subst (λ (d : Datum). magnitude (number d) ≤ largest double) (sym e)
     (subst (λ (i : ℕ). i ≤ largest double) (sym (magnitude_signed b p)) h))
     (cases_lt (largest double) p)
-
-eighth_within : (e m l w : ℕ) → 8 * e ≤ m → m ≤ w → w ≤ 8 * l → e ≤ l
-eighth_within e m l w h k i = omega arith
 
 -- ---- the join
 
@@ -117,10 +104,6 @@ zero_low x high low status z l =
     let none : low_part x high status ≡ positive_zero = rw z refl in
     ap (λ (d : Datum). number d) (l ∙ none)
 
-summed : (test : Bool) (P Q : Type 0) → test ≡ true → MatchBool test P Q → P
-summed true P Q e h = h
-summed false P Q e h = absurd (false≢true e)
-
 -- a wide number that is split, with a finite high part, is what the pair is joined to
 number_joined : (negative : Bool) (n : ℕ) (x : Pair) (joined : Datum) → IsFiniteOf wide negative (suc n)
     → is_finite x.high ≡ true → IsSplit (finite negative (suc n)) x → IsJoined x joined
@@ -138,16 +121,16 @@ number_joined b n x joined m f s j =
     let k = error_eighth double.precision wide_enough (signed b (suc n)) (number x.high) r.high_is.nearest in
     let d = magnitude_signed b (suc n) in
     let c : 8 * magnitude (number x.low) ≤ suc n = omega (arith, k, v, a, d) in
-    let low = double_of_number x.low r.low_is.is_finite g
+    let low = member_of x.low r.low_is.is_finite g
     (eighth_within (magnitude (number x.low)) (suc n) (largest double) (largest wide) c m.within (lit≤ tt)) in
     let t = number_converted b (suc n) x.high s.status s.loses_info some s.high_is in
-    let high = double_of_number x.high f r.high_is.nearest.on_grid
+    let high = member_of x.high f r.high_is.nearest.on_grid
     (finite_within b t.is_delivered.pick x.high f t.is_delivered.value_is) in
     let nonzero = some_high b n x.high f
     (λ z. subst (λ (i : ℤ). (number x.high +ℤ i) ≡ signed b (suc n))
     (zero_low (finite b (suc n)) x.high x.low s.status z s.low_is) e) in
     parts_joined b n x.high x.low joined m high low f r.low_is.is_finite e
-    (summed (is_finite_non_zero x.high) (IsSumOfParts x joined) (IsWidened x.high joined) nonzero j)
+    (chosen (is_finite_non_zero x.high) (IsSumOfParts x joined) (IsWidened x.high joined) nonzero j)
 
 -- ---- a decimal
 
@@ -163,12 +146,11 @@ pub joined_has_decimal : (negative : Bool) (quanta : ℕ) (x : Pair) (answer : O
     → IsSplit (finite negative quanta) x → (given : GivesPairShortest x answer) → given.joined ≡ finite negative quanta
     → IsSome answer
 joined_has_decimal b n x answer s g e =
-    let back : g.back ≡ x =
-    split_once (finite b n) g.back x (subst (λ (d : Datum). IsSplit d g.back) e g.is_split) s in
+    let back : g.back ≡ x = split_once (finite b n) g.back x (subst (λ (d : Datum). IsSplit d g.back) e g.is_split) s in
     let same : same_pair g.back x ≡ true = subst (λ (y : Pair). same_pair y x ≡ true) (sym back) (pair_itself x) in
     found b n answer
     (subst (λ (d : Datum). GivesShortest wide d answer) e
-    (summed (same_pair g.back x) (GivesShortest wide g.joined answer) (answer ≡ None) same g.is_answer))
+    (chosen (same_pair g.back x) (GivesShortest wide g.joined answer) (answer ≡ None) same g.is_answer))
 
 -- so has the split of a nonzero wide number, if its high part is finite
 pub split_has_decimal : (negative : Bool) (quanta : ℕ) (x : Pair) (answer : Option Decimal) → 0 < quanta

@@ -4,7 +4,7 @@ use Rattle.std.specs.Prelude.{⊤}
 use Rattle.std.proofs.Math.Nat.{min-eq_left, min-eq_right, mod-eq_of_lt, mod_self, mul-le-mul_right}
 use Rattle.std.proofs.lemmas.Nat.{pow-add, pow_pos}
 use Rattle.std.proofs.lemmas.Bool.{cases_eq, cases_lt, cond-false, eq-eqb, le-leb, le-ltb, lt-leb, lt-ltb, ltb-false, ltb-true, ne_eqb, true≢false}
-use Rattle.apfloat_model.specs.bits.Interchange.{IsInterchange, bits_of_fields}
+use Rattle.apfloat_model.specs.bits.Interchange.{IsInterchange, bits_of_fields, AreFieldsOf}
 use Rattle.apfloat_model.specs.bits.Layout.{IsEncodedBy, Layout, all_ones, trailing_bits}
 use Rattle.apfloat_model.specs.declared.kinds.NonfiniteBehavior.{NonfiniteBehavior}
 use Rattle.apfloat_model.specs.declared.kinds.NonfiniteBehavior.TheVariants.{IEEE754, NanOnly, NanNegativeZero}
@@ -34,6 +34,7 @@ use Rattle.fast_bits.specs.lanes.Sides.{greatest_code}
 use Rattle.fast_bits.specs.lanes.Targets.{has_no_sign, is_ieee, largest_code, signed_code}
 use Rattle.fast_bits.proofs.lanes_lemmas.Interchanges.{spans}
 use Rattle.fast_bits.proofs.lanes_lemmas.Codes.{code_encoded, past_by_code}
+use Rattle.fast_bits.proofs.lanes_lemmas.Singles.{zero_factor}
 
 -- ---- what is picked
 
@@ -62,13 +63,10 @@ moved_least true kept least full = omega (arith, full)
 moved_least false kept least full = omega (arith, full)
 
 some_rest : (rest : ℕ) → (rest ≡ 0 → ⊥) → 0 < rest
-some_rest rest more = ⊎_elim (λ (z : rest < 1). absurd (more (omega (arith, z))))
-    (λ (p : 1 ≤ rest). omega (arith, p))
-    (cases_lt rest 1)
+some_rest rest more = omega (arith, more)
 
 -- a scaled number, rounded to a whole number, is the code of what is picked
-picked_code : (precision low : ℕ) (mode : Round) (negative : Bool) (t amount parts : ℕ) → 3 ≤ precision
-    → 0 < parts
+picked_code : (precision low : ℕ) (mode : Round) (negative : Bool) (t amount parts : ℕ) → 3 ≤ precision → 0 < parts
     → IsScaled precision low t amount parts
     → IsPickedSingle precision mode negative amount parts (rounded_by low mode negative t) (t % 2 ^ low)
 picked_code precision low mode negative t amount parts precise any it =
@@ -127,8 +125,7 @@ some_signed kind negative n some = rw (ne_eqb n 0 some) refl
 
 zero_signed : (kind : NonfiniteBehavior) (negative : Bool) (n : ℕ) → n ≡ 0
     → signed_quanta kind negative n ≡ finite (zero_sign kind negative) n
-zero_signed kind negative n none =
-    rw (eq-eqb n 0 none) (ap (λ (x : ℕ). finite (zero_sign kind negative) x) (sym none))
+zero_signed kind negative n none = rw (eq-eqb n 0 none) (ap (λ (x : ℕ). finite (zero_sign kind negative) x) (sym none))
 
 -- the sign of a zero stays that
 sign_again : (kind : NonfiniteBehavior) (negative : Bool)
@@ -161,8 +158,7 @@ has_sign NanNegativeZero bits code some below =
     ne_eqb (code % 2 ^ (bits - 1)) 0 (λ e. omega (arith, e, same, some))
 
 signed_number : (f : Format) (layout : Layout) (negative : Bool) (n code : ℕ) → code < 2 ^ (layout.bits - 1)
-    → (n ≡ 0 → code ≡ 0)
-    → (code ≡ 0 → n ≡ 0) → IsSignedCode f layout negative n code
+    → (n ≡ 0 → code ≡ 0) → (code ≡ 0 → n ≡ 0) → IsSignedCode f layout negative n code
 signed_number f layout negative n code below forth back =
     ⊎_elim {C = IsSignedCode f layout negative n code}
     (λ (none : n ≡ 0). record {
@@ -189,8 +185,7 @@ magnitude_bits : (f : Format) (layout : Layout) → IsInterchange f layout → f
     → 2 ^ (layout.bits - 1) ≡ 2 ^ layout.exponent_bits * 2 ^ (f.precision - 1)
 magnitude_bits f layout law implied =
     let width : trailing_bits f ≡ f.precision - 1 = cond-false f.explicit_integer_bit _ _ implied in
-    let sized = law.bits in
-    let places : layout.bits - 1 ≡ layout.exponent_bits + (f.precision - 1) = omega (arith, sized, width) in
+    let places : layout.bits - 1 ≡ layout.exponent_bits + (f.precision - 1) = omega (arith, law.bits, width) in
     ap (λ (x : ℕ). 2 ^ x) places ∙ pow-add 2 layout.exponent_bits (f.precision - 1)
 
 -- the code of the largest value is below the sign bit
@@ -198,13 +193,12 @@ largest_below : (f : Format) (layout : Layout) → IsInterchange f layout → f.
     → largest_code f < 2 ^ (layout.bits - 1)
 largest_below f layout law implied =
     let half : ℕ = 2 ^ (f.precision - 1) in
-    let precise = law.precise in
     let bits = magnitude_bits f layout law implied in
     let span : f.span + 2 ≤ 2 ^ layout.exponent_bits = spans f.nonfinite f.span layout.exponent_bits law.span in
     let places : (f.span + 2) * 2 ^ (f.precision - 1) ≤ 2 ^ layout.exponent_bits * 2 ^ (f.precision - 1) =
     mul-le-mul_right half span in
     let fits = greatest_fits f.nonfinite f.precision in
-    let twice : 2 * 2 ^ (f.precision - 1) ≡ 2 ^ f.precision = twice_half f.precision (omega (arith, precise)) in
+    let twice : 2 * 2 ^ (f.precision - 1) ≡ 2 ^ f.precision = twice_half f.precision (omega (arith, law.precise)) in
     omega (arith, bits, places, fits, twice)
 
 -- fields above one another
@@ -223,8 +217,7 @@ infinity_code f layout law is =
     let half : ℕ = 2 ^ (f.precision - 1) in
     let span : f.span + 3 ≡ 2 ^ layout.exponent_bits =
     law.span ∙ ap (λ (k : NonfiniteBehavior). 2 ^ layout.exponent_bits + more_exponents k) is ∙ omega arith in
-    let precise = law.precise in
-    let twice : 2 * 2 ^ (f.precision - 1) ≡ 2 ^ f.precision = twice_half f.precision (omega (arith, precise)) in
+    let twice : 2 * 2 ^ (f.precision - 1) ≡ 2 ^ f.precision = twice_half f.precision (omega (arith, law.precise)) in
     let some : 0 < 2 ^ (f.precision - 1) = pow_pos (f.precision - 1) in
     let top : greatest_significand f.nonfinite f.precision ≡ 2 ^ f.precision - 1 =
     ap (λ (k : NonfiniteBehavior). greatest_significand k f.precision) is in
@@ -233,27 +226,34 @@ infinity_code f layout law is =
     ap (λ (n : ℕ). n * half) biased in
     omega (arith, ones, top, twice, some)
 
+-- the greatest exponent, with these digits
+top_encoded : (f : Format) (layout : Layout) (negative : Bool) (s bits : ℕ) (datum : Datum) → IsInterchange f layout
+    → f.explicit_integer_bit ≡ false
+    → AreFieldsOf f layout (fields_with negative (all_ones layout.exponent_bits) s) datum
+    → bits ≡ cond negative (2 ^ (layout.bits - 1)) 0 + (all_ones layout.exponent_bits * 2 ^ (f.precision - 1) + s)
+    → IsEncodedBy f layout bits datum
+top_encoded f layout negative s bits datum law implied are bits_are =
+    let x = fields_with negative (all_ones layout.exponent_bits) s in
+    let width : trailing_bits f ≡ f.precision - 1 = cond-false f.explicit_integer_bit _ _ implied in
+    let same : bits_of_fields f layout x ≡ bits =
+    rw width (top_bits negative layout.exponent_bits (f.precision - 1) (all_ones layout.exponent_bits) s bits
+    (layout.bits - 1) (omega (arith, law.bits, width)) bits_are) in
+    subst (λ (b : ℕ). IsEncodedBy f layout b datum) same (fields_encode f layout x datum law are)
+
 -- an infinity: the greatest exponent without digits
 infinity_encoded : (f : Format) (layout : Layout) (negative : Bool) (bits : ℕ) → IsInterchange f layout
     → f.nonfinite ≡ IEEE754 → f.explicit_integer_bit ≡ false
     → bits ≡ cond negative (2 ^ (layout.bits - 1)) 0 + (largest_code f + 1)
     → IsEncodedBy f layout bits (infinite negative)
 infinity_encoded f layout negative bits law is implied bits_are =
-    let half : ℕ = 2 ^ (f.precision - 1) in
-    let x = fields_with negative (all_ones layout.exponent_bits)
-    (cond f.explicit_integer_bit (smallest_normalized f) 0) in
-    let width : trailing_bits f ≡ f.precision - 1 = cond-false f.explicit_integer_bit _ _ implied in
-    let none : cond f.explicit_integer_bit (smallest_normalized f) 0
-    ≡ 0 = cond-false f.explicit_integer_bit _ _ implied in
+    let none : cond f.explicit_integer_bit (smallest_normalized f) 0 ≡ 0 =
+    cond-false f.explicit_integer_bit _ _ implied in
     let top = infinity_code f layout law is in
     let code : largest_code f + 1 ≡ all_ones layout.exponent_bits * 2 ^ (f.precision - 1) + 0 = omega (arith, top) in
-    let sized = law.bits in
-    let same : bits_of_fields f layout x ≡ bits =
-    rw (width, none) (top_bits negative layout.exponent_bits (f.precision - 1) (all_ones layout.exponent_bits) 0 bits
-    (layout.bits - 1)
-    (omega (arith, sized, width)) (bits_are ∙ ap (λ (n : ℕ). cond negative (2 ^ (layout.bits - 1)) 0 + n) code)) in
-    subst (λ (b : ℕ). IsEncodedBy f layout b (infinite negative)) same
-    (fields_encode f layout x (infinite negative) law (infinity_fields_of f layout negative law is))
+    top_encoded f layout negative 0 bits (infinite negative) law implied
+    (subst (λ (s : ℕ). AreFieldsOf f layout (fields_with negative (all_ones layout.exponent_bits) s) (infinite negative))
+    none (infinity_fields_of f layout negative law is))
+    (bits_are ∙ ap (λ (n : ℕ). cond negative (2 ^ (layout.bits - 1)) 0 + n) code)
 
 abbrev Only : NonfiniteBehavior → Type 0
 Only IEEE754 = ⊥
@@ -270,14 +270,11 @@ nan_encoded : (f : Format) (layout : Layout) (negative : Bool) (bits : ℕ) → 
     → IsEncodedBy f layout bits (nan negative (nan_base f))
 nan_encoded f layout negative bits law is implied bits_are =
     let half : ℕ = 2 ^ (f.precision - 1) in
-    let x = fields_with negative (all_ones layout.exponent_bits) (nan_base f) in
-    let width : trailing_bits f ≡ f.precision - 1 = cond-false f.explicit_integer_bit _ _ implied in
     let base : nan_base f ≡ 2 ^ (f.precision - 1) - 1 = ap (λ (k : NonfiniteBehavior). nan_base_of k f.precision) is
     in
     let span : f.span + 3 ≡ 2 ^ layout.exponent_bits + 1 =
     law.span ∙ ap (λ (k : NonfiniteBehavior). 2 ^ layout.exponent_bits + more_exponents k) is in
-    let precise = law.precise in
-    let twice : 2 * 2 ^ (f.precision - 1) ≡ 2 ^ f.precision = twice_half f.precision (omega (arith, precise)) in
+    let twice : 2 * 2 ^ (f.precision - 1) ≡ 2 ^ f.precision = twice_half f.precision (omega (arith, law.precise)) in
     let some : 0 < 2 ^ (f.precision - 1) = pow_pos (f.precision - 1) in
     let top : greatest_significand f.nonfinite f.precision ≡ 2 ^ f.precision - 2 =
     ap (λ (k : NonfiniteBehavior). greatest_significand k f.precision) is in
@@ -286,17 +283,11 @@ nan_encoded f layout negative bits law is implied bits_are =
     ap (λ (n : ℕ). n * half) biased in
     let code : largest_code f + 1 ≡ all_ones layout.exponent_bits * 2 ^ (f.precision - 1) + nan_base f =
     omega (arith, ones, top, twice, some, base) in
-    let sized = law.bits in
-    let same : bits_of_fields f layout x ≡ bits =
-    rw width (top_bits negative layout.exponent_bits (f.precision - 1) (all_ones layout.exponent_bits)
-    (nan_base f) bits (layout.bits - 1)
-    (omega (arith, sized, width)) (bits_are ∙ ap (λ (n : ℕ). cond negative (2 ^ (layout.bits - 1)) 0 + n) code)) in
-    subst (λ (b : ℕ). IsEncodedBy f layout b (nan negative (nan_base f))) same
-    (fields_encode f layout x (nan negative (nan_base f)) law
+    top_encoded f layout negative (nan_base f) bits (nan negative (nan_base f)) law implied
     (nan_fields_of f layout negative (nan_base f) law (differs f.nonfinite is)
     (subst (λ (k : NonfiniteBehavior). IsNanSignificand k f.explicit_integer_bit f.precision
-    (nan_base_of k f.precision))
-    (sym is) refl)))
+    (nan_base_of k f.precision)) (sym is) refl))
+    (bits_are ∙ ap (λ (n : ℕ). cond negative (2 ^ (layout.bits - 1)) 0 + n) code)
 
 -- a NaN beside infinities: the greatest exponent with digits
 pub digits_encoded : (f : Format) (layout : Layout) (negative : Bool) (s bits : ℕ) → IsInterchange f layout
@@ -304,32 +295,21 @@ pub digits_encoded : (f : Format) (layout : Layout) (negative : Bool) (s bits : 
     → bits ≡ cond negative (2 ^ (layout.bits - 1)) 0 + (largest_code f + 1) + s
     → IsEncodedBy f layout bits (nan negative s)
 digits_encoded f layout negative s bits law is implied some below bits_are =
-    let half : ℕ = 2 ^ (f.precision - 1) in
-    let x = fields_with negative (all_ones layout.exponent_bits) s in
-    let width : trailing_bits f ≡ f.precision - 1 = cond-false f.explicit_integer_bit _ _ implied in
     let code = infinity_code f layout law is in
-    let sized = law.bits in
     let sum : cond negative (2 ^ (layout.bits - 1)) 0 + (largest_code f + 1) + s
     ≡ cond negative (2 ^ (layout.bits - 1)) 0 + (all_ones layout.exponent_bits * 2 ^ (f.precision - 1) + s) =
     omega (arith, code) in
-    let same : bits_of_fields f layout x ≡ bits =
-    rw width (top_bits negative layout.exponent_bits (f.precision - 1) (all_ones layout.exponent_bits) s bits
-    (layout.bits - 1)
-    (omega (arith, sized, width)) (bits_are ∙ sum)) in
-    subst (λ (b : ℕ). IsEncodedBy f layout b (nan negative s)) same
-    (fields_encode f layout x (nan negative s) law
+    top_encoded f layout negative s bits (nan negative s) law implied
     (nan_fields_of f layout negative s law (λ one. true≢false (sym (ap is_ieee is) ∙ ap is_ieee one))
     (subst (λ (k : NonfiniteBehavior). IsNanSignificand k f.explicit_integer_bit f.precision s) (sym is)
-    (subst (λ (b : Bool). IsNanSignificand IEEE754 b f.precision s) (sym implied) (some, below)))))
+    (subst (λ (b : Bool). IsNanSignificand IEEE754 b f.precision s) (sym implied) (some, below)))) (bits_are ∙ sum)
 
 -- the one NaN: the sign bit alone
 one_nan_encoded : (f : Format) (layout : Layout) (bits : ℕ) → IsInterchange f layout
-    → f.nonfinite ≡ NanNegativeZero → bits ≡ 2 ^ (layout.bits - 1)
-    → IsEncodedBy f layout bits (nan false (nan_base f))
+    → f.nonfinite ≡ NanNegativeZero → bits ≡ 2 ^ (layout.bits - 1) → IsEncodedBy f layout bits (nan false (nan_base f))
 one_nan_encoded f layout bits law is bits_are =
     let base : 0 ≡ nan_base f = sym (ap (λ (k : NonfiniteBehavior). nan_base_of k f.precision) is) in
-    let sized = law.bits in
-    let places : layout.bits - 1 ≡ trailing_bits f + layout.exponent_bits = omega (arith, sized) in
+    let places : layout.bits - 1 ≡ trailing_bits f + layout.exponent_bits = omega (arith, law.bits) in
     let both : 2 ^ (layout.bits - 1) ≡ 2 ^ trailing_bits f * 2 ^ layout.exponent_bits =
     ap (λ (x : ℕ). 2 ^ x) places ∙ pow-add 2 (trailing_bits f) layout.exponent_bits in
     let same : bits_of_fields f layout (fields_with true 0 0) ≡ bits = omega (arith, both, bits_are) in
@@ -365,10 +345,8 @@ no_nan NanNegativeZero past within = within
 
 -- a number within the largest value
 number_given : (f : Format) (layout : Layout) (negative : Bool) (place next code : ℕ) → IsInterchange f layout
-    → f.explicit_integer_bit ≡ false → (place ≡ 0) ⊎ (2 ^ (f.precision - 1) ≤ next)
-    → next ≤ 2 ^ f.precision
-    → next * 2 ^ place ≤ largest f → code ≡ place * 2 ^ (f.precision - 1) + next
-    → code ≤ largest_code f
+    → f.explicit_integer_bit ≡ false → (place ≡ 0) ⊎ (2 ^ (f.precision - 1) ≤ next) → next ≤ 2 ^ f.precision
+    → next * 2 ^ place ≤ largest f → code ≡ place * 2 ^ (f.precision - 1) + next → code ≤ largest_code f
     → IsGivenCode f layout negative code (signed_quanta f.nonfinite negative (next * 2 ^ place))
 number_given f layout negative place next code law implied full fits within is low =
     let half : ℕ = 2 ^ (f.precision - 1) in
@@ -376,12 +354,7 @@ number_given f layout negative place next code law implied full fits within is l
     let some : 0 < 2 ^ (f.precision - 1) = pow_pos (f.precision - 1) in
     let unit : 0 < 2 ^ place = pow_pos place in
     let forth : next * 2 ^ place ≡ 0 → code ≡ 0 = λ none.
-    let no_digits : next ≡ 0 =
-    ⊎_elim {C = next ≡ 0} (λ (z : next < 1). omega (arith, z))
-    (λ (p : 1 ≤ next).
-    let more : 1 * 2 ^ place ≤ next * 2 ^ place = mul-le-mul_right (2 ^ place) p in
-    absurd (omega (arith, more, none, unit)))
-    (cases_lt next 1) in
+    let no_digits = zero_factor next (2 ^ place) unit none in
     let last : place ≡ 0 =
     ⊎_elim (λ (z : place ≡ 0). z) (λ (h : 2 ^ (f.precision - 1) ≤ next). absurd
     (omega (arith, h, no_digits, some))) full in
@@ -405,8 +378,7 @@ number_given f layout negative place next code law implied full fits within is l
 
 -- the largest value
 largest_given : (f : Format) (layout : Layout) (negative : Bool) → IsInterchange f layout
-    → f.explicit_integer_bit ≡ false
-    → IsGivenCode f layout negative (largest_code f) (finite negative (largest f))
+    → f.explicit_integer_bit ≡ false → IsGivenCode f layout negative (largest_code f) (finite negative (largest f))
 largest_given f layout negative law implied =
     let precise = law.precise in
     let fits = greatest_fits f.nonfinite f.precision in
@@ -432,8 +404,7 @@ past_given IEEE754 f layout negative is law implied =
           (ap (λ (x : ℕ). x + (largest_code f + 1))
           (keeps_sign f.nonfinite negative layout.bits (largest_code f + 1)
           (ap (λ (k : NonfiniteBehavior). has_no_sign k layout.bits (largest_code f + 1)) is)));
-      nan_is =
-          ap (λ (k : NonfiniteBehavior). not (is_ieee k) && ltb (largest_code f) (largest_code f + 1)) is;
+      nan_is = ap (λ (k : NonfiniteBehavior). not (is_ieee k) && ltb (largest_code f) (largest_code f + 1)) is;
     }
 past_given NanOnly f layout negative is law implied =
     record {
@@ -468,15 +439,10 @@ past_given NanNegativeZero f layout negative is law implied =
           ∙ lt-ltb (largest_code f) (largest_code f + 1) (omega arith);
     }
   where
-    rest_none : (n : ℕ) → 0 < n → n % n ≡ 0
-    rest_none n some = mod_self n
-
-    bare : (kind : NonfiniteBehavior) (negative : Bool) (bits code : ℕ) → kind ≡ NanNegativeZero
-        → code ≡ 2 ^ (bits - 1)
+    bare : (kind : NonfiniteBehavior) (negative : Bool) (bits code : ℕ) → kind ≡ NanNegativeZero → code ≡ 2 ^ (bits - 1)
         → cond (negative && not (has_no_sign kind bits code)) (2 ^ (bits - 1)) 0 + code ≡ 2 ^ (bits - 1)
     bare kind true bits code e same =
-        let rest : code % 2 ^ (bits - 1) ≡ 0 =
-        ap (λ (x : ℕ). x % 2 ^ (bits - 1)) same ∙ rest_none (2 ^ (bits - 1)) (pow_pos (bits - 1)) in
+        let rest : code % 2 ^ (bits - 1) ≡ 0 = ap (λ (x : ℕ). x % 2 ^ (bits - 1)) same ∙ mod_self (2 ^ (bits - 1)) in
         let has : has_no_sign kind bits code ≡ true =
         ap (λ (k : NonfiniteBehavior). has_no_sign k bits code) e ∙ eq-eqb (code % 2 ^ (bits - 1)) 0 rest in
         rw has (omega (arith, same))
@@ -498,19 +464,6 @@ beyond_given false true f layout mode negative e law implied = rw e
     (past_given f.nonfinite f layout negative refl law implied)
 beyond_given false false f layout mode negative e law implied = rw e (largest_given f layout negative law implied)
 
--- the cap is the largest code, or the one after it
-cap_least : (saturates out : Bool) (top : ℕ) → top ≤ cond (out && not saturates) (top + 1) top
-cap_least true true top = omega arith
-cap_least true false top = omega arith
-cap_least false true top = omega arith
-cap_least false false top = omega arith
-
-cap_most : (saturates out : Bool) (top : ℕ) → cond (out && not saturates) (top + 1) top ≤ top + 1
-cap_most true true top = omega arith
-cap_most true false top = omega arith
-cap_most false true top = omega arith
-cap_most false false top = omega arith
-
 -- the code that is delivered is that of the value that is delivered
 value_given : (saturates : Bool) (f : Format) (layout : Layout) (mode : Round) (negative : Bool)
     (amount parts r rest : ℕ)
@@ -522,8 +475,9 @@ value_given : (saturates : Bool) (f : Format) (layout : Layout) (mode : Round) (
 value_given saturates f layout mode negative amount parts r rest law implied picked =
     let top = largest_code f in
     let pick = picked.next * 2 ^ picked.place in
-    let least = cap_least saturates (leads_out mode negative) top in
-    let most = cap_most saturates (leads_out mode negative) top in
+    -- the cap is the largest code, or the one after it
+    let least = moved_least (leads_out mode negative && not saturates) top top (omega arith) in
+    let most = moved_most (leads_out mode negative && not saturates) top (top + 1) (omega arith) in
     let past_is : ltb (largest f) pick ≡ ltb top r =
     past_by_code f picked.next picked.place law.precise picked.full picked.fits
     ∙ ap (λ (x : ℕ). ltb top x) (sym picked.code_is) in
@@ -579,8 +533,7 @@ flag_sum false true false raises large = refl
 flag_sum false false normal raises large = refl
 
 -- the status, by the same
-status_sum : (past exact tiny raises some normal : Bool) → exact ≡ not some
-    → (some ≡ true → tiny ≡ not normal)
+status_sum : (past exact tiny raises some normal : Bool) → exact ≡ not some → (some ≡ true → tiny ≡ not normal)
     → ◌≡◌ {A = ℕ} (cond past (cond raises 20 16) (cond some (cond normal 16 24) 0))
     (cond past (cond raises 20 16) (cond exact 0 (cond tiny 24 16)))
 status_sum true exact tiny raises some normal e t = refl
@@ -613,8 +566,7 @@ plain_flags false before rule is = refl
 -- the rules of tininess, but for the one in half quanta
 tiny_is : (f : Format) (mode : Round) (negative before by_kept by_code : Bool) (amount parts pick : ℕ)
     → reads_halves f ≡ false → f.tiny_before_rounding ≡ before
-    → ltb amount (smallest_normalized f * parts) ≡ not by_kept
-    → ltb pick (smallest_normalized f) ≡ not by_code
+    → ltb amount (smallest_normalized f * parts) ≡ not by_kept → ltb pick (smallest_normalized f) ≡ not by_code
     → is_tiny f mode negative amount parts pick ≡ not (cond before by_kept by_code)
 tiny_is f mode negative true by_kept by_code amount parts pick rule is by_amount by_pick = rw is by_amount
 tiny_is f mode negative false by_kept by_code amount parts pick rule is by_amount by_pick =
@@ -628,15 +580,13 @@ past_is_normal true half kept r by_kept by_code = le-leb half kept by_kept
 past_is_normal false half kept r by_kept by_code = le-leb half r by_code
 
 -- what is rounded to is at most one more than what is kept
-rounded_most : (low : ℕ) (mode : Round) (negative : Bool) (t : ℕ)
-    → rounded_by low mode negative t ≤ t / 2 ^ low + 1
+rounded_most : (low : ℕ) (mode : Round) (negative : Bool) (t : ℕ) → rounded_by low mode negative t ≤ t / 2 ^ low + 1
 rounded_most low mode negative t =
     moved_most (rounds_up mode negative (loss_at (t % 2 ^ low) (2 ^ (low - 1))) (eqb (t / 2 ^ low % 2) 1)) (t / 2 ^ low)
     (t / 2 ^ low + 1) (omega arith)
 
 flags_given : (low : ℕ) (f : Format) (layout : Layout) (mode : Round) (negative : Bool) (t amount parts : ℕ)
-    → IsInterchange f layout
-    → reads_halves f ≡ false → 0 < parts → IsScaled f.precision low t amount parts
+    → IsInterchange f layout → reads_halves f ≡ false → 0 < parts → IsScaled f.precision low t amount parts
     → (picked : IsPickedSingle f.precision mode negative amount parts (rounded_by low mode negative t) (t % 2 ^ low))
     → let some = not (eqb (t % 2 ^ low) 0) in let past = ltb (largest_code f) (rounded_by low mode negative t) in
     let normal = cond f.tiny_before_rounding (leb (2 ^ (f.precision - 1)) (t / 2 ^ low))
@@ -679,15 +629,13 @@ flags_given low f layout mode negative t amount parts law rule any scaled picked
     by_pick in
     flag_sum past some normal (raises_overflow f mode negative) large
     ∙ status_sum past (eqb (pick * parts) amount) (is_tiny f mode negative amount parts pick)
-    (raises_overflow f mode negative) some normal exact_is tiny
-    ∙ rw past_is refl
+    (raises_overflow f mode negative) some normal exact_is tiny ∙ rw past_is refl
 
 -- ---- the answer
 
 -- what a lane is made of
 pub record IsMade (low : ℕ) (saturates : Bool) (f : Format) (layout : Layout) (mode : Round)
-    (negative : Bool) (t : ℕ)
-    (lane : Lane)
+    (negative : Bool) (t : ℕ) (lane : Lane)
     : Type 0 where
   pub bits : lane.bits ≡ signed_code f.nonfinite layout.bits negative
       (min (rounded_by low mode negative t) (greatest_code saturates f mode negative))
@@ -712,8 +660,7 @@ made_rounded low saturates f layout mode negative t amount parts lane law implie
     let picked = picked_code f.precision low mode negative t amount parts law.precise any scaled in
     let pick = picked.next * 2 ^ picked.place in
     let given = value_given saturates f layout mode negative amount parts (rounded_by low mode negative t)
-    (t % 2 ^ low) law implied
-    picked in
+    (t % 2 ^ low) law implied picked in
     let flags : flags_of lane ≡ delivered_status f mode negative amount parts pick =
     rw (made.underflow, made.inexact, made.overflow, made.invalid)
     (flags_given low f layout mode negative t amount parts law rule any scaled picked) in
@@ -723,8 +670,7 @@ made_rounded low saturates f layout mode negative t amount parts lane law implie
       is_encoded =
           subst
           (λ (n : ℕ). IsEncodedBy f layout n
-          (finished saturates f negative (delivered_value f mode negative pick)))
-          (sym made.bits) given.is_encoded;
+          (finished saturates f negative (delivered_value f mode negative pick))) (sym made.bits) given.is_encoded;
       nan_is = made.nan_is ∙ given.nan_is;
     }
 
@@ -735,7 +681,6 @@ pub lane_rounded : (saturates : Bool) (f : Format) (layout : Layout) (mode : Rou
     → 0 < parts → IsMade 16 saturates f layout mode negative t lane → IsReachedLane f t amount parts
     → IsRounded saturates f layout mode negative amount parts lane
 lane_rounded saturates f layout mode negative t amount parts lane law implied rule any made it =
-    let precise = law.precise in
     let there = made_rounded 16 saturates f layout mode negative t it.reached parts lane law implied rule any made
     it.scaled
     in
@@ -745,9 +690,8 @@ lane_rounded saturates f layout mode negative t amount parts lane law implied ru
       rounded = there.rounded;
       is_delivered =
           far_above f mode negative it.reached parts amount parts there.rounded (flags_of lane)
-          (omega (arith, precise)) (record { some = both.0.some; from = both.0.from })
+          (omega (arith, law.precise)) (record { some = both.0.some; from = both.0.from })
           (record { some = both.1.some; from = both.1.from }) there.is_delivered;
       is_encoded = there.is_encoded;
       nan_is = there.nan_is;
-    })
-    it.alike
+    }) it.alike

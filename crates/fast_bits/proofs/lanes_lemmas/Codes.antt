@@ -30,8 +30,7 @@ past_inner f n place precise inner fits =
     let digits : n * 2 ^ place ≤ 2 ^ f.precision * 2 ^ place = mul-le-mul_right (2 ^ place) fits in
     let moved : 2 ^ f.precision * 2 ^ place ≡ 2 ^ (f.precision - 1) * 2 ^ (place + 1) =
     ap (λ (x : ℕ). x * 2 ^ place) (sym twice) ∙ carried (2 ^ (f.precision - 1)) place in
-    let room : 2 ^ (f.precision - 1) * 2 ^ (place + 1) ≤ 2 ^ (f.precision - 1) * 2 ^ f.span =
-    mul-le-mul_left half up in
+    let room : 2 ^ (f.precision - 1) * 2 ^ (place + 1) ≤ 2 ^ (f.precision - 1) * 2 ^ f.span = mul-le-mul_left half up in
     let most : 2 ^ (f.precision - 1) * 2 ^ f.span ≤ largest f = mul-le-mul_right (2 ^ f.span) full in
     let places : (place + 1) * 2 ^ (f.precision - 1) ≤ f.span * 2 ^ (f.precision - 1) =
     mul-le-mul_right half (omega (arith, inner)) in
@@ -40,8 +39,7 @@ past_inner f n place precise inner fits =
     (omega (arith, places, full, fits, twice)))
 
 -- at the last place, the significands decide
-past_last : (f : Format) (n : ℕ)
-    → ltb (largest f) (n * 2 ^ f.span)
+past_last : (f : Format) (n : ℕ) → ltb (largest f) (n * 2 ^ f.span)
     ≡ ltb (largest_code f) (f.span * 2 ^ (f.precision - 1) + n)
 past_last f n =
     let half = 2 ^ (f.precision - 1) in
@@ -68,8 +66,7 @@ past_beyond f n place precise beyond full =
     let twice : 2 * 2 ^ (f.precision - 1) ≡ 2 ^ f.precision = twice_half f.precision (omega (arith, precise)) in
     let up : 2 ^ (f.span + 1) ≤ 2 ^ place = pow-le-pow_right two_pos (omega (arith, beyond)) in
     let digits : 2 ^ (f.precision - 1) * 2 ^ place ≤ n * 2 ^ place = mul-le-mul_right (2 ^ place) full in
-    let room : 2 ^ (f.precision - 1) * 2 ^ (f.span + 1) ≤ 2 ^ (f.precision - 1) * 2 ^ place =
-    mul-le-mul_left half up in
+    let room : 2 ^ (f.precision - 1) * 2 ^ (f.span + 1) ≤ 2 ^ (f.precision - 1) * 2 ^ place = mul-le-mul_left half up in
     let moved : 2 ^ f.precision * 2 ^ f.span ≡ 2 ^ (f.precision - 1) * 2 ^ (f.span + 1) =
     ap (λ (x : ℕ). x * 2 ^ f.span) (sym twice) ∙ carried (2 ^ (f.precision - 1)) f.span in
     let less : top * 2 ^ f.span < 2 ^ f.precision * 2 ^ f.span = mul-lt-mul_of_pos_right fits (pow_pos f.span) in
@@ -80,10 +77,8 @@ past_beyond f n place precise beyond full =
     (omega (arith, places, full, fits, twice)))
 
 -- a number is past the largest value exactly if its code is
-pub past_by_code : (f : Format) (n place : ℕ) → 3 ≤ f.precision
-    → (place ≡ 0) ⊎ (2 ^ (f.precision - 1) ≤ n)
-    → n ≤ 2 ^ f.precision
-    → ltb (largest f) (n * 2 ^ place)
+pub past_by_code : (f : Format) (n place : ℕ) → 3 ≤ f.precision → (place ≡ 0) ⊎ (2 ^ (f.precision - 1) ≤ n)
+    → n ≤ 2 ^ f.precision → ltb (largest f) (n * 2 ^ place)
     ≡ ltb (largest_code f) (place * 2 ^ (f.precision - 1) + n)
 past_by_code f n place precise full fits =
     ⊎_elim
@@ -116,22 +111,19 @@ sign_bits false e t n bits top at is = omega (arith, is)
 -- the bits of a denormal number, or a zero
 low_encoded : (f : Format) (layout : Layout) (negative : Bool) (n bits : ℕ) → IsInterchange f layout
     → f.explicit_integer_bit ≡ false → MayHaveSign f.nonfinite negative n → n < 2 ^ (f.precision - 1)
-    → bits ≡ cond negative (2 ^ (layout.bits - 1)) 0 + n
-    → IsEncodedBy f layout bits (finite negative n)
+    → bits ≡ cond negative (2 ^ (layout.bits - 1)) 0 + n → IsEncodedBy f layout bits (finite negative n)
 low_encoded f layout negative n bits law implied sign low is =
     let x = fields_with negative 0 n in
     let width : trailing_bits f ≡ f.precision - 1 = cond-false f.explicit_integer_bit _ _ implied in
-    let sized = law.bits in
     let same : bits_of_fields f layout x ≡ bits =
     rw width (sign_bits negative layout.exponent_bits (f.precision - 1) n bits (layout.bits - 1)
-    (omega (arith, sized, width)) is) in
+    (omega (arith, law.bits, width)) is) in
     subst (λ (b : ℕ). IsEncodedBy f layout b (finite negative n)) same
     (fields_encode f layout x (finite negative n) law (low_fields_of f layout negative n law low sign))
 
 -- a significand with all its digits, within the largest value
 encoded_full : (f : Format) (layout : Layout) (negative : Bool) (place n bits : ℕ) → IsInterchange f layout
-    → f.explicit_integer_bit ≡ false → 2 ^ (f.precision - 1) ≤ n → n < 2 ^ f.precision
-    → n * 2 ^ place ≤ largest f
+    → f.explicit_integer_bit ≡ false → 2 ^ (f.precision - 1) ≤ n → n < 2 ^ f.precision → n * 2 ^ place ≤ largest f
     → bits ≡ cond negative (2 ^ (layout.bits - 1)) 0 + place * 2 ^ (f.precision - 1) + n
     → IsEncodedBy f layout bits (finite negative (n * 2 ^ place))
 encoded_full f layout negative place n bits law implied full fits within is =
@@ -139,10 +131,9 @@ encoded_full f layout negative place n bits law implied full fits within is =
     let width : trailing_bits f ≡ f.precision - 1 = cond-false f.explicit_integer_bit _ _ implied in
     let less : cond f.explicit_integer_bit 0 (2 ^ (f.precision - 1)) ≡ 2 ^ (f.precision - 1) =
     cond-false f.explicit_integer_bit _ _ implied in
-    let sized = law.bits in
     let same : bits_of_fields f layout x ≡ bits =
     rw (width, less) (joined_bits negative layout.exponent_bits (f.precision - 1) place n bits (layout.bits - 1) full
-    (omega (arith, sized, width)) is) in
+    (omega (arith, law.bits, width)) is) in
     subst (λ (b : ℕ). IsEncodedBy f layout b (finite negative (n * 2 ^ place))) same
     (fields_encode f layout x (finite negative (n * 2 ^ place)) law
     (high_fields_of f layout law negative place n full fits within))
@@ -151,8 +142,7 @@ encoded_full f layout negative place n bits law implied full fits within is =
 pub code_encoded : (f : Format) (layout : Layout) (negative : Bool) (place n bits : ℕ)
     → IsInterchange f layout → f.explicit_integer_bit ≡ false
     → MayHaveSign f.nonfinite negative n → (place ≡ 0) ⊎ (2 ^ (f.precision - 1) ≤ n) → n ≤ 2 ^ f.precision
-    → n * 2 ^ place ≤ largest f
-    → bits ≡ cond negative (2 ^ (layout.bits - 1)) 0 + place * 2 ^ (f.precision - 1) + n
+    → n * 2 ^ place ≤ largest f → bits ≡ cond negative (2 ^ (layout.bits - 1)) 0 + place * 2 ^ (f.precision - 1) + n
     → IsEncodedBy f layout bits (finite negative (n * 2 ^ place))
 code_encoded f layout negative place n bits law implied sign full fits within is =
     let precise = law.precise in
@@ -176,8 +166,7 @@ code_encoded f layout negative place n bits law implied sign full fits within is
     let top : n ≡ 2 * 2 ^ (f.precision - 1) = omega (arith, halves, fits, most) in
     let moved : n * 2 ^ place ≡ 2 ^ (f.precision - 1) * 2 ^ (place + 1) =
     ap (λ (x : ℕ). x * 2 ^ place) top ∙ carried (2 ^ (f.precision - 1)) place in
-    let there : 2 ^ (f.precision - 1) * 2 ^ (place + 1) ≤ largest f =
-    subst (λ (x : ℕ). x ≤ largest f) moved within in
+    let there : 2 ^ (f.precision - 1) * 2 ^ (place + 1) ≤ largest f = subst (λ (x : ℕ). x ≤ largest f) moved within in
     let bits_are : bits ≡ cond negative (2 ^ (layout.bits - 1)) 0 + (place + 1) * 2 ^ (f.precision - 1)
     + 2 ^ (f.precision - 1) = omega (arith, is, top) in
     subst Said (sym moved)

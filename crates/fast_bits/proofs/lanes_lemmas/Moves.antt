@@ -44,16 +44,15 @@ module _ (mode : Round) (negative : Bool) (rest half last : ℕ) (some : 0 < hal
   abbrev Said : Loss → Type 0
   Said loss = Carries half rest (added_to mode negative half last) (rounds_up mode negative loss (eqb (last % 2) 1))
 
-  by_loss : (rest ≡ 0 → Said ExactlyZero) → (rest < half → Said LessThanHalf)
-      → (rest ≡ half → Said ExactlyHalf)
-      → (half < rest → Said MoreThanHalf) → Said (loss_at rest half)
+  by_loss : (rest ≡ 0 → Said ExactlyZero) → (0 < rest → rest < half → Said LessThanHalf)
+      → (rest ≡ half → Said ExactlyHalf) → (half < rest → Said MoreThanHalf) → Said (loss_at rest half)
   by_loss none less equal more =
       ⊎_elim
       (λ (z : rest < 1).
       let e : rest ≡ 0 = omega (arith, z) in subst Said (sym (loss_zero rest half e)) (none e))
       (λ (p : 1 ≤ rest).
       ⊎_elim
-      (λ (l : rest < half). subst Said (sym (loss_less rest half (omega (arith, p)) l)) (less l))
+      (λ (l : rest < half). subst Said (sym (loss_less rest half (omega (arith, p)) l)) (less (omega (arith, p)) l))
       (λ (h : half ≤ rest).
       ⊎_elim
       (λ (m : half < rest). subst Said (sym (loss_more rest half m)) (more m))
@@ -74,41 +73,29 @@ pub carries : (mode : Round) (negative : Bool) (rest half last : ℕ) → 0 < ha
     → Carries half rest (added_to mode negative half last)
     (rounds_up mode negative (loss_at rest half) (eqb (last % 2) 1))
 carries NearestTiesToEven negative rest half last some below =
-    by_loss NearestTiesToEven negative rest half last some (λ e. omega (arith, e, some)) (λ l. omega (arith, l))
+    by_loss NearestTiesToEven negative rest half last some (λ e. omega (arith, e, some)) (λ p l. omega (arith, l))
     (λ e. subst
     (λ (n : ℕ). Carries half n (half - 1 + last % 2 ^ 1) (eqb (last % 2) 1)) (sym e)
     (tie_to_even half last (eqb (last % 2) 1) some refl))
     (λ m. omega (arith, m))
 carries NearestTiesToAway negative rest half last some below =
-    by_loss NearestTiesToAway negative rest half last some (λ e. omega (arith, e, some)) (λ l. omega (arith, l))
+    by_loss NearestTiesToAway negative rest half last some (λ e. omega (arith, e, some)) (λ p l. omega (arith, l))
     (λ e. omega (arith, e)) (λ m. omega (arith, m))
 carries TowardZero negative rest half last some below =
-    by_loss TowardZero negative rest half last some (λ e. omega (arith, below)) (λ l. omega (arith, below))
+    by_loss TowardZero negative rest half last some (λ e. omega (arith, below)) (λ p l. omega (arith, below))
     (λ e. omega (arith, below)) (λ m. omega (arith, below))
 carries TowardPositive true rest half last some below =
-    by_loss TowardPositive true rest half last some (λ e. omega (arith, below)) (λ l. omega (arith, below))
+    by_loss TowardPositive true rest half last some (λ e. omega (arith, below)) (λ p l. omega (arith, below))
     (λ e. omega (arith, below)) (λ m. omega (arith, below))
 carries TowardPositive false rest half last some below =
-    ⊎_elim
-    (λ (z : rest < 1).
-    let e : rest ≡ 0 = omega (arith, z) in
-    subst (Said TowardPositive false rest half last some) (sym (loss_zero rest half e)) (omega (arith, e, some)))
-    (λ (p : 1 ≤ rest).
-    by_loss TowardPositive false rest half last some (λ e. absurd (omega (arith, e, p))) (λ l. omega (arith, p))
-    (λ e. omega (arith, p)) (λ m. omega (arith, p)))
-    (cases_lt rest 1)
+    by_loss TowardPositive false rest half last some (λ e. omega (arith, e, some)) (λ p l. omega (arith, p))
+    (λ e. omega (arith, e, some)) (λ m. omega (arith, m))
 carries TowardNegative false rest half last some below =
-    by_loss TowardNegative false rest half last some (λ e. omega (arith, below)) (λ l. omega (arith, below))
+    by_loss TowardNegative false rest half last some (λ e. omega (arith, below)) (λ p l. omega (arith, below))
     (λ e. omega (arith, below)) (λ m. omega (arith, below))
 carries TowardNegative true rest half last some below =
-    ⊎_elim
-    (λ (z : rest < 1).
-    let e : rest ≡ 0 = omega (arith, z) in
-    subst (Said TowardNegative true rest half last some) (sym (loss_zero rest half e)) (omega (arith, e, some)))
-    (λ (p : 1 ≤ rest).
-    by_loss TowardNegative true rest half last some (λ e. absurd (omega (arith, e, p))) (λ l. omega (arith, p))
-    (λ e. omega (arith, p)) (λ m. omega (arith, p)))
-    (cases_lt rest 1)
+    by_loss TowardNegative true rest half last some (λ e. omega (arith, e, some)) (λ p l. omega (arith, p))
+    (λ e. omega (arith, e, some)) (λ m. omega (arith, m))
 
 -- the sum, cut, is the kept number, moved up as the mode asks
 next_by : (kept rest added unit : ℕ) (up : Bool) → 0 < unit → rest + added < 2 * unit
@@ -116,16 +103,13 @@ next_by : (kept rest added unit : ℕ) (up : Bool) → 0 < unit → rest + added
     → (kept * unit + (rest + added)) / unit ≡ cond up (kept + 1) kept
 next_by kept rest added unit true some short reaches =
     let more : kept * unit + (rest + added) ≡ (kept + 1) * unit + (rest + added - unit) = omega (arith, reaches) in
-    ap (λ (x : ℕ). x / unit) more
-    ∙ mul-add-div_right some (kept + 1) (rest + added - unit)
-    ∙ ap (λ (x : ℕ). kept + 1 + x) (div-eq_of_lt (omega (arith, short, reaches, some)))
-    ∙ omega arith
+    ap (λ (x : ℕ). x / unit) more ∙ mul-add-div_right some (kept + 1) (rest + added - unit)
+    ∙ ap (λ (x : ℕ). kept + 1 + x) (div-eq_of_lt (omega (arith, short, reaches, some))) ∙ omega arith
 next_by kept rest added unit false some short stays =
     mul-add-div_right some kept (rest + added) ∙ ap (λ (x : ℕ). kept + x) (div-eq_of_lt stays) ∙ omega arith
 
 -- at most a whole unit of the last kept digit, 2 * half, is added, so it carries at most once
-added_most : (mode : Round) (negative : Bool) (half last : ℕ) → 0 < half
-    → added_to mode negative half last ≤ 2 * half
+added_most : (mode : Round) (negative : Bool) (half last : ℕ) → 0 < half → added_to mode negative half last ≤ 2 * half
 added_most NearestTiesToEven negative half last some = omega (arith, some)
 added_most NearestTiesToAway negative half last some = omega (arith, some)
 added_most TowardZero negative half last some = omega (arith, some)
@@ -165,8 +149,7 @@ rounded_is mode negative t low some =
 
 -- the constants of a mode
 pub addend_rounds : (low : ℕ) (mode : Round) (negative : Bool) (always if_odd : ℕ) → 0 < low
-    → always ≡ added_for mode negative (2 ^ (low - 1))
-    → if_odd ≡ 2 ^ odd_for mode - 1 → (t : ℕ)
+    → always ≡ added_for mode negative (2 ^ (low - 1)) → if_odd ≡ 2 ^ odd_for mode - 1 → (t : ℕ)
     → (t + (always + bit_and (t / 2 ^ low) if_odd)) / 2 ^ low
     ≡ cond (rounds_up mode negative (loss_at (t % 2 ^ low) (2 ^ (low - 1))) (eqb (t / 2 ^ low % 2) 1))
     (t / 2 ^ low + 1) (t / 2 ^ low)

@@ -41,5 +41,4 @@ of_digits n below =
     (λ i. of_last (n % 2) (omega arith) i * of_digit (n / 2 % 2) 2 (omega arith) i
     * (of_digit (n / 4 % 2) 4 (omega arith) i * of_digit (n / 8 % 2) 8 (omega arith) i))
     ∙ sym ((λ i. pow-add 2 (n % 2) (n / 2 % 2 * 2) i * pow-add 2 (n / 4 % 2 * 4) (n / 8 % 2 * 8) i))
-    ∙ sym (pow-add 2 low high)
-    ∙ ap (λ (x : ℕ). 2 ^ x) sum
+    ∙ sym (pow-add 2 low high) ∙ ap (λ (x : ℕ). 2 ^ x) sum

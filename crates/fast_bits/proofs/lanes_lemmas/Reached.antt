@@ -1,6 +1,6 @@
 -- A single's significand at its place is scaled to a target.
 use Rattle.std.proofs.Common.{◌≡◌, ℕ, ◌+◌, ◌-◌, ◌*◌, ◌/◌, ◌%◌, ◌^◌, ◌<◌, ◌≤◌, ◌⊎◌, min, refl, sym, ap, ◌∙◌, subst, inl, inr, ⊎_elim, arith, ℤ, pos, ◌+ℤ◌, ◌-ℤ◌}
-use Rattle.std.proofs.Math.Nat.{min-eq_left, min-eq_right, mod-eq_of_lt, mul-le-mul_left, mul-le-mul_right, pow-le-pow_right, zero-div, zero-mod}
+use Rattle.std.proofs.Math.Nat.{min-eq_left, min-eq_right, mod-eq_of_lt, mul-le-mul_left, mul-le-mul_right, pow-le-pow_right, zero-div, zero-mod, min-le_right}
 use Rattle.std.proofs.lemmas.Int.{ints}
 use Rattle.std.proofs.lemmas.Nat.{pow-add, pow_pos}
 use Rattle.std.proofs.lemmas.Bool.{cases_lt}
@@ -35,8 +35,7 @@ zero_scaled precision low parts some any =
     }
 
 -- a significand with all digits, past all places
-past_at : (f : Format) (m e first : ℕ) → f.precision ≤ 24 → 149 ≡ f.scale + (24 - f.precision) + first
-    → 2 ^ 23 ≤ m
+past_at : (f : Format) (m e first : ℕ) → f.precision ≤ 24 → 149 ≡ f.scale + (24 - f.precision) + first → 2 ^ 23 ≤ m
     → first + (f.span + 1) ≤ e → IsPastTarget f (m * 2 ^ e * 2 ^ f.scale) (2 ^ 149)
 past_at f m e first digits scales full far =
     let low : 2 ^ (23 + e + f.scale) ≡ 2 ^ 23 * 2 ^ e * 2 ^ f.scale = pow3 23 e f.scale in
@@ -59,8 +58,7 @@ near_reached : (f : Format) (m place first : ℕ) → 3 ≤ f.precision → f.pr
     → 149 ≡ f.scale + (24 - f.precision) + first → 0 < m → m < 2 ^ 24 → (place ≡ 0) ⊎ (2 ^ 23 ≤ m)
     → IsScaled f.precision 16
     (odd_quotient m (2 ^ 9) * 2 ^ (f.precision + 1 - (first - place))
-    + (place - first) * 2 ^ (f.precision - 1 + 16))
-    (m * 2 ^ place * 2 ^ f.scale) (2 ^ 149)
+    + (place - first) * 2 ^ (f.precision - 1 + 16)) (m * 2 ^ place * 2 ^ f.scale) (2 ^ 149)
 near_reached f m place first precise digits scales some fits full =
     let p = f.precision in
     let cut : p + (14 - p) + 1 + 9 ≡ 24 = omega (arith, digits) in
@@ -127,8 +125,7 @@ zero_reached f m place first precise none last =
     let quotient : 0 / 2 ^ 9 ≡ 0 = zero-div (2 ^ 9) in
     let rest : 0 % 2 ^ 9 ≡ 0 = zero-mod (2 ^ 9) in
     let odd : odd_quotient m (2 ^ 9) ≡ 0 =
-    ap (λ (n : ℕ). odd_quotient n (2 ^ 9)) none
-    ∙ exact_odd (0 / 2 ^ 9) (0 % 2 ^ 9) rest ∙ quotient in
+    ap (λ (n : ℕ). odd_quotient n (2 ^ 9)) none ∙ exact_odd (0 / 2 ^ 9) (0 % 2 ^ 9) rest ∙ quotient in
     let above : min (place - first) (f.span + 1) ≡ 0 =
     let is : place - first ≡ 0 = omega (arith, last) in
     ap (λ (n : ℕ). min n (f.span + 1)) is ∙ min-eq_left (let least : 0 ≤ f.span + 1 = omega arith in least) in
@@ -156,24 +153,18 @@ steps_below : (f : Format) (layout : Layout) (min_exp max_exp : ℤ) (m place fi
 steps_below f layout min_exp max_exp m place first is fits =
     let p = f.precision in
     let precise = is.precise in
-    let digits = is.digits in
     let odd = odd_quotient m (2 ^ 9) in
     let odd_fits : odd < 2 * 2 ^ 14 =
     odd_below m (2 ^ 9) (2 ^ 14) (pow_pos 9) (let below : m < 2 * 2 ^ 14 * 2 ^ 9 = omega (arith, fits) in below) in
     let odd_most : odd ≤ 2 ^ 15 = omega (arith, odd_fits) in
-    let up_most : p + 1 - (first - place) ≤ 12 = omega (arith, digits) in
+    let up_most : p + 1 - (first - place) ≤ 12 = omega (arith, is.digits) in
     let up : 2 ^ (p + 1 - (first - place)) ≤ 2 ^ 12 = pow-le-pow_right two_pos up_most in
     let left : odd * 2 ^ (p + 1 - (first - place)) ≤ 2 ^ 15 * 2 ^ (p + 1 - (first - place)) =
     mul-le-mul_right (2 ^ (p + 1 - (first - place))) odd_most in
     let left_most : 2 ^ 15 * 2 ^ (p + 1 - (first - place)) ≤ 2 ^ 15 * 2 ^ 12 = mul-le-mul_left (2 ^ 15) up in
     let places = places_below f layout min_exp max_exp is in
-    let above : min (place - first) (f.span + 1) ≤ f.span + 2 =
-    ⊎_elim {C = min (place - first) (f.span + 1) ≤ f.span + 2}
-    (λ (l : place - first < f.span + 1).
-    let le : place - first ≤ f.span + 1 = omega (arith, l) in
-    let e = min-eq_left le in omega (arith, e, l))
-    (λ (l : f.span + 1 ≤ place - first). let e = min-eq_right l in omega (arith, e))
-    (cases_lt (place - first) (f.span + 1)) in
+    let most = min-le_right (place - first) (f.span + 1) in
+    let above : min (place - first) (f.span + 1) ≤ f.span + 2 = omega (arith, most) in
     let right : min (place - first) (f.span + 1) * 2 ^ (p - 1) ≤ (f.span + 2) * 2 ^ (p - 1) =
     mul-le-mul_right (2 ^ (p - 1)) above in
     (omega (arith, left, left_most), omega (arith, right, places))
@@ -192,8 +183,7 @@ pub record AreSteps (f : Format) (kept rest m place : ℕ) : Type 0 where
 pub steps_are : (f : Format) (layout : Layout) (min_exp max_exp : ℤ) (m place first odd above up moved places : ℕ)
     → IsTarget f layout min_exp max_exp → pos f.scale ≡ pos (f.precision - 1) -ℤ min_exp
     → m < 2 ^ 24 → (place ≡ 0) ⊎ (2 ^ 23 ≤ m) → pos first ≡ (min_exp +ℤ pos 126)
-    → odd ≡ odd_quotient m (2 ^ 9) → above ≡ min (place - first) (f.span + 1)
-    → up ≡ f.precision + 1 - (first - place)
+    → odd ≡ odd_quotient m (2 ^ 9) → above ≡ min (place - first) (f.span + 1) → up ≡ f.precision + 1 - (first - place)
     → moved ≡ odd * 2 ^ up → places ≡ above * 2 ^ (f.precision - 1) % 65536
     → AreSteps f (moved / 65536 + places) (moved % 65536) m place
 unfolding steps
@@ -218,8 +208,7 @@ steps_are f layout min_exp max_exp m place first odd above up moved places is sc
     ⊎_elim {C = IsReachedLane f (steps f first m place) (m * 2 ^ place * 2 ^ f.scale) (2 ^ 149)}
     (λ (z : m < 1).
     let none : m ≡ 0 = omega (arith, z) in
-    let last : place ≡ 0 =
-    ⊎_elim (λ (e : place ≡ 0). e) (λ (h : 2 ^ 23 ≤ m). absurd (omega (arith, h, z))) full in
+    let last : place ≡ 0 = ⊎_elim (λ (e : place ≡ 0). e) (λ (h : 2 ^ 23 ≤ m). absurd (omega (arith, h, z))) full in
     zero_reached f m place first is.precise none last)
     (λ (some : 1 ≤ m). some_reached f m place first is.precise is.digits scales some fits full)
     (cases_lt m 1) in

@@ -1,8 +1,8 @@
 -- Finite singles, read from their bits, and their conversions.
 use Rattle.std.proofs.Common.{◌≡◌, ℕ, ◌+◌, ◌-◌, ◌*◌, ◌/◌, ◌%◌, ◌^◌, ◌<◌, ◌≤◌, min, Bool, true, false, cond, not, ◌&&◌, ◌||◌, eqb, refl, sym, ap, ◌∙◌, subst, ⊎_elim, arith}
-use Rattle.std.proofs.Math.Nat.{min-eq_left, min-eq_right, mul-le-mul_right}
+use Rattle.std.proofs.Math.Nat.{min-eq_right, le_of_mul-le-mul_right}
 use Rattle.std.proofs.lemmas.Nat.{pow_pos}
-use Rattle.std.proofs.lemmas.Bool.{cases_eq, cases_lt, cond-false, eq-eqb, ne_eqb}
+use Rattle.std.proofs.lemmas.Bool.{cases_eq, cond-false, eq-eqb, ne_eqb}
 use Rattle.apfloat_model.specs.arithmetic.Conversions.{loses_zero_sign}
 use Rattle.apfloat_model.specs.bits.Layout.{Layout, all_ones, datum_of, datum_of_fields, implied_datum, implied_number, trailing_bits}
 use Rattle.apfloat_model.specs.declared.kinds.NonfiniteBehavior.{NonfiniteBehavior}
@@ -27,35 +27,32 @@ abbrev pub place_of : ℕ → ℕ
 place_of a = a / 2 ^ 23 - 1
 
 -- the number that fields below the greatest exponent encode
-fields_number : (f : Format) (layout : Layout) (negative : Bool) (biased trailing : ℕ) → f.nonfinite ≡ IEEE754
-    → f.explicit_integer_bit ≡ false → f.precision ≡ 24 → eqb biased (all_ones layout.exponent_bits) ≡ false
+pub fields_number : (f : Format) (layout : Layout) (negative : Bool) (biased trailing : ℕ) → f.nonfinite ≡ IEEE754
+    → f.explicit_integer_bit ≡ false → eqb biased (all_ones layout.exponent_bits) ≡ false
     → datum_of_fields f layout (fields_with negative biased trailing)
-    ≡ finite negative ((trailing + min biased 1 * 2 ^ 23) * 2 ^ (biased - 1))
-fields_number f layout negative biased trailing kind implied digits few =
-    let unit : smallest_normalized f ≡ 2 ^ 23 = ap (λ (n : ℕ). 2 ^ (n - 1)) digits in
+    ≡ finite negative ((trailing + min biased 1 * 2 ^ (f.precision - 1)) * 2 ^ (biased - 1))
+fields_number f layout negative biased trailing kind implied few =
     cond-false f.explicit_integer_bit _ _ implied
-    ∙ ap (λ (k : NonfiniteBehavior). implied_datum k f layout (fields_with negative biased trailing)) kind
-    ∙ rw few
+    ∙ ap (λ (k : NonfiniteBehavior). implied_datum k f layout (fields_with negative biased trailing)) kind ∙ rw few
     (⊎_elim {C = implied_number f (fields_with negative biased trailing)
-    ≡ finite negative ((trailing + min biased 1 * 2 ^ 23) * 2 ^ (biased - 1))}
+    ≡ finite negative ((trailing + min biased 1 * 2 ^ (f.precision - 1)) * 2 ^ (biased - 1))}
     (λ (none : biased ≡ 0).
-    let same : trailing ≡ (trailing + min biased 1 * 2 ^ 23) * 2 ^ (biased - 1) =
-    rw none (let e : trailing ≡ (trailing + 0 * 2 ^ 23) * 2 ^ 0 = omega arith in e) in
+    let same : trailing ≡ (trailing + min biased 1 * 2 ^ (f.precision - 1)) * 2 ^ (biased - 1) =
+    rw none (let e : trailing ≡ (trailing + 0 * 2 ^ (f.precision - 1)) * 2 ^ 0 = omega arith in e) in
     rw (eq-eqb biased 0 none) (ap (finite negative) same))
     (λ (some : biased ≡ 0 → ⊥).
-    let least : 1 ≤ biased =
-    ⊎_elim {C = 1 ≤ biased} (λ (z : biased < 1). absurd (some (omega (arith, z)))) (λ (p : 1 ≤ biased). p)
-    (cases_lt biased 1) in
+    let least : 1 ≤ biased = omega (arith, some) in
     let one : min biased 1 ≡ 1 = min-eq_right least in
-    let significand : smallest_normalized f + trailing ≡ trailing + min biased 1 * 2 ^ 23 =
-    omega (arith, unit, one) in
+    let times : min biased 1 * 2 ^ (f.precision - 1) ≡ 1 * 2 ^ (f.precision - 1) =
+    ap (λ (n : ℕ). n * 2 ^ (f.precision - 1)) one in
+    let significand : smallest_normalized f + trailing ≡ trailing + min biased 1 * 2 ^ (f.precision - 1) =
+    omega (arith, times) in
     rw (ne_eqb biased 0 some) (ap (λ (n : ℕ). finite negative (n * 2 ^ (biased - 1))) significand))
     (cases_eq biased 0))
 
 -- the fields of the bits of a single
 pub single_read : (f : Format) (layout : Layout) (x : ℕ) → IsSingleFormat f layout → x < 2 ^ 32
-    → x % 2 ^ 31 < 255 * 2 ^ 23
-    → datum_of f layout x
+    → x % 2 ^ 31 < 255 * 2 ^ 23 → datum_of f layout x
     ≡ finite (eqb (x / 2 ^ 31) 1) (significand_of (x % 2 ^ 31) * 2 ^ place_of (x % 2 ^ 31))
 single_read f layout x single word few =
     let width : trailing_bits f ≡ 23 =
@@ -74,26 +71,20 @@ single_read f layout x single word few =
     ne_eqb (x % 2 ^ 31 / 2 ^ 23) (all_ones layout.exponent_bits) (λ e. omega (arith, e, ones, below)) in
     (λ i. datum_of_fields f layout (fields_with (eqb (sign i) 1) (biased i) (trailing i)))
     ∙ fields_number f layout (eqb (x / 2 ^ 31) 1) (x % 2 ^ 31 / 2 ^ 23) (x % 2 ^ 31 % 2 ^ 23) single.nonfinite
-    single.implied single.precision not_all
+    single.implied not_all
+    ∙ ap (λ (p : ℕ). finite (eqb (x / 2 ^ 31) 1) ((x % 2 ^ 31 % 2 ^ 23 + min (x % 2 ^ 31 / 2 ^ 23) 1 * 2 ^ (p - 1))
+    * 2 ^ place_of (x % 2 ^ 31))) single.precision
+
+-- a product is zero only if one of its factors is
+pub zero_factor : (m unit : ℕ) → 0 < unit → m * unit ≡ 0 → m ≡ 0
+zero_factor m unit some none =
+    let low : m ≤ 0 = le_of_mul-le-mul_right (omega (arith, none)) some in omega (arith, low)
 
 -- a number is zero exactly if its magnitude's bits are
 zero_back : (a : ℕ) → significand_of a * 2 ^ place_of a ≡ 0 → a ≡ 0
 zero_back a none =
-    let unit : 0 < 2 ^ place_of a = pow_pos (place_of a) in
-    ⊎_elim {C = a ≡ 0}
-    (λ (l : a / 2 ^ 23 < 1).
-    let le : a / 2 ^ 23 ≤ 1 = omega (arith, l) in
-    let e = min-eq_left le in
-    let last : place_of a ≡ 0 = omega (arith, l) in
-    let whole : significand_of a * 2 ^ place_of a ≡ significand_of a =
-    ap (λ (n : ℕ). significand_of a * 2 ^ n) last ∙ omega arith in
-    omega (arith, e, l, whole, none))
-    (λ (l : 1 ≤ a / 2 ^ 23).
-    let e = min-eq_right l in
-    let some : 1 ≤ significand_of a = omega (arith, e) in
-    let more : 1 * 2 ^ place_of a ≤ significand_of a * 2 ^ place_of a = mul-le-mul_right (2 ^ place_of a) some in
-    absurd (omega (arith, more, unit, none)))
-    (cases_lt (a / 2 ^ 23) 1)
+    let nothing = zero_factor (significand_of a) (2 ^ place_of a) (pow_pos (place_of a)) none in
+    omega (arith, nothing)
 
 -- ---- conversions
 
@@ -144,14 +135,12 @@ with_inexact lane inexact =
 
 -- the lane of a finite single: its quanta are 2 ^ -149, so it is quanta * 2 ^ f.scale / 2 ^ 149 quanta of f
 module _ (saturates : Bool) (single : Format) (read : Layout) (f : Format) (layout : Layout) (mode : Round)
-    (negative : Bool)
-    (quanta bits : ℕ) (lane : Lane) (number : datum_of single read bits ≡ finite negative quanta)
+    (negative : Bool) (quanta bits : ℕ) (lane : Lane) (number : datum_of single read bits ≡ finite negative quanta)
     (scale : single.scale ≡ 149) where
   abbrev pub Rounded : Type 0
   Rounded = IsRounded saturates f layout mode negative (quanta * 2 ^ f.scale) (2 ^ 149) lane
 
-  zero_converted : (loses : Bool) → quanta ≡ 0 → 0 < f.precision → loses ≡ loses_zero_sign f negative
-      → Rounded
+  zero_converted : (loses : Bool) → quanta ≡ 0 → 0 < f.precision → loses ≡ loses_zero_sign f negative → Rounded
       → IsConvertedLane saturates single read f layout mode bits (with_inexact lane (lane.inexact || loses))
   zero_converted loses none precise lost it =
       let amount : quanta * 2 ^ f.scale ≡ 0 = ap (λ (n : ℕ). n * 2 ^ f.scale) none ∙ omega arith in

@@ -39,15 +39,13 @@ pub far_single : (f : Format) (significand : ℕ) → f.precision + f.span ≤ f
     → IsFarAbove f (significand * 2 ^ 254 * 2 ^ f.scale) (2 ^ 149)
 far_single f significand below full =
     let top : 2 ^ (f.precision + f.span) ≤ 2 ^ (f.scale + 128) = pow-le-pow_right two_pos below in
-    let first : 2 ^ (f.precision + f.span) * 2 ^ 149 ≤ 2 ^ (f.scale + 128) * 2 ^ 149 =
-    mul-le-mul_right (2 ^ 149) top in
+    let first : 2 ^ (f.precision + f.span) * 2 ^ 149 ≤ 2 ^ (f.scale + 128) * 2 ^ 149 = mul-le-mul_right (2 ^ 149) top in
     let parts : 2 ^ (f.scale + 128) ≡ 2 ^ f.scale * 2 ^ 128 = pow-add 2 f.scale 128 in
     let same : 2 ^ f.scale * 2 ^ 128 * 2 ^ 149 ≡ 2 ^ 23 * 2 ^ 254 * 2 ^ f.scale = omega arith in
     let second : 2 ^ 23 * 2 ^ 254 ≤ significand * 2 ^ 254 = mul-le-mul_right (2 ^ 254) full in
     let last : 2 ^ 23 * 2 ^ 254 * 2 ^ f.scale ≤ significand * 2 ^ 254 * 2 ^ f.scale =
     mul-le-mul_right (2 ^ f.scale) second in
-    let moved : 2 ^ (f.scale + 128) * 2 ^ 149 ≡ 2 ^ f.scale * 2 ^ 128 * 2 ^ 149 =
-    ap (λ (n : ℕ). n * 2 ^ 149) parts in
+    let moved : 2 ^ (f.scale + 128) * 2 ^ 149 ≡ 2 ^ f.scale * 2 ^ 128 * 2 ^ 149 = ap (λ (n : ℕ). n * 2 ^ 149) parts in
     record { some = pow_pos 149; from = omega (arith, first, moved, same, last) }
 
 flag_most : (flag : ℕ) (holds : Bool) → flag_if flag holds ≤ flag
@@ -92,8 +90,7 @@ past_lane f layout mode negative amount parts lane some out far it =
 -- the lane of an infinity or a NaN, taken for a number with the exponent after the greatest one
 pub past_single : (saturates : Bool) (f : Format) (layout : Layout) (mode : Round) (negative : Bool) (a : ℕ)
     (lane : Lane) → f.precision + f.span ≤ f.scale + 128 → 0 < f.precision → saturates ≡ false
-    → leads_out mode negative ≡ true
-    → 255 * 2 ^ 23 ≤ a → a < 2 ^ 31
+    → leads_out mode negative ≡ true → 255 * 2 ^ 23 ≤ a → a < 2 ^ 31
     → IsRounded saturates f layout mode negative (significand_of a * 2 ^ place_of a * 2 ^ f.scale) (2 ^ 149) lane
     → IsPastLane f layout negative lane
 past_single saturates f layout mode negative a lane reach some kept out high below it =
@@ -114,11 +111,9 @@ pub target_reach : (t : Target) → (format_at t).precision + (format_at t).span
 target_reach t =
     let precise = t.lawful.precise in
     let low = t.lawful.below in
-    let order = t.lawful.order in
-    let greatest = t.lawful.greatest in
     let scale : pos (format_at t).scale ≡ pos (t.precision - 1) -ℤ t.min_exp = omega (arith, ints, precise, low) in
-    let span : pos (format_at t).span ≡ t.max_exp -ℤ t.min_exp = omega (arith, ints, order) in
-    omega (arith, ints, scale, span, greatest, precise)
+    let span : pos (format_at t).span ≡ t.max_exp -ℤ t.min_exp = omega (arith, ints, t.lawful.order) in
+    omega (arith, ints, scale, span, t.lawful.greatest, precise)
 
 -- ---- from bits
 
@@ -127,8 +122,7 @@ special_datum negative s = cond (eqb s 0) (infinite negative) (nan negative s)
 
 -- the fields of the bits of an infinity or a NaN
 pub special_read : (f : Format) (layout : Layout) (x : ℕ) → IsSingleFormat f layout → x < 2 ^ 32
-    → 255 * 2 ^ 23 ≤ x % 2 ^ 31
-    → datum_of f layout x ≡ special_datum (eqb (x / 2 ^ 31) 1) (x % 2 ^ 23)
+    → 255 * 2 ^ 23 ≤ x % 2 ^ 31 → datum_of f layout x ≡ special_datum (eqb (x / 2 ^ 31) 1) (x % 2 ^ 23)
 special_read f layout x single word high =
     let width : trailing_bits f ≡ 23 =
     cond-false f.explicit_integer_bit _ _ single.implied ∙ ap (λ (n : ℕ). n - 1) single.precision in
@@ -143,19 +137,16 @@ special_read f layout x single word high =
     (λ i. datum_of_fields f layout (fields_with (eqb (sign i) 1) (biased i) (trailing i)))
     ∙ cond-false f.explicit_integer_bit _ _ single.implied
     ∙ ap (λ (k : NonfiniteBehavior). implied_datum k f layout (fields_with (eqb (x / 2 ^ 31) 1) 255 (x % 2 ^ 23)))
-    single.nonfinite
-    ∙ rw ones refl
+    single.nonfinite ∙ rw ones refl
 
 -- ---- NaNs
 
 -- the bit that makes a single's NaN quiet
 single_quiet : (f : Format) (layout : Layout) → IsSingleFormat f layout → quiet_bits f ≡ 2 ^ 22
-single_quiet f layout single =
-    (λ i. quiet_bits_of (single.nonfinite i) (single.implied i) (single.precision i))
+single_quiet f layout single = (λ i. quiet_bits_of (single.nonfinite i) (single.implied i) (single.precision i))
 
 quiet_bit_set : (s : ℕ) → s < 2 ^ 23 → 2 ^ 22 ≤ s → bit_and s (2 ^ 22) ≡ 2 ^ 22
-quiet_bit_set s below set =
-    and_pow s 22 ∙ (let e : s / 2 ^ 22 % 2 * 2 ^ 22 ≡ 2 ^ 22 = omega (arith, below, set) in e)
+quiet_bit_set s below set = and_pow s 22 ∙ (let e : s / 2 ^ 22 % 2 * 2 ^ 22 ≡ 2 ^ 22 = omega (arith, below, set) in e)
 
 quiet_bit_clear : (s : ℕ) → s < 2 ^ 22 → bit_and s (2 ^ 22) ≡ 0
 quiet_bit_clear s below = and_pow s 22 ∙ (let e : s / 2 ^ 22 % 2 * 2 ^ 22 ≡ 0 = omega (arith, below) in e)
@@ -179,8 +170,7 @@ quieted_is f layout s single below =
     (λ i. cond (signaling_is f layout s single below i) (bit_or s (quiet i)) s)
     ∙ ⊎_elim {C = cond (ltb s (2 ^ 22)) (bit_or s (2 ^ 22)) s ≡ s % 2 ^ 22 + 2 ^ 22}
     (λ (l : s < 2 ^ 22).
-    ap (λ (b : Bool). cond b (bit_or s (2 ^ 22)) s) (lt-ltb s (2 ^ 22) l)
-    ∙ or_disjoint s (2 ^ 22) (quiet_bit_clear s l)
+    ap (λ (b : Bool). cond b (bit_or s (2 ^ 22)) s) (lt-ltb s (2 ^ 22) l) ∙ or_disjoint s (2 ^ 22) (quiet_bit_clear s l)
     ∙ (let e : s + 2 ^ 22 ≡ s % 2 ^ 22 + 2 ^ 22 = omega (arith, l) in e))
     (λ (l : 2 ^ 22 ≤ s).
     ap (λ (b : Bool). cond b (bit_or s (2 ^ 22)) s) (le-ltb s (2 ^ 22) l)
@@ -222,13 +212,9 @@ quiet_is g d kind implied precise it =
     let parts : d ≡ 1 * 2 ^ (g.precision - 2) + (d - 2 ^ (g.precision - 2)) = omega (arith, from) in
     let one : 2 ^ (g.precision - 2) ≡ 1 * 2 ^ (g.precision - 2) + 0 = omega arith in
     (λ i. bit_or (bit_or (nan_base_of (kind i) p) (quiet_bits_of (kind i) (implied i) p))
-    (bit_and d (payload_mask_of (kind i) p)))
-    ∙ (λ i. bit_or (or_zero_l unit i) (and_mask d (p - 1) i))
-    ∙ ap (bit_or unit) (mod-eq_of_lt below)
-    ∙ (λ i. bit_or (one i) (parts i))
-    ∙ or_block (p - 2) 1 1 0 (d - unit) (pow_pos (p - 2)) rest
-    ∙ (λ i. 1 * unit + or_zero_l (d - unit) i)
-    ∙ sym parts
+    (bit_and d (payload_mask_of (kind i) p))) ∙ (λ i. bit_or (or_zero_l unit i) (and_mask d (p - 1) i))
+    ∙ ap (bit_or unit) (mod-eq_of_lt below) ∙ (λ i. bit_or (one i) (parts i))
+    ∙ or_block (p - 2) 1 1 0 (d - unit) (pow_pos (p - 2)) rest ∙ (λ i. 1 * unit + or_zero_l (d - unit) i) ∙ sym parts
 
 -- what a single's NaN becomes, if there are infinities too
 nan_of_digits : (f g : Format) (layout : Layout) (negative : Bool) (s : ℕ) → IsSingleFormat f layout → s < 2 ^ 23
@@ -239,8 +225,7 @@ nan_of_digits f g layout negative s single below kind implied precise few =
     let none : g.precision - 24 ≡ 0 = omega (arith, few) in
     let whole : (s % 2 ^ 22 + 2 ^ 22) * 2 ^ 0 ≡ s % 2 ^ 22 + 2 ^ 22 = omega arith in
     let mask : payload_mask f ≡ 2 ^ 23 - 1 = (λ i. payload_mask_of (single.nonfinite i) (single.precision i)) in
-    let out : places_out f g ≡ 24 - g.precision =
-    (λ i. cond (eqb (mask i) 0) 0 (single.precision i - g.precision)) in
+    let out : places_out f g ≡ 24 - g.precision = (λ i. cond (eqb (mask i) 0) 0 (single.precision i - g.precision)) in
     let shift : g.precision - f.precision ≡ 0 = ap (λ (n : ℕ). g.precision - n) single.precision ∙ none in
     let payload : quieted f s * 2 ^ (g.precision - f.precision) / 2 ^ places_out f g ≡ d =
     (λ i. quieted_is f layout s single below i * 2 ^ shift i / 2 ^ out i)
@@ -318,8 +303,7 @@ module _ (f : Format) (read : Layout) (g : Format) (layout : Layout) (mode : Rou
     loses = not (has_infinities g.nonfinite);
     is_conversion = record {
       value_is = refl;
-      status_is =
-          infinity_flags g.nonfinite lane digits payload past.inexact past.underflow past.invalid;
+      status_is = infinity_flags g.nonfinite lane digits payload past.inexact past.underflow past.invalid;
       loses_is = refl;
     };
     is_encoded = past.is_encoded;
@@ -375,11 +359,9 @@ module _ (f : Format) (read : Layout) (g : Format) (layout : Layout) (mode : Rou
           value = nan negative d;
           loses = nan_loses f g (x % 2 ^ 23);
           is_conversion = record {
-            value_is =
-                sym (nan_of_digits f g read negative (x % 2 ^ 23) single (omega arith) is implied precise few);
+            value_is = sym (nan_of_digits f g read negative (x % 2 ^ 23) single (omega arith) is implied precise few);
             status_is =
-                nan_flags IEEE754 lane digits payload (is_signaling f (x % 2 ^ 23)) signals past.underflow
-                past.invalid;
+                nan_flags IEEE754 lane digits payload (is_signaling f (x % 2 ^ 23)) signals past.underflow past.invalid;
             loses_is = refl;
           };
           is_encoded =
@@ -426,8 +408,7 @@ quiet_first places unit n some =
     let parts = mod-mul n (pow_pos places) some in
     let sum : n % (2 ^ places * unit) + 2 ^ places * unit ≡ (n / unit % 2 ^ places + 2 ^ places) * unit + n % unit =
     omega (arith, parts) in
-    ap (λ (m : ℕ). m / unit) sum
-    ∙ div-mul-add (n / unit % 2 ^ places + 2 ^ places) unit (n % unit) (mod-lt n some)
+    ap (λ (m : ℕ). m / unit) sum ∙ div-mul-add (n / unit % 2 ^ places + 2 ^ places) unit (n % unit) (mod-lt n some)
 
 -- what sixteen digits tell of a single's trailing significand
 module _ (precision s payload : ℕ) (precise : 3 ≤ precision) (few : precision ≤ 11)
@@ -471,8 +452,7 @@ module _ (precision s payload : ℕ) (precise : 3 ≤ precision) (few : precisio
       (subst (λ (n : ℕ). 2 ^ (precision - 2) ≤ n) it.digits first)))
 
 -- both halves keep all digits that a target has
-pub word_payload : (precision s payload : ℕ) → precision ≤ 11 → payload ≡ s / 2 ^ 7
-    → IsPayload precision s payload
+pub word_payload : (precision s payload : ℕ) → precision ≤ 11 → payload ≡ s / 2 ^ 7 → IsPayload precision s payload
 word_payload precision s payload few is =
     let places : 24 - precision ≡ 7 + (17 - precision) = omega (arith, few) in
     let cut : 2 ^ (24 - precision) ≡ 2 ^ 7 * 2 ^ (17 - precision) =
@@ -495,8 +475,7 @@ half_payload precision h x few is =
     ap (λ (n : ℕ). 2 ^ n) second ∙ pow-add 2 18 (6 - precision) in
     let u = h % 2 ^ 7 * 2 ^ 9 in
     let v = x % 2 ^ 23 in
-    let made : h % 2 ^ 7 * 2 ^ 9 / 2 ^ 11 ≡ x % 2 ^ 23 / 2 ^ 18
-    → IsPayload precision (x % 2 ^ 23) (h % 2 ^ 7 * 2 ^ 9) =
+    let made : h % 2 ^ 7 * 2 ^ 9 / 2 ^ 11 ≡ x % 2 ^ 23 / 2 ^ 18 → IsPayload precision (x % 2 ^ 23) (h % 2 ^ 7 * 2 ^ 9) =
     λ same. record {
       digits =
           ap (λ (n : ℕ). u / n) cut ∙ sym (div-div-eq-div-mul u (2 ^ 11) (2 ^ (6 - precision)))
@@ -516,8 +495,7 @@ pub half_nan : (h x : ℕ) → h ≡ odd_quotient x (2 ^ 16) → 255 * 2 ^ 7 ≤
     → ltb (255 * 2 ^ 7) (h % 2 ^ 15) ≡ not (eqb (x % 2 ^ 23) 0)
 half_nan h x is high =
     let Says : Type 0 = ltb (255 * 2 ^ 7) (h % 2 ^ 15) ≡ not (eqb (x % 2 ^ 23) 0) in
-    let by : (h % 2 ^ 15 ≡ 255 * 2 ^ 7 → x % 2 ^ 23 ≡ 0) → (x % 2 ^ 23 ≡ 0 → h % 2 ^ 15 ≡ 255 * 2 ^ 7)
-    → Says =
+    let by : (h % 2 ^ 15 ≡ 255 * 2 ^ 7 → x % 2 ^ 23 ≡ 0) → (x % 2 ^ 23 ≡ 0 → h % 2 ^ 15 ≡ 255 * 2 ^ 7) → Says =
     λ forth back. ⊎_elim {C = Says}
     (λ (none : x % 2 ^ 23 ≡ 0).
     let same = back none in

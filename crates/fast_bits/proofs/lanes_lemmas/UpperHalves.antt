@@ -79,13 +79,7 @@ half_alone h =
 
 -- the places that a significand is moved up, counted from the first number that is not
 up_is : (n first : ℕ) → 1 ≤ first → 7 - (first + 6 - (n - 1)) ≡ min (n - first) 7
-up_is n first some =
-    ⊎_elim {C = 7 - (first + 6 - (n - 1)) ≡ min (n - first) 7}
-    (λ (l : n - first < 7).
-    let le : n - first ≤ 7 = omega (arith, l) in
-    let e = min-eq_left le in omega (arith, e, l, some))
-    (λ (l : 7 ≤ n - first). let e = min-eq_right l in omega (arith, e, l))
-    (cases_lt (n - first) 7)
+up_is n first some = omega (arith, some)
 
 -- a significand, by its integer bit
 significand_fits : (a : ℕ) → (significand_of a < 2 ^ 24) × ((place_of a ≡ 0) ⊎ (2 ^ 23 ≤ significand_of a))
@@ -99,8 +93,7 @@ significand_fits a =
 
 pub half_scaled : (f : Format) (min_exp : ℤ) (x h first : ℕ) → 3 ≤ f.precision → f.precision ≤ 6
     → pos f.scale ≡ pos (f.precision - 1) -ℤ min_exp → negsuc 118 ≤ℤ min_exp
-    → pos first ≡ (min_exp +ℤ pos 120) → IsHalf h x
-    → IsScaled f.precision (15 - f.precision)
+    → pos first ≡ (min_exp +ℤ pos 120) → IsHalf h x → IsScaled f.precision (15 - f.precision)
     (short_significand (h % 2 ^ 15) * 2 ^ min (h % 2 ^ 15 / 2 ^ 7 - first) 7
     + (h % 2 ^ 15 / 2 ^ 7 - (first + 7)) * 2 ^ 14)
     (significand_of (x % 2 ^ 31) * 2 ^ place_of (x % 2 ^ 31) * 2 ^ f.scale) (2 ^ 149)
@@ -122,8 +115,7 @@ half_scaled f min_exp x h first precise digits scale least first_is it =
     let all : odd_quotient m (2 ^ 16) * 2 ^ (15 - p - (7 - p + 1) - (first + 6 - e))
     + (e - (first + 6)) * 2 ^ (p - 1 + (15 - p))
     ≡ short_significand (h % 2 ^ 15) * 2 ^ min (h % 2 ^ 15 / 2 ^ 7 - first) 7
-    + (h % 2 ^ 15 / 2 ^ 7 - (first + 7)) * 2 ^ 14 =
-    (λ i. sym it.significand i * 2 ^ up i + above i * 2 ^ unit i) in
+    + (h % 2 ^ 15 / 2 ^ 7 - (first + 7)) * 2 ^ 14 = (λ i. sym it.significand i * 2 ^ up i + above i * 2 ^ unit i) in
     let cut : 24 ≡ p + (7 - p) + 1 + 16 = omega (arith, digits) in
     let cut_full : 23 ≡ p + (7 - p) + 16 = omega (arith, digits) in
     let fits = significand_fits a in
@@ -132,8 +124,7 @@ half_scaled f min_exp x h first precise digits scale least first_is it =
     + (e - (first + 6)) * 2 ^ (p - 1 + (15 - p))) (m * 2 ^ e * 2 ^ f.scale) (2 ^ 149)}
     (λ (z : m < 1).
     let none : 0 ≡ m = omega (arith, z) in
-    let last : e ≡ 0 =
-    ⊎_elim (λ (l : e ≡ 0). l) (λ (l : 2 ^ 23 ≤ m). absurd (omega (arith, l, z))) fits.1 in
+    let last : e ≡ 0 = ⊎_elim (λ (l : e ≡ 0). l) (λ (l : 2 ^ 23 ≤ m). absurd (omega (arith, l, z))) fits.1 in
     let odd : 0 ≡ odd_quotient m (2 ^ 16) = ap (λ (n : ℕ). odd_quotient n (2 ^ 16)) none in
     let place : 0 ≡ e - (first + 6) = omega (arith, last) in
     let digits_none : 0 ≡ odd_quotient m (2 ^ 16) * 2 ^ (15 - p - (7 - p + 1) - (first + 6 - e))
@@ -142,8 +133,7 @@ half_scaled f min_exp x h first precise digits scale least first_is it =
     + 0 * 2 ^ (p - 1 + (15 - p)) = omega arith in zero)
     ∙ (λ i. odd i * 2 ^ (15 - p - (7 - p + 1) - (first + 6 - e)) + place i * 2 ^ (p - 1 + (15 - p))) in
     let amount : 0 ≡ m * 2 ^ e * 2 ^ f.scale =
-    (let zero : 0 ≡ 0 * 2 ^ e * 2 ^ f.scale = omega arith in zero)
-    ∙ ap (λ (n : ℕ). n * 2 ^ e * 2 ^ f.scale) none in
+    (let zero : 0 ≡ 0 * 2 ^ e * 2 ^ f.scale = omega arith in zero) ∙ ap (λ (n : ℕ). n * 2 ^ e * 2 ^ f.scale) none in
     subst (λ (n : ℕ). IsScaled p (15 - p) n (m * 2 ^ e * 2 ^ f.scale) (2 ^ 149)) digits_none
     (subst (λ (n : ℕ). IsScaled p (15 - p) 0 n (2 ^ 149)) amount
     (zero_scaled p (15 - p) (2 ^ 149) (omega (arith, precise)) (pow_pos 149))))
@@ -161,7 +151,6 @@ word_below x below =
     let is : odd_quotient x (2 ^ 16) ≡ x / 2 ^ 16 = exact_odd (x / 2 ^ 16) (x % 2 ^ 16) none in
     omega (arith, is, below))
     (λ (some : x % 2 ^ 16 ≡ 0 → ⊥).
-    let is : odd_quotient x (2 ^ 16) ≡ x / 2 ^ 16 + 1 - x / 2 ^ 16 % 2 =
-    inexact_odd (x / 2 ^ 16) (x % 2 ^ 16) some in
+    let is : odd_quotient x (2 ^ 16) ≡ x / 2 ^ 16 + 1 - x / 2 ^ 16 % 2 = inexact_odd (x / 2 ^ 16) (x % 2 ^ 16) some in
     omega (arith, is, below))
     (cases_eq (x % 2 ^ 16) 0)

@@ -37,8 +37,7 @@ abbrev pub AreSame : Datum → Datum → Datum → Datum → ℕ → ℕ → Typ
 AreSame h g t u i j = (h ≡ g) × (t ≡ u) × (i ≡ j)
 
 module _ (f : Format) (s : Bool) (exact : ℤ) (parts pick : ℕ) (h g t u : Datum) (i j : ℕ) where
-  by_test : (test : Bool)
-      → MatchBool test (IsPastLargest f s h t i) (IsWithTail f s exact parts pick h t i)
+  by_test : (test : Bool) → MatchBool test (IsPastLargest f s h t i) (IsWithTail f s exact parts pick h t i)
       → MatchBool test (IsPastLargest f s g u j) (IsWithTail f s exact parts pick g u j) → AreSame h g t u i j
   by_test true x y =
       let e : h ≡ g = x.head_is ∙ sym y.head_is in
@@ -58,8 +57,7 @@ augmented_once : (f : Format) (of_zero : Bool) (exact : ℤ) (parts : ℕ) (h g 
     → IsAugmented f of_zero exact parts h t i → IsAugmented f of_zero exact parts g u j → AreSame h g t u i j
 augmented_once f of_zero exact parts h g t u i j x y =
     let s = sign_of of_zero exact in
-    let e : x.pick ≡ y.pick =
-    ties_to_zero_once f.precision (magnitude exact) parts x.pick y.pick x.is_pick y.is_pick in
+    let e : x.pick ≡ y.pick = ties_to_zero_once f.precision (magnitude exact) parts x.pick y.pick x.is_pick y.is_pick in
     by_test f s exact parts y.pick h g t u i j (ltb (largest f) y.pick)
     (subst (λ (p : ℕ). MatchBool (ltb (largest f) p) (IsPastLargest f s h t i) (IsWithTail f s exact parts p h t i)) e
     x.is) y.is
@@ -102,8 +100,7 @@ exact_of f s v p head tail status g x =
       head_is_finite = ap is_finite x.head_is ∙ h.is_finite;
       tail_is_finite = ap is_finite tail_is ∙ t.is_finite;
       sum_is = omega (arith, ints, hn, tn, one);
-      status_is = x.status_is ∙
-          ap (λ (c : Bool). if c then ok_bits else underflow_bit + inexact_bit) b;
+      status_is = x.status_is ∙ ap (λ (c : Bool). if c then ok_bits else underflow_bit + inexact_bit) b;
     }
 
 pub sums_are_exact : IsExactSum
@@ -165,8 +162,7 @@ whole_rest f h of_zero a c whole exact pick g k d e t =
 
 exact_or_past : (f : Format) (s : Bool) (whole exact : ℤ) (pick : ℕ) (head tail : Datum) (status : ℕ)
     → (whole *ℤ pos (2 ^ f.scale)) ≡ exact → IsOnGrid f.precision (magnitude (left_of whole 1 s pick)) → (test : Bool)
-    → MatchBool test (IsPastLargest f s head tail status)
-    (IsWithTail f s exact (2 ^ f.scale) pick head tail status)
+    → MatchBool test (IsPastLargest f s head tail status) (IsWithTail f s exact (2 ^ f.scale) pick head tail status)
     → AreExactly whole head tail status ⊎ ((negative : Bool) × IsPastLargest f negative head tail status)
 exact_or_past f s whole exact pick head tail status e g true x = inr (s, x)
 exact_or_past f s whole exact pick head tail status e g false x =

@@ -1,6 +1,5 @@
 -- Cases of operands, and what the law of a format says of its ranges.
-use Rattle.std.proofs.Common.{◌≡◌, ℕ, ◌*◌, ◌^◌, ◌<◌, ◌≤◌, Bool, true, false, refl}
-use Rattle.std.proofs.Common.{subst, arith}
+use Rattle.std.proofs.Common.{◌≡◌, ℕ, ◌*◌, ◌^◌, ◌<◌, ◌≤◌, Bool, true, false, refl, subst, arith}
 use Rattle.std.specs.Prelude.{ℤ, pos, ◌+ℤ◌, ◌-ℤ◌, unsigned_abs}
 use Rattle.std.proofs.lemmas.Bool.{false≢true}
 use Rattle.std.proofs.lemmas.Int.{ints}
@@ -23,8 +22,7 @@ use Rattle.ieee_operations.specs.augmented.Augmented.{IsAugmentedProduct}
 
 each_sum : (Holds : (Datum → Datum → ℕ → Type 0) → Type 0) (f : Format)
     → ((of_zero : Bool) (exact : ℤ) (parts : ℕ) → Holds (IsAugmented f of_zero exact parts))
-    → ((x y : Datum) → Holds (AreBoth (IsSum f NearestTiesToEven x y)))
-    → (x y : Datum) → Holds (IsAugmentedSum f x y)
+    → ((x y : Datum) → Holds (AreBoth (IsSum f NearestTiesToEven x y))) → (x y : Datum) → Holds (IsAugmentedSum f x y)
 each_sum Holds f numbers others (finite b m) (finite c n) = numbers _ _ _
 each_sum Holds f numbers others (finite b m) (infinite c) = others (finite b m) (infinite c)
 each_sum Holds f numbers others (finite b m) (nan c n) = others (finite b m) (nan c n)
@@ -75,8 +73,7 @@ of_each Holds f numbers sums differences products =
 
 pub sum_of_numbers : (f : Format) (x y head tail : Datum) (status : ℕ) → is_finite x ≡ true → is_finite y ≡ true
     → IsAugmented f (zero_sum_sign NearestTiesToEven (is_negative x) (is_negative y)) (number x +ℤ number y) 1 head
-    tail status
-    → IsAugmentedSum f x y head tail status
+    tail status → IsAugmentedSum f x y head tail status
 sum_of_numbers f (finite b m) (finite c n) head tail status p q h = h
 sum_of_numbers f (finite b m) (infinite c) head tail status p q h = absurd (false≢true q)
 sum_of_numbers f (finite b m) (nan c n) head tail status p q h = absurd (false≢true q)

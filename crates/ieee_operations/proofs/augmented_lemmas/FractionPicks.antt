@@ -19,7 +19,6 @@ use Rattle.apfloat_model.proofs.rounding.Picks.{even_nearer, even_farther}
 use Rattle.apfloat_pair_theory.proofs.numbers.Roundings.{apart}
 use Rattle.apfloat_pair_theory.proofs.numbers.Signed.{coarse_multiple, grid_bound_at, on_grid_as}
 use Rattle.ieee_operations.specs.augmented.TiesToZero.{nearer_between, IsTiesToZeroPick}
-use Rattle.ieee_operations.proofs.augmented_lemmas.Heads.{half_unit}
 use Rattle.ieee_operations.proofs.augmented_lemmas.Multiples.{takes_low_by, takes_high_by}
 
 -- the magnitude is not an integral number of quanta
@@ -36,29 +35,20 @@ IsHalfPast low amount parts = 2 * amount ≡ (2 * low + 1) * parts
 pub above_fraction : (precision below amount parts : ℕ) → IsFractionPick amount parts
     → IsBelow precision below amount parts → below * parts < amount
 above_fraction precision below amount parts n b =
-    ⊎_elim
-    (λ (q : below * parts < amount). q)
-    (λ (q : amount ≤ below * parts).
-    let l = b.not_above in
-    absurd (n.not_whole below (omega (arith, q, l))))
-    (cases_lt (below * parts) amount)
+    let other = n.not_whole below in
+    omega (arith, other, b.not_above)
 
 pub below_fraction : (precision above amount parts : ℕ) → IsFractionPick amount parts
     → IsAbove precision above amount parts → amount < above * parts
 below_fraction precision above amount parts n a =
-    ⊎_elim
-    (λ (q : amount < above * parts). q)
-    (λ (q : above * parts ≤ amount).
-    let l = a.not_below in
-    absurd (n.not_whole above (omega (arith, q, l))))
-    (cases_lt amount (above * parts))
+    let other = n.not_whole above in
+    omega (arith, other, a.not_below)
 
 -- A magnitude below 2 ^ (2 * precision - 1) quanta has neighbours that are at most 2 ^ (precision - 1) quanta apart.
 unit_at_most : (precision half m c amount parts : ℕ) → 0 < precision → half ≡ 2 ^ (precision - 1)
     → IsEnclosed precision half m c amount parts → amount < 2 ^ precision * (2 ^ (precision - 1) * parts)
     → (c ≡ 0) ⊎ (half ≤ m) → 2 ^ c ≤ 2 ^ (precision - 1)
-unit_at_most precision half m c amount parts p e i l (inl z) =
-    pow-le-pow_right two_pos (omega (arith, z))
+unit_at_most precision half m c amount parts p e i l (inl z) = pow-le-pow_right two_pos (omega (arith, z))
 unit_at_most precision half m c amount parts p e i l (inr q) =
     ⊎_elim
     (λ (k : c < precision). pow-le-pow_right two_pos (omega (arith, k)))
@@ -68,8 +58,7 @@ unit_at_most precision half m c amount parts p e i l (inr q) =
     let t : half * 2 ^ precision * parts ≤ m * 2 ^ c * parts = mul-le-mul_right parts v in
     let s : half * 2 ^ precision * parts ≡ 2 ^ (precision - 1) * 2 ^ precision * parts =
     ap (λ (x : ℕ). x * 2 ^ precision * parts) e in
-    let f = i.from in
-    absurd (omega (arith, t, s, f, l)))
+    absurd (omega (arith, t, s, i.from, l)))
     (cases_lt c precision)
 
 pub gap : (precision amount parts below above : ℕ) → 0 < precision → 0 < parts
@@ -78,11 +67,10 @@ pub gap : (precision amount parts below above : ℕ) → 0 < precision → 0 < p
 gap precision amount parts below above h p l b a =
     let e : 2 ^ precision ≡ 2 * 2 ^ (precision - 1) = sym (twice_half precision h) in
     let r = enclosed_at precision (2 ^ (precision - 1)) amount parts p e in
-    let to = r.1.to in
     let u : above ≤ (amount / (parts * 2 ^ r.0) + 1) * 2 ^ r.0 =
     a.least ((amount / (parts * 2 ^ r.0) + 1) * 2 ^ r.0)
     (next_on_grid precision (2 ^ (precision - 1)) (amount / (parts * 2 ^ r.0)) r.0 e r.1.fits)
-    (omega (arith, to)) in
+    (omega (arith, r.1.to)) in
     let v : amount / (parts * 2 ^ r.0) * 2 ^ r.0 ≤ below =
     b.greatest (amount / (parts * 2 ^ r.0) * 2 ^ r.0)
     (multiple_on_grid precision (amount / (parts * 2 ^ r.0)) r.0 r.1.fits) r.1.from in
@@ -109,8 +97,7 @@ even_grid precision n g l =
     absurd (omega (arith, b, l)))
     (λ (q : 1 ≤ g.place).
     let m = coarse_multiple precision n 1 g q in
-    let e = m.is in
-    (m.times, omega (arith, e)))
+    (m.times, omega (arith, m.is)))
     (cases_lt g.place 1)
 
 -- twice a fraction that is an integral number of quanta is an odd one
@@ -123,8 +110,7 @@ odd_half amount parts k n e =
     absurd (n.not_whole h.0 (omega (arith, e, w))))
     (λ h.
     let w : k * parts ≡ (2 * h.0 + 1) * parts = ap (λ (x : ℕ). x * parts) h.1 in
-    (h.0, e ∙ w))
-    (halves k)
+    (h.0, e ∙ w)) (halves k)
 
 -- Two neighbours with a fraction halfway between them are one quantum apart.
 pub tie_of_quanta : (precision below above amount parts : ℕ) → 0 < precision → 0 < parts → IsFractionPick amount parts
@@ -182,8 +168,7 @@ from_even_in precision negative amount parts e x n = record {
   above = x.above;
   is_below = x.is_below;
   is_above = x.is_above;
-  is =
-      not_half_in negative _ _ x.below x.above amount parts e refl x.is_below.not_above x.is_above.not_below x.is n;
+  is = not_half_in negative _ _ x.below x.above amount parts e refl x.is_below.not_above x.is_above.not_below x.is n;
 }
 
 either_is : (test : Bool) (x y e : ℕ) → e ≡ cond test x y → (e ≡ x) ⊎ (e ≡ y)
@@ -247,8 +232,7 @@ half_short precision negative amount parts i t p h e x =
 pub low_pick : (precision low above amount parts : ℕ) → 0 < parts → IsBelow precision low amount parts
     → IsAbove precision above amount parts → IsHalfPast low amount parts → IsTiesToZeroPick precision amount parts low
 low_pick precision low above amount parts p b a e =
-    let l = a.not_below in
-    let q' : low * parts < above * parts = omega (arith, e, l, p) in
+    let q' : low * parts < above * parts = omega (arith, e, a.not_below, p) in
     let q : low < above = lt_of_mul-lt-mul_right parts q' in
     let k : (low + 1) * parts ≤ above * parts = mul-le-mul_right parts (omega (arith, q)) in
     record {
@@ -322,16 +306,17 @@ distance_half_past head amount parts i e =
 pub distance_at_most : (precision head below above amount parts : ℕ) → above ≤ below + 2 ^ (precision - 1)
     → below * parts ≤ amount → amount ≤ above * parts → (head ≡ above) ⊎ (head ≡ below)
     → distance head amount parts ≤ 2 ^ (precision - 1) * parts
-distance_at_most precision head below above amount parts g l h (inl e) =
-    let w : head * parts ≡ above * parts = ap (λ (x : ℕ). x * parts) e in
+distance_at_most precision head below above amount parts g l h side =
     let v : above * parts ≤ (below + 2 ^ (precision - 1)) * parts = mul-le-mul_right parts g in
-    omega (arith, w, v, l, h)
-distance_at_most precision head below above amount parts g l h (inr e) =
-    let w : head * parts ≡ below * parts = ap (λ (x : ℕ). x * parts) e in
-    let v : above * parts ≤ (below + 2 ^ (precision - 1)) * parts = mul-le-mul_right parts g in
-    omega (arith, w, v, l, h)
+    let w : (head * parts ≡ above * parts) ⊎ (head * parts ≡ below * parts) =
+    ⊎_elim (λ e. inl (ap (λ (x : ℕ). x * parts) e)) (λ e. inr (ap (λ (x : ℕ). x * parts) e)) side in
+    ⊎_elim (λ e. omega (arith, e, v, l, h)) (λ e. omega (arith, e, v, l, h)) w
 
 -- ---- past the largest value
+
+-- half a unit in the last place of the largest value
+abbrev pub half_unit : Format → ℕ
+half_unit f = 2 ^ (f.span - 1)
 
 -- a pick past the largest value is that of a greater magnitude
 pub beyond_in : (f : Format) (s : Bool) (amount parts e : ℕ) → 0 < parts → largest f < e
@@ -349,8 +334,7 @@ beyond_in f s amount parts e p l x =
 taken_in : (s odd above : Bool) (low high amount parts e : ℕ)
     → takes_above NearestTiesToEven s (amount - low * parts) (high * parts - amount) odd ≡ above
     → e ≡ cond above high low → low < e → high * parts - amount ≤ amount - low * parts
-taken_in s odd true low high amount parts e t q l =
-    even_nearer s odd (amount - low * parts) (high * parts - amount) t
+taken_in s odd true low high amount parts e t q l = even_nearer s odd (amount - low * parts) (high * parts - amount) t
 taken_in s odd false low high amount parts e t q l = absurd (omega (arith, q, l))
 
 -- the neighbour above the largest value
@@ -364,8 +348,7 @@ next_in f h s amount parts e p l x b =
     let u : 0 < 2 ^ c = pow_pos c in
     let next : (m + 1) * 2 ^ c ≡ largest f + 2 ^ c = omega arith in
     let g = next_on_grid f.precision (2 ^ (f.precision - 1)) m c d (greatest_fits f.nonfinite f.precision) in
-    let a = x.is_above.not_below in
-    let some' : largest f * parts < x.above * parts = omega (arith, a, l) in
+    let some' : largest f * parts < x.above * parts = omega (arith, x.is_above.not_below, l) in
     let some : largest f < x.above = lt_of_mul-lt-mul_right parts some' in
     let lower : (m + 1) * 2 ^ c ≤ x.above =
     none_between f.precision (2 ^ (f.precision - 1)) m c x.above d

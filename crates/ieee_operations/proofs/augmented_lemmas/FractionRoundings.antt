@@ -1,15 +1,15 @@
 -- Roundings of exact / parts quanta: exact ones, products, and what a fused sum leaves of a product.
-use Rattle.std.proofs.Common.{◌≡◌, ℕ, ◌+◌, ◌-◌, ◌*◌, ◌^◌, ◌<◌, ◌≤◌, Bool, true, ltb, eqb, sym, ap, ◌∙◌, subst, ⊎_elim, arith}
+use Rattle.std.proofs.Common.{◌≡◌, ℕ, ◌+◌, ◌-◌, ◌*◌, ◌^◌, ◌<◌, ◌≤◌, Bool, true, sym, ap, ◌∙◌, subst, ⊎_elim, arith}
 use Rattle.std.specs.Prelude.{ℤ, pos, neg_ℤ, ◌+ℤ◌, ◌-ℤ◌, ◌*ℤ◌}
 use Rattle.std.proofs.Math.Nat.{mul-le-mul_left, mul-lt-mul_of_pos_right, lt_of_mul-lt-mul_right}
-use Rattle.std.proofs.lemmas.Bool.{cases_lt, false≢true, eqb-true}
+use Rattle.std.proofs.lemmas.Bool.{cases_lt, false≢true}
 use Rattle.std.proofs.lemmas.Nat.{pow-add, pow_pos, mul-lt}
 use Rattle.apfloat_model.specs.declared.kinds.Round.{Round}
 use Rattle.apfloat_model.specs.declared.kinds.Round.TheVariants.{NearestTiesToEven}
 use Rattle.apfloat_model.specs.formats.Format.{Format, largest}
 use Rattle.apfloat_model.specs.formats.Datum.{Datum, finite, infinite, nan}
 use Rattle.apfloat_model.specs.rounding.Grid.{IsOnGrid}
-use Rattle.apfloat_model.specs.rounding.Rounding.{raises_overflow, is_tiny, signed_quanta, ok_bits}
+use Rattle.apfloat_model.specs.rounding.Rounding.{ok_bits}
 use Rattle.apfloat_model.specs.rounding.Negation.{negated}
 use Rattle.apfloat_model.specs.arithmetic.Exact.{magnitude, signed, sign_of, product_sign, IsRounded}
 use Rattle.apfloat_model.specs.arithmetic.Sums.{zero_sum_sign}
@@ -19,7 +19,6 @@ use Rattle.apfloat_model.specs.order.Classes.{is_finite, is_negative}
 use Rattle.apfloat_model.specs.order.Order.{number}
 use Rattle.apfloat_model.proofs.arithmetic.Signs.{magnitude_signed, rounded_signed}
 use Rattle.apfloat_model.proofs.general.Powers.{half_at_most, twice_half}
-use Rattle.apfloat_model.proofs.rounding.Laws.{delivered_once, exact_delivered}
 use Rattle.apfloat_pair_theory.proofs.numbers.Nearest.{IsNearest}
 use Rattle.apfloat_pair_theory.proofs.numbers.Roundings.{signed_exact, pick_is_nearest, IsNearestFraction, whole_nearest}
 use Rattle.apfloat_pair_theory.proofs.numbers.Signed.{IsGridNumber, magnitude-sub, grown, on_grid_as}
@@ -27,55 +26,11 @@ use Rattle.apfloat_model.proofs.whole_numbers.SignedProducts.{difference_times, 
 use Rattle.apfloat_pair_theory.proofs.numbers.WholeProducts.{IsWholeProduct, whole_product, product_error_on_grid}
 use Rattle.apfloat_pair_theory.proofs.sums.PairRoundings.{error_eighth}
 use Rattle.apfloat_pair_theory.proofs.sums.DifferenceLaws.{minus_is}
-use Rattle.apfloat_model.proofs.whole_numbers.SignedProducts.{sign_times}
 use Rattle.ieee_operations.specs.augmented.Numbers.{IsAugmentedNumber}
 use Rattle.ieee_operations.proofs.augmented_lemmas.Multiples.{times_cancelled}
-use Rattle.ieee_operations.proofs.augmented_lemmas.Numbers.{IsRoundedExactly, signed_number, same_number, within_is}
-use Rattle.ieee_operations.proofs.augmented_lemmas.Numbers.{finite_within, negated_has, ok_tests, test_within}
+use Rattle.ieee_operations.proofs.augmented_lemmas.Numbers.{signed_number, within_is, fraction_exactly}
+use Rattle.ieee_operations.proofs.augmented_lemmas.Numbers.{finite_within, negated_has}
 use Rattle.ieee_operations.proofs.augmented_lemmas.Rests.{eight}
-
--- ---- exact roundings
-
--- a number of the format is rounded exactly
-pub fraction_exactly : (f : Format) (mode : Round) (of_zero : Bool) (z exact : ℤ) (parts : ℕ) (value : Datum)
-    (status : ℕ) → 0 < parts → IsOnGrid f.precision (magnitude z) → magnitude z ≤ largest f → (z *ℤ pos parts) ≡ exact
-    → IsRounded f mode of_zero exact parts value status → IsRoundedExactly z value status
-fraction_exactly f mode of_zero z exact parts value status p g l e h =
-    let m : magnitude exact ≡ magnitude z * parts = ap magnitude (sym e) ∙ magnitude-times z parts in
-    let s : sign_of of_zero exact ≡ sign_of of_zero z =
-    ap (λ (i : ℤ). sign_of of_zero i) (sym e) ∙ sign_times of_zero z parts p in
-    let r = delivered_once f mode (sign_of of_zero exact) (magnitude exact) parts value
-    (signed_quanta f.nonfinite (sign_of of_zero exact) (magnitude z)) status ok_bits h
-    (exact_delivered f mode (sign_of of_zero exact) (magnitude z) (magnitude exact) parts p g l m) in
-    let k = signed_number f.nonfinite (sign_of of_zero exact) (magnitude z) in
-    record {
-      has = same_number z value _ r.0 (record {
-        is_finite = k.is_finite;
-        number_is = k.number_is ∙ ap (λ (c : Bool). signed c (magnitude z)) s ∙ signed_exact of_zero z;
-      });
-      status_is = r.1;
-    }
-
--- a finite datum of exactly exact / parts quanta
-pub record HasFractionParts (parts : ℕ) (exact : ℤ) (value : Datum) : Type 0 where
-  pub is_finite : is_finite value ≡ true
-  pub parts_are : (number value *ℤ pos parts) ≡ exact
-
--- a rounding with status OK is exact
-pub ok_parts : (f : Format) (mode : Round) (of_zero : Bool) (exact : ℤ) (parts : ℕ) (value : Datum) (status : ℕ)
-    → IsRounded f mode of_zero exact parts value status → status ≡ ok_bits → HasFractionParts parts exact value
-ok_parts f mode of_zero exact parts value status x o =
-    let s = sign_of of_zero exact in
-    let t = ok_tests (ltb (largest f) x.pick) (eqb (x.pick * parts) (magnitude exact)) (raises_overflow f mode s)
-    (is_tiny f mode s (magnitude exact) parts x.pick) (sym x.status_is ∙ o) in
-    let p : x.pick * parts ≡ magnitude exact = eqb-true (x.pick * parts) (magnitude exact) t.1 in
-    let k = signed_number f.nonfinite s x.pick in
-    let v = x.value_is ∙ within_is f mode s x.pick (test_within _ _ t.0) in
-    record {
-      is_finite = ap is_finite v ∙ k.is_finite;
-      parts_are = ap (λ (d : Datum). number d *ℤ pos parts) v ∙ ap (λ (z : ℤ). z *ℤ pos parts) k.number_is
-          ∙ sym (signed_times s x.pick parts) ∙ ap (λ (i : ℕ). signed s i) p ∙ signed_exact of_zero exact;
-    }
 
 -- ---- products and fused sums of finite data
 
@@ -218,8 +173,7 @@ whole_is_exact f h x y near rest i j v nx ny nn o product fused e =
     let b = error_eighth f.precision wide v z n in
     let c = magnitude-sub z v in
     let d = grown z v in
-    let m = nn.within in
-    let l : magnitude (v -ℤ z) ≤ largest f = omega (arith, b, c, d, m) in
+    let l : magnitude (v -ℤ z) ≤ largest f = omega (arith, b, c, d, nn.within) in
     let r = rest_rounded f NearestTiesToEven x y near rest j nx.is_finite ny.is_finite nn.is_finite fused in
     let t : ((v -ℤ z) *ℤ pos (2 ^ f.scale)) ≡ rest_of_product f x y near =
     difference_times v z (pos (2 ^ f.scale)) ∙ ap (λ (k : ℤ). k -ℤ (z *ℤ pos (2 ^ f.scale))) e in

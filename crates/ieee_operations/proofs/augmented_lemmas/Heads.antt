@@ -4,8 +4,7 @@ use Rattle.std.specs.Prelude.{ℤ, pos, neg_ℤ, ◌-ℤ◌}
 use Rattle.std.specs.Bool.{MatchBool}
 use Rattle.std.proofs.lemmas.Bool.{cases_lt, false≢true, le-ltb, lt-ltb, eq-eqb}
 use Rattle.std.proofs.lemmas.Int.{ints}
-use Rattle.std.proofs.lemmas.Nat.{pow-add, pow_pos}
-use Rattle.std.proofs.Math.Nat.{mul-pos}
+use Rattle.std.proofs.lemmas.Nat.{pow_pos}
 use Rattle.apfloat_model.specs.declared.kinds.Round.TheVariants.{NearestTiesToEven, TowardZero}
 use Rattle.apfloat_model.specs.declared.kinds.NonfiniteBehavior.{NonfiniteBehavior}
 use Rattle.apfloat_model.specs.declared.kinds.NonfiniteBehavior.TheVariants.{IEEE754, NanOnly, NanNegativeZero}
@@ -14,7 +13,7 @@ use Rattle.apfloat_model.specs.formats.Datum.{Datum, finite, infinite, nan}
 use Rattle.apfloat_model.specs.formats.Constants.{zero_datum}
 use Rattle.apfloat_model.specs.rounding.Grid.{IsOnGrid}
 use Rattle.apfloat_model.specs.rounding.Enclosure.{IsEnclosed}
-use Rattle.apfloat_model.specs.rounding.Rounding.{takes_above, IsPick, past_largest, signed_quanta, zero_sign}
+use Rattle.apfloat_model.specs.rounding.Rounding.{IsPick, past_largest, signed_quanta, zero_sign}
 use Rattle.apfloat_model.specs.rounding.Rounding.{ok_bits, overflow_bit, inexact_bit, underflow_bit}
 use Rattle.apfloat_model.specs.rounding.Negation.{negated}
 use Rattle.apfloat_model.specs.arithmetic.Exact.{magnitude, signed, sign_of, same_sign, IsRounded}
@@ -28,18 +27,19 @@ use Rattle.apfloat_model.proofs.formats.Ranges.{at_top}
 use Rattle.apfloat_model.proofs.general.Choices.{not_zero}
 use Rattle.apfloat_model.proofs.general.Powers.{twice_half}
 use Rattle.apfloat_model.proofs.rounding.Deliveries.{signed_some}
-use Rattle.apfloat_model.proofs.rounding.Laws.{delivered_once, exact_delivered, pick_within, below_le_above}
-use Rattle.apfloat_model.proofs.rounding.Neighbours.{next_on_grid, none_between, below_is, above_is_next}
+use Rattle.apfloat_model.proofs.rounding.Laws.{delivered_once, exact_delivered, pick_within}
+use Rattle.apfloat_model.proofs.rounding.Neighbours.{below_is, above_is_next}
 use Rattle.apfloat_model.proofs.rounding.FarMagnitudes.{largest_on_grid}
-use Rattle.apfloat_model.proofs.rounding.Picks.{even_nearer}
+use Rattle.apfloat_model.proofs.whole_numbers.SignedNumbers.{largest_some}
 use Rattle.apfloat_pair_theory.proofs.numbers.Roundings.{apart, pick_nearest, pick_on_grid, signed_exact}
 use Rattle.apfloat_pair_theory.proofs.pairs.Normalised.{is_equal_by}
 use Rattle.ieee_operations.specs.augmented.TiesToZero.{IsTiesToZeroPick}
 use Rattle.ieee_operations.specs.augmented.Augmented.{left_of, IsPastLargest, IsWithTail, IsAugmented}
 use Rattle.ieee_operations.specs.augmented.Numbers.{HasNumber, IsNearestTo, with_sign}
-use Rattle.ieee_operations.proofs.augmented_lemmas.TiesToZero.{takes_low, takes_high, ties_to_zero_exact, ties_to_zero_on_grid, ties_to_zero_nearest, signed_nearest, short_is_below, from_even, from_half}
+use Rattle.ieee_operations.proofs.augmented_lemmas.TiesToZero.{takes_low, ties_to_zero_exact, ties_to_zero_on_grid, ties_to_zero_nearest, signed_nearest, short_is_below, from_half}
 use Rattle.ieee_operations.proofs.augmented_lemmas.Numbers.{signed_number, within_is, short_is, finite_within, abs_has}
 use Rattle.ieee_operations.proofs.augmented_lemmas.Numbers.{negated_has, equal_numbers}
+use Rattle.ieee_operations.proofs.augmented_lemmas.FractionPicks.{beyond_in, from_even_in, half_unit}
 
 -- ---- the tail
 
@@ -71,16 +71,14 @@ tail_is : (f : Format) (s : Bool) (p : ℕ) (head rest : Datum) (left : ℤ)
     → with_sign f head rest ≡ signed_quanta f.nonfinite (sign_of s left) (magnitude left)
 tail_is f s p head (finite b zero) left e h =
     let z : left ≡ pos 0 = sym h.number_is ∙ no_sign b in
-    copied f.nonfinite (is_negative head)
-    ∙ ap (λ (c : Bool). finite c 0)
+    copied f.nonfinite (is_negative head) ∙ ap (λ (c : Bool). finite c 0)
     (ap (λ (d : Datum). zero_sign f.nonfinite (is_negative d)) e ∙ sign_of_head f.nonfinite s p)
     ∙ ap (λ (i : ℤ). signed_quanta f.nonfinite (sign_of s i) (magnitude i)) (sym z)
 tail_is f s p head (finite b (suc n)) left e h =
     ap (λ (t : Bool). cond t (copy_sign f zero_datum head) (finite b (suc n))) (not_zero (suc n) (omega arith)) ∙
     sym (ap (λ (i : ℤ). signed_quanta f.nonfinite (sign_of s i) (magnitude i)) (sym h.number_is)
     ∙ ap (λ (c : Bool). signed_quanta f.nonfinite c (magnitude (signed b (suc n))))
-    (sign_signed s b (suc n) (omega arith))
-    ∙ ap (λ (k : ℕ). signed_quanta f.nonfinite b k) (magnitude_signed b (suc n))
+    (sign_signed s b (suc n) (omega arith)) ∙ ap (λ (k : ℕ). signed_quanta f.nonfinite b k) (magnitude_signed b (suc n))
     ∙ signed_some f.nonfinite b (suc n) (omega arith))
 tail_is f s p head (infinite b) left e h = absurd (false≢true h.is_finite)
 tail_is f s p head (nan b n) left e h = absurd (false≢true h.is_finite)
@@ -100,8 +98,7 @@ with_tail_is f of_zero v p head rest tail status t l e g h k o =
     let one : p ≡ p * 1 = omega arith in
     let g' : IsOnGrid f.precision (magnitude (left_of v 1 s p)) =
     subst (λ (i : ℕ). IsOnGrid f.precision (magnitude (v -ℤ signed s i))) one g in
-    let h' : HasNumber (left_of v 1 s p) rest =
-    subst (λ (i : ℕ). HasNumber (v -ℤ signed s i) rest) one h in
+    let h' : HasNumber (left_of v 1 s p) rest = subst (λ (i : ℕ). HasNumber (v -ℤ signed s i) rest) one h in
     let q = magnitude (left_of v 1 s p) in
     let b : eqb (q * 1) q ≡ true = eq-eqb (q * 1) q (omega arith) in
     let r : IsWithTail f s v 1 p head tail status =
@@ -120,18 +117,18 @@ with_tail_is f of_zero v p head rest tail status t l e g h k o =
     }
 
 -- a head past the largest value
-pub past_largest_is : (f : Format) (of_zero : Bool) (v : ℤ) (p : ℕ) (head tail : Datum) (status : ℕ)
-    → IsTiesToZeroPick f.precision (magnitude v) 1 p → largest f < p
-    → head ≡ past_largest f.nonfinite (nan_base f) (sign_of of_zero v) → tail ≡ head
-    → status ≡ overflow_bit + inexact_bit → IsAugmented f of_zero v 1 head tail status
-past_largest_is f of_zero v p head tail status t l e k o =
-    let s = sign_of of_zero v in
+pub past_in : (f : Format) (of_zero : Bool) (exact : ℤ) (parts p : ℕ) (head tail : Datum) (status : ℕ)
+    → IsTiesToZeroPick f.precision (magnitude exact) parts p → largest f < p
+    → head ≡ past_largest f.nonfinite (nan_base f) (sign_of of_zero exact) → tail ≡ head
+    → status ≡ overflow_bit + inexact_bit → IsAugmented f of_zero exact parts head tail status
+past_in f of_zero exact parts p head tail status t l e k o =
+    let s = sign_of of_zero exact in
     let w : ltb (largest f) p ≡ true = lt-ltb (largest f) p l in
     record {
       pick = p;
       is_pick = t;
       is = subst (λ (c : Bool). MatchBool c (IsPastLargest f s head tail status)
-          (IsWithTail f s v 1 p head tail status)) (sym w)
+          (IsWithTail f s exact parts p head tail status)) (sym w)
           (record { head_is = e; tail_is = k; status_is = o });
     }
 
@@ -193,8 +190,7 @@ near_is_nearest f of_zero v near short a =
     (subst (λ (z : ℤ). IsNearestTo f.precision z (signed s a.even)) (signed_exact of_zero v) n)
 
 -- a pick with ties toward zero is a nearest number
-pub pick_is_nearest : (f : Format) (of_zero : Bool) (v : ℤ) (p : ℕ)
-    → IsTiesToZeroPick f.precision (magnitude v) 1 p
+pub pick_is_nearest : (f : Format) (of_zero : Bool) (v : ℤ) (p : ℕ) → IsTiesToZeroPick f.precision (magnitude v) 1 p
     → IsNearestTo f.precision v (signed (sign_of of_zero v) p)
 pick_is_nearest f of_zero v p t =
     let s = sign_of of_zero v in
@@ -220,20 +216,25 @@ tie_is f of_zero v near short rest left a r l e =
     let s = sign_of of_zero v in
     let o = negated_has f rest r.is_finite in
     let q = equal_numbers left (negated f.nonfinite rest) l.is_finite o.is_finite e in
-    let w : (v -ℤ number short) ≡ neg_ℤ (v -ℤ number near) =
-    sym l.number_is ∙ q ∙ o.number_is ∙ ap neg_ℤ r.number_is in
+    let w : (v -ℤ number short) ≡ neg_ℤ (v -ℤ number near) = sym l.number_is ∙ q ∙ o.number_is ∙ ap neg_ℤ r.number_is in
     let u : (v -ℤ signed s a.lower) ≡ neg_ℤ (v -ℤ signed s a.even) =
     ap (λ (z : ℤ). v -ℤ z) (sym (short_number f s (magnitude v) near short a)) ∙ w ∙
     ap (λ (z : ℤ). neg_ℤ (v -ℤ z)) (near_number f s (magnitude v) near short a) in
     let d : (signed s (magnitude v) -ℤ signed s a.lower) ≡ neg_ℤ (signed s (magnitude v) -ℤ signed s a.even) =
     subst (λ (z : ℤ). (z -ℤ signed s a.lower) ≡ neg_ℤ (z -ℤ signed s a.even)) (sym (signed_exact of_zero v)) u in
-    from_half f.precision s (magnitude v) a.even a.lower a.is_even a.is_lower
-    (halfway s (magnitude v) a.even a.lower d)
+    from_half f.precision s (magnitude v) a.even a.lower a.is_even a.is_lower (halfway s (magnitude v) a.even a.lower d)
+
+-- unless the number is halfway, the pick to even is that with ties toward zero
+from_even : (precision : ℕ) (negative : Bool) (amount e t : ℕ)
+    → IsPick precision NearestTiesToEven negative amount 1 e → IsPick precision TowardZero negative amount 1 t
+    → (2 * amount ≡ e + t → ⊥) → IsTiesToZeroPick precision amount 1 e
+from_even precision negative amount e t x y n =
+    let s = short_is_below precision negative amount 1 e t x y in
+    from_even_in precision negative amount 1 e x (λ h. n (omega (arith, h, s)))
 
 -- the pick, if it does not
 pub no_tie_is : (f : Format) (of_zero : Bool) (v : ℤ) (near short rest left : Datum) (status : ℕ)
-    → (a : ArePicks f (sign_of of_zero v) (magnitude v) 1 near short)
-    → HasNumber (v -ℤ number near) rest
+    → (a : ArePicks f (sign_of of_zero v) (magnitude v) 1 near short) → HasNumber (v -ℤ number near) rest
     → (status ≡ ok_bits → HasNumber (v -ℤ number short) left)
     → (IsNearestTo f.precision v (number short) → status ≡ ok_bits)
     → (status ≡ ok_bits → is_equal left (negated f.nonfinite rest) ≡ false)
@@ -253,20 +254,13 @@ no_tie_is f of_zero v near short rest left status a r exact nearest differs =
     (opposites s n a.even a.lower h) in
     let q : number left ≡ number (negated f.nonfinite rest) =
     l.number_is ∙ ap (λ (z : ℤ). v -ℤ z) (short_number f s n near short a) ∙ d ∙
-    ap (λ (z : ℤ). neg_ℤ (v -ℤ z)) (sym (near_number f s n near short a)) ∙
-    sym (m.number_is ∙ ap neg_ℤ r.number_is) in
+    ap (λ (z : ℤ). neg_ℤ (v -ℤ z)) (sym (near_number f s n near short a)) ∙ sym (m.number_is ∙ ap neg_ℤ r.number_is) in
     false≢true (sym (differs o) ∙ is_equal_by left (negated f.nonfinite rest) l.is_finite m.is_finite q))
 
 -- ---- past the largest value
 
--- half a unit in the last place of the largest value
-abbrev pub half_unit : Format → ℕ
-half_unit f = 2 ^ (f.span - 1)
-
 two_halves : (f : Format) → 1 ≤ f.span → 2 ^ f.span ≡ 2 * half_unit f
-two_halves f h =
-    let e : f.span ≡ (f.span - 1) + 1 = omega arith in
-    ap (λ (k : ℕ). 2 ^ k) e ∙ pow-add 2 (f.span - 1) 1 ∙ omega arith
+two_halves f h = sym (twice_half f.span h)
 
 doubled : (f : Format) → 3 ≤ f.precision → 2 ^ f.precision ≡ 2 * 2 ^ (f.precision - 1)
 doubled f h = sym (twice_half f.precision (omega (arith, h)))
@@ -298,112 +292,24 @@ at_half f h k amount e =
 -- a pick past the largest value is that of a greater magnitude
 pub beyond : (f : Format) (s : Bool) (amount e : ℕ) → largest f < e
     → IsPick f.precision NearestTiesToEven s amount 1 e → largest f < amount
-beyond f s amount e l x =
-    ⊎_elim
-    (λ (q : largest f < amount). q)
-    (λ (q : amount ≤ largest f).
-    let a : x.above ≤ largest f = x.is_above.least (largest f) (largest_on_grid f) (omega arith) in
-    let w = (pick_within f.precision NearestTiesToEven s amount 1 e (lit< tt) x).0 in
-    absurd (omega (arith, a, w, l)))
-    (cases_lt (largest f) amount)
+beyond f s amount e l x = let past = beyond_in f s amount 1 e (lit< tt) l x in omega (arith, past)
 
--- the lower neighbour is not picked if the pick is above it
-taken : (s odd above : Bool) (low high amount e : ℕ)
-    → takes_above NearestTiesToEven s (amount - low * 1) (high * 1 - amount) odd ≡ above
-    → e ≡ cond above high low → low < e → high * 1 - amount ≤ amount - low * 1
-taken s odd true low high amount e t q l = even_nearer s odd (amount - low * 1) (high * 1 - amount) t
-taken s odd false low high amount e t q l = absurd (omega (arith, q, l))
-
--- the neighbour above the largest value
-next_is : (f : Format) → 3 ≤ f.precision → (s : Bool) (amount e : ℕ) → largest f < amount
-    → (x : IsPick f.precision NearestTiesToEven s amount 1 e) → x.below ≡ largest f → x.above ≡ largest f + 2 ^ f.span
-next_is f h s amount e l x b =
-    let m = greatest_significand f.nonfinite f.precision in
-    let c = f.span in
-    let u : 0 < 2 ^ c = pow_pos c in
-    let next : (m + 1) * 2 ^ c ≡ largest f + 2 ^ c = omega arith in
-    let g = next_on_grid f.precision (2 ^ (f.precision - 1)) m c (doubled f h)
-    (greatest_fits f.nonfinite f.precision) in
-    let a = x.is_above.not_below in
-    let lower : (m + 1) * 2 ^ c ≤ x.above =
-    none_between f.precision (2 ^ (f.precision - 1)) m c x.above (doubled f h)
-    (inr (greatest_full f.nonfinite f.precision h)) x.is_above.on_grid (omega (arith, a, l)) in
-    ⊎_elim
-    (λ (q : (m + 1) * 2 ^ c < amount).
-    let k : (m + 1) * 2 ^ c ≤ x.below = x.is_below.greatest ((m + 1) * 2 ^ c) g (omega arith) in
-    absurd (omega (arith, k, b, next, u)))
-    (λ (q : amount ≤ (m + 1) * 2 ^ c).
-    let k : x.above ≤ (m + 1) * 2 ^ c = x.is_above.least ((m + 1) * 2 ^ c) g (omega arith) in
-    omega (arith, k, lower, next))
-    (cases_lt ((m + 1) * 2 ^ c) amount)
-
--- Unless the magnitude is halfway past the largest value, the pick with ties toward zero is past that value too.
-pub record IsPickedPast (f : Format) (amount : ℕ) : Type 0 where
-  pub pick : ℕ
-  pub is_pick : IsTiesToZeroPick f.precision amount 1 pick
-  pub past : largest f < pick
-
-pub past_pick : (f : Format) → 3 ≤ f.precision → 1 ≤ f.span → (s : Bool) (amount e : ℕ) → largest f < e
-    → IsPick f.precision NearestTiesToEven s amount 1 e → (amount ≡ largest f + half_unit f → ⊥) → IsPickedPast f amount
-past_pick f h k s amount e l x n =
-    let g = beyond f s amount e l x in
+-- what is past it is the largest value toward zero
+pub short_is_largest_in : (f : Format) → 3 ≤ f.precision → (of_zero : Bool) (exact : ℤ) (parts e : ℕ) (short : Datum)
+    (j : ℕ) → 0 < parts → largest f < e
+    → IsPick f.precision NearestTiesToEven (sign_of of_zero exact) (magnitude exact) parts e
+    → IsRounded f TowardZero of_zero exact parts short j → short ≡ finite (sign_of of_zero exact) (largest f)
+short_is_largest_in f h of_zero exact parts e short j p l x y =
+    let s = sign_of of_zero exact in
+    let g = beyond_in f s (magnitude exact) parts e p l x in
+    let b = short_is_below f.precision s (magnitude exact) parts e y.pick x y.is_pick in
     let lo : largest f ≤ x.below = x.is_below.greatest (largest f) (largest_on_grid f) (omega (arith, g)) in
-    let up : x.below ≤ x.above = below_le_above f.precision x.below x.above amount 1 (lit< tt) x.is_below x.is_above in
-    let na = x.is_above.not_below in
-    let nb = x.is_below.not_above in
-    ⊎_elim
-    (λ (q : x.above * 1 - amount < amount - x.below * 1). record {
-      pick = x.above;
-      is_pick = record {
-        below = x.below;
-        above = x.above;
-        is_below = x.is_below;
-        is_above = x.is_above;
-        is = sym (takes_high x.below x.above amount 1 q);
-      };
-      past = omega (arith, g, na);
-    })
-    (λ (q : amount - x.below * 1 ≤ x.above * 1 - amount). record {
-      pick = x.below;
-      is_pick = record {
-        below = x.below;
-        above = x.above;
-        is_below = x.is_below;
-        is_above = x.is_above;
-        is = sym (takes_low x.below x.above amount 1 q);
-      };
-      past =
-          ⊎_elim
-          (λ (v : largest f < x.below). v)
-          (λ (v : x.below ≤ largest f).
-          let b : x.below ≡ largest f = omega (arith, lo, v) in
-          let a = next_is f h s amount e g x b in
-          let w = two_halves f k in
-          let t = taken s _ _ x.below x.above amount e refl x.is (omega (arith, b, l)) in
-          absurd (n (omega (arith, a, b, w, t, q, na, nb))))
-          (cases_lt (largest f) x.below);
-    })
-    (cases_lt (x.above * 1 - amount) (amount - x.below * 1))
-
--- the sum toward zero is the largest value
-pub short_is_largest : (f : Format) → 3 ≤ f.precision → (of_zero : Bool) (v : ℤ) (e : ℕ) (short : Datum) (j : ℕ)
-    → largest f < e → IsPick f.precision NearestTiesToEven (sign_of of_zero v) (magnitude v) 1 e
-    → IsRounded f TowardZero of_zero v 1 short j → short ≡ finite (sign_of of_zero v) (largest f)
-short_is_largest f h of_zero v e short j l x y =
-    let s = sign_of of_zero v in
-    let g = beyond f s (magnitude v) e l x in
-    let b = short_is_below f.precision s (magnitude v) 1 e y.pick x y.is_pick in
-    let lo : largest f ≤ x.below = x.is_below.greatest (largest f) (largest_on_grid f) (omega (arith, g)) in
-    let some : 0 < largest f =
-    let i = greatest_some f.nonfinite f.precision h in
-    let o : 0 < 2 ^ f.span = pow_pos f.span in
-    mul-pos i o in
     ⊎_elim
     (λ (q : largest f < y.pick). y.value_is ∙ short_is f s y.pick q)
     (λ (q : y.pick ≤ largest f).
     let w : y.pick ≡ largest f = omega (arith, q, b, lo) in
     y.value_is ∙ within_is f TowardZero s y.pick q ∙
-    ap (λ (i : ℕ). signed_quanta f.nonfinite s i) w ∙ signed_some f.nonfinite s (largest f) some)
+    ap (λ (i : ℕ). signed_quanta f.nonfinite s i) w ∙ signed_some f.nonfinite s (largest f) (largest_some f h))
     (cases_lt (largest f) y.pick)
 
 away : (s : Bool) (n top h : ℕ) → magnitude (signed s n -ℤ signed s top) ≡ h → top < n → n ≡ top + h
@@ -433,8 +339,7 @@ pub no_half_left : (f : Format) → 3 ≤ f.precision → 1 ≤ f.span → (of_z
     (status : ℕ) → unit ≡ finite false (half_unit f)
     → (status ≡ ok_bits → HasNumber (v -ℤ signed (sign_of of_zero v) (largest f)) left)
     → (IsNearestTo f.precision v (signed (sign_of of_zero v) (largest f)) → status ≡ ok_bits)
-    → (status ≡ ok_bits → is_equal (abs f left) unit ≡ false)
-    → magnitude v ≡ largest f + half_unit f → ⊥
+    → (status ≡ ok_bits → is_equal (abs f left) unit ≡ false) → magnitude v ≡ largest f + half_unit f → ⊥
 no_half_left f h k of_zero v left unit status u exact nearest differs e =
     let s = sign_of of_zero v in
     let t = at_half f h k (magnitude v) e in
@@ -448,25 +353,30 @@ no_half_left f h k of_zero v left unit status u exact nearest differs e =
     a.number_is ∙ ap pos (ap magnitude l.number_is ∙ m) ∙ sym (ap number u) in
     false≢true (sym (differs o) ∙ is_equal_by (abs f left) unit a.is_finite (ap is_finite u) q)
 
+pub half_on_grid : (f : Format) → 3 ≤ f.precision → IsOnGrid f.precision (half_unit f)
+half_on_grid f h = record {
+  significand = 1;
+  place = f.span - 1;
+  fits = let a = greatest_fits f.nonfinite f.precision in
+      let b = greatest_some f.nonfinite f.precision h in omega (arith, a, b);
+  is = omega arith;
+}
+
+pub half_is_within : (f : Format) → 3 ≤ f.precision → half_unit f ≤ largest f
+half_is_within f h =
+    let w : 1 * half_unit f ≤ largest f =
+    at_top f 1 (f.span - 1) (greatest_some f.nonfinite f.precision h) (omega arith) in
+    omega (arith, w)
+
 -- the smallest value, scaled
 pub half_unit_is : (f : Format) → 3 ≤ f.precision → 1 ≤ f.span → (places : ℤ) → places ≡ pos (f.span - 1)
-    → (value : Datum) → IsScaling f NearestTiesToEven (finite false 1) places value
-    → value ≡ finite false (half_unit f)
+    → (value : Datum) → IsScaling f NearestTiesToEven (finite false 1) places value → value ≡ finite false (half_unit f)
 half_unit_is f h k places e value x =
     let y : IsScaling f NearestTiesToEven (finite false 1) (pos (f.span - 1)) value =
     subst (λ (z : ℤ). IsScaling f NearestTiesToEven (finite false 1) z value) e x in
     let u : 0 < half_unit f = pow_pos (f.span - 1) in
-    let g : IsOnGrid f.precision (half_unit f) =
-    record {
-      significand = 1;
-      place = f.span - 1;
-      fits = let a = greatest_fits f.nonfinite f.precision in
-          let b = greatest_some f.nonfinite f.precision h in omega (arith, a, b);
-      is = omega arith;
-    } in
-    let w : 1 * half_unit f ≤ largest f =
-    at_top f 1 (f.span - 1) (greatest_some f.nonfinite f.precision h) (omega (arith, k)) in
     let r = delivered_once f NearestTiesToEven false _ _ value
     (signed_quanta f.nonfinite false (half_unit f)) y.0 ok_bits y.1
-    (exact_delivered f NearestTiesToEven false (half_unit f) _ _ (lit< tt) g (omega (arith, w)) (omega arith)) in
+    (exact_delivered f NearestTiesToEven false (half_unit f) _ _ (lit< tt) (half_on_grid f h) (half_is_within f h)
+    (omega arith)) in
     r.0 ∙ signed_some f.nonfinite false (half_unit f) u

@@ -182,8 +182,7 @@ module _ (f : Format) (whole exact : ℤ) (parts : ℕ) (some : 0 < parts) (is :
         is_pick = subst (λ (i : ℕ). IsTiesToZeroPick f.precision i parts x.quanta) m
             (ties_times f.precision (magnitude left) parts x.quanta some x.is_pick);
         tail_is = x.tail_is ∙ ap (λ (c : Bool). signed_quanta f.nonfinite c x.quanta) g;
-        status_is = x.status_is
-            ∙ ap (λ (c : Bool). if c then ok_bits else underflow_bit + inexact_bit)
+        status_is = x.status_is ∙ ap (λ (c : Bool). if c then ok_bits else underflow_bit + inexact_bit)
             (sym (eqb_times x.quanta (magnitude left) parts some)
             ∙ ap (λ (i : ℕ). eqb (x.quanta * parts) i) m);
       }
@@ -203,16 +202,14 @@ module _ (f : Format) (whole exact : ℤ) (parts : ℕ) (some : 0 < parts) (is :
         is_pick = ties_of_times f.precision (magnitude left) parts x.quanta some
             (subst (λ (i : ℕ). IsTiesToZeroPick f.precision i parts x.quanta) m x.is_pick);
         tail_is = x.tail_is ∙ ap (λ (c : Bool). signed_quanta f.nonfinite c x.quanta) g;
-        status_is = x.status_is
-            ∙ ap (λ (c : Bool). if c then ok_bits else underflow_bit + inexact_bit)
+        status_is = x.status_is ∙ ap (λ (c : Bool). if c then ok_bits else underflow_bit + inexact_bit)
             (ap (λ (i : ℕ). eqb (x.quanta * parts) i) m ∙ eqb_times x.quanta (magnitude left) parts some);
       }
 
   either_times : (s t : Bool) (pick : ℕ) (head tail : Datum) (status : ℕ) → s ≡ t → (test : Bool)
       → MatchBool test (IsPastLargest f s head tail status) (IsWithTail f s whole 1 pick head tail status)
       → MatchBool test (IsPastLargest f t head tail status) (IsWithTail f t exact parts pick head tail status)
-  either_times s t pick head tail status e true x =
-      subst (λ (c : Bool). IsPastLargest f c head tail status) e x
+  either_times s t pick head tail status e true x = subst (λ (c : Bool). IsPastLargest f c head tail status) e x
   either_times s t pick head tail status e false x =
       subst (λ (c : Bool). IsWithTail f c exact parts pick head tail status) e
       (with_tail_times s pick head tail status x)

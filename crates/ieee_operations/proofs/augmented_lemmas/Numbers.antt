@@ -1,6 +1,6 @@
 -- Finite results by their numbers: delivered values, exact roundings, differences, comparisons.
 use Rattle.std.proofs.Common.{◌≡◌, ℕ, zero, suc, ◌+◌, ◌*◌, ◌<◌, ◌≤◌, Bool, true, false, not, cond, ltb, eqb, sym, refl, ap, ◌∙◌, subst, ⊎_elim, arith, lit<}
-use Rattle.std.specs.Prelude.{ℤ, pos, neg_ℤ, ◌+ℤ◌, ◌-ℤ◌, ◌≤ℤ◌}
+use Rattle.std.specs.Prelude.{ℤ, pos, neg_ℤ, ◌+ℤ◌, ◌-ℤ◌, ◌≤ℤ◌, ◌*ℤ◌}
 use Rattle.std.specs.Ordering.{int_cmp, is_eq, is_lt}
 use Rattle.std.specs.declared.cmp.Ordering.{Ordering}
 use Rattle.std.specs.declared.cmp.Ordering.TheVariants.{Less, Equal, Greater}
@@ -28,6 +28,7 @@ use Rattle.apfloat_model.proofs.arithmetic.Signs.{no_sign, magnitude_signed}
 use Rattle.apfloat_model.proofs.general.Choices.{not_zero}
 use Rattle.apfloat_model.proofs.rounding.Deliveries.{signed_some, past_not_finite}
 use Rattle.apfloat_model.proofs.rounding.Laws.{delivered_once, exact_delivered}
+use Rattle.apfloat_model.proofs.whole_numbers.SignedProducts.{magnitude-times, sign_times, signed_times}
 use Rattle.apfloat_pair_theory.proofs.numbers.Roundings.{signed_exact, signed_not}
 use Rattle.apfloat_pair_theory.proofs.numbers.Signed.{magnitude-neg}
 use Rattle.ieee_operations.specs.augmented.Numbers.{HasNumber, IsAugmentedNumber}
@@ -64,8 +65,7 @@ pub finite_within : (f : Format) (negative : Bool) (p : ℕ) (value : Datum) →
 finite_within f s p value h e =
     ⊎_elim
     (λ (q : largest f < p).
-    let w : is_finite value ≡ false =
-    ap is_finite (e ∙ past_is f s p q) ∙ past_not_finite f.nonfinite (nan_base f) s in
+    let w : is_finite value ≡ false = ap is_finite (e ∙ past_is f s p q) ∙ past_not_finite f.nonfinite (nan_base f) s in
     absurd (false≢true (sym w ∙ h)))
     (λ (q : p ≤ largest f). q)
     (cases_lt (largest f) p)
@@ -88,20 +88,33 @@ pub record IsRoundedExactly (exact : ℤ) (value : Datum) (status : ℕ) : Type 
   pub status_is : status ≡ ok_bits
 
 -- a number of the format is rounded exactly
+pub fraction_exactly : (f : Format) (mode : Round) (of_zero : Bool) (z exact : ℤ) (parts : ℕ) (value : Datum)
+    (status : ℕ) → 0 < parts → IsOnGrid f.precision (magnitude z) → magnitude z ≤ largest f → (z *ℤ pos parts) ≡ exact
+    → IsRounded f mode of_zero exact parts value status → IsRoundedExactly z value status
+fraction_exactly f mode of_zero z exact parts value status p g l e h =
+    let m : magnitude exact ≡ magnitude z * parts = ap magnitude (sym e) ∙ magnitude-times z parts in
+    let s : sign_of of_zero exact ≡ sign_of of_zero z =
+    ap (λ (i : ℤ). sign_of of_zero i) (sym e) ∙ sign_times of_zero z parts p in
+    let r = delivered_once f mode (sign_of of_zero exact) (magnitude exact) parts value
+    (signed_quanta f.nonfinite (sign_of of_zero exact) (magnitude z)) status ok_bits h
+    (exact_delivered f mode (sign_of of_zero exact) (magnitude z) (magnitude exact) parts p g l m) in
+    let k = signed_number f.nonfinite (sign_of of_zero exact) (magnitude z) in
+    record {
+      has = same_number z value _ r.0 (record {
+        is_finite = k.is_finite;
+        number_is = k.number_is ∙ ap (λ (c : Bool). signed c (magnitude z)) s ∙ signed_exact of_zero z;
+      });
+      status_is = r.1;
+    }
+
+times_one : (z : ℤ) → (z *ℤ pos 1) ≡ z
+times_one z = omega (arith, ints)
+
 pub rounded_exactly : (f : Format) (mode : Round) (of_zero : Bool) (z : ℤ) (value : Datum) (status : ℕ)
     → IsOnGrid f.precision (magnitude z) → magnitude z ≤ largest f → IsRounded f mode of_zero z 1 value status
     → IsRoundedExactly z value status
 rounded_exactly f mode of_zero z value status g l h =
-    let s = sign_of of_zero z in
-    let r = delivered_once f mode (sign_of of_zero z) (magnitude z) 1 value
-    (signed_quanta f.nonfinite (sign_of of_zero z) (magnitude z)) status ok_bits h
-    (exact_delivered f mode (sign_of of_zero z) (magnitude z) (magnitude z) 1 (lit< tt) g l (omega arith)) in
-    let k = signed_number f.nonfinite s (magnitude z) in
-    record {
-      has = same_number z value _ r.0
-          (record { is_finite = k.is_finite; number_is = k.number_is ∙ signed_exact of_zero z });
-      status_is = r.1;
-    }
+    fraction_exactly f mode of_zero z z 1 value status (lit< tt) g l (times_one z) h
 
 past_not_ok : (out : Bool) → (cond out (overflow_bit + inexact_bit) inexact_bit) ≡ ok_bits → ⊥
 past_not_ok true e = omega (arith, e)
@@ -122,21 +135,32 @@ ok_tests false false out tiny e = absurd (lost_not_ok tiny e)
 pub test_within : (m n : ℕ) → ltb m n ≡ false → n ≤ m
 test_within m n h = grind arith
 
+-- a finite datum of exactly exact / parts quanta
+pub record HasFractionParts (parts : ℕ) (exact : ℤ) (value : Datum) : Type 0 where
+  pub is_finite : is_finite value ≡ true
+  pub parts_are : (number value *ℤ pos parts) ≡ exact
+
 -- a rounding with status OK is exact
+pub ok_parts : (f : Format) (mode : Round) (of_zero : Bool) (exact : ℤ) (parts : ℕ) (value : Datum) (status : ℕ)
+    → IsRounded f mode of_zero exact parts value status → status ≡ ok_bits → HasFractionParts parts exact value
+ok_parts f mode of_zero exact parts value status x o =
+    let s = sign_of of_zero exact in
+    let t = ok_tests (ltb (largest f) x.pick) (eqb (x.pick * parts) (magnitude exact)) (raises_overflow f mode s)
+    (is_tiny f mode s (magnitude exact) parts x.pick) (sym x.status_is ∙ o) in
+    let p : x.pick * parts ≡ magnitude exact = eqb-true (x.pick * parts) (magnitude exact) t.1 in
+    let k = signed_number f.nonfinite s x.pick in
+    let v = x.value_is ∙ within_is f mode s x.pick (test_within _ _ t.0) in
+    record {
+      is_finite = ap is_finite v ∙ k.is_finite;
+      parts_are = ap (λ (d : Datum). number d *ℤ pos parts) v ∙ ap (λ (z : ℤ). z *ℤ pos parts) k.number_is
+          ∙ sym (signed_times s x.pick parts) ∙ ap (λ (i : ℕ). signed s i) p ∙ signed_exact of_zero exact;
+    }
+
 pub ok_exactly : (f : Format) (mode : Round) (of_zero : Bool) (z : ℤ) (value : Datum) (status : ℕ)
     → IsRounded f mode of_zero z 1 value status → status ≡ ok_bits → HasNumber z value
 ok_exactly f mode of_zero z value status x o =
-    let s = sign_of of_zero z in
-    let t = ok_tests (ltb (largest f) x.pick) (eqb (x.pick * 1) (magnitude z)) (raises_overflow f mode s)
-    (is_tiny f mode s (magnitude z) 1 x.pick) (sym x.status_is ∙ o) in
-    let p : x.pick * 1 ≡ magnitude z = eqb-true (x.pick * 1) (magnitude z) t.1 in
-    let q : x.pick ≡ magnitude z = omega (arith, p) in
-    let k = signed_number f.nonfinite s x.pick in
-    same_number z value _ (x.value_is ∙ within_is f mode s x.pick (test_within _ _ t.0))
-    (record {
-      is_finite = k.is_finite;
-      number_is = k.number_is ∙ ap (signed s) q ∙ signed_exact of_zero z;
-    })
+    let k = ok_parts f mode of_zero z 1 value status x o in
+    record { is_finite = k.is_finite; number_is = sym (times_one (number value)) ∙ k.parts_are }
 
 -- ---- sums and differences of finite data
 
@@ -156,8 +180,7 @@ pub record IsOpposite (z : ℤ) (value : Datum) : Type 0 where
   pub is : value ≡ finite negative quanta
   pub number_is : signed negative quanta ≡ neg_ℤ z
 
-pub opposite : (kind : NonfiniteBehavior) (c : Bool) (n : ℕ)
-    → IsOpposite (signed c n) (negated kind (finite c n))
+pub opposite : (kind : NonfiniteBehavior) (c : Bool) (n : ℕ) → IsOpposite (signed c n) (negated kind (finite c n))
 opposite IEEE754 c zero =
     record { negative = not c; quanta = 0; is = refl; number_is = signed_not c 0 }
 opposite NanOnly c zero =
@@ -177,8 +200,7 @@ opposite kind c (suc n) =
       number_is = signed_not c (suc n);
     }
 
-pub negated_has : (f : Format) (x : Datum) → is_finite x ≡ true
-    → HasNumber (neg_ℤ (number x)) (negated f.nonfinite x)
+pub negated_has : (f : Format) (x : Datum) → is_finite x ≡ true → HasNumber (neg_ℤ (number x)) (negated f.nonfinite x)
 negated_has f (finite b m) p =
     let o = opposite f.nonfinite b m in
     record { is_finite = ap is_finite o.is; number_is = ap number o.is ∙ o.number_is }
@@ -261,8 +283,7 @@ equal_by z w Less e h = absurd (false≢true h)
 equal_by z w Equal e h = exact_signed z w (sym e)
 equal_by z w Greater e h = absurd (false≢true h)
 
-pub equal_numbers : (x y : Datum) → is_finite x ≡ true → is_finite y ≡ true → is_equal x y ≡ true
-    → number x ≡ number y
+pub equal_numbers : (x y : Datum) → is_finite x ≡ true → is_finite y ≡ true → is_equal x y ≡ true → number x ≡ number y
 equal_numbers (finite b m) (finite c n) p q h = equal_by (signed b m) (signed c n) _ refl h
 equal_numbers (finite b m) (infinite c) p q h = absurd (false≢true q)
 equal_numbers (finite b m) (nan c n) p q h = absurd (false≢true q)
@@ -279,16 +300,14 @@ below_true z w Less e h = let k = int_ranked z w Less e in omega (arith, ints, k
 below_true z w Equal e h = absurd (false≢true h)
 below_true z w Greater e h = absurd (false≢true h)
 
-pub not_below : (x y : Datum) → is_finite x ≡ true → is_finite y ≡ true → is_below x y ≡ false
-    → number y ≤ℤ number x
+pub not_below : (x y : Datum) → is_finite x ≡ true → is_finite y ≡ true → is_below x y ≡ false → number y ≤ℤ number x
 not_below (finite b m) (finite c n) p q h = below_by (signed b m) (signed c n) _ refl h
 not_below (finite b m) (infinite c) p q h = absurd (false≢true q)
 not_below (finite b m) (nan c n) p q h = absurd (false≢true q)
 not_below (infinite b) y p q h = absurd (false≢true p)
 not_below (nan b m) y p q h = absurd (false≢true p)
 
-pub is_under : (x y : Datum) → is_finite x ≡ true → is_finite y ≡ true → is_below x y ≡ true
-    → number x ≤ℤ number y
+pub is_under : (x y : Datum) → is_finite x ≡ true → is_finite y ≡ true → is_below x y ≡ true → number x ≤ℤ number y
 is_under (finite b m) (finite c n) p q h = below_true (signed b m) (signed c n) _ refl h
 is_under (finite b m) (infinite c) p q h = absurd (false≢true q)
 is_under (finite b m) (nan c n) p q h = absurd (false≢true q)

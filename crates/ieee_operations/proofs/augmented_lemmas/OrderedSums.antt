@@ -24,16 +24,16 @@ use Rattle.ieee_operations.specs.augmented.TiesToZero.{IsTiesToZeroPick}
 use Rattle.ieee_operations.specs.augmented.Augmented.{IsAugmentedSum}
 use Rattle.ieee_operations.specs.augmented.Numbers.{HasNumber, IsAugmentedNumber, IsNearestTo, with_sign}
 use Rattle.ieee_operations.proofs.augmented_lemmas.Cases.{sum_of_numbers}
-use Rattle.ieee_operations.proofs.augmented_lemmas.Heads.{half_unit, with_tail_is, past_largest_is, picks_of}
+use Rattle.ieee_operations.proofs.augmented_lemmas.FractionPicks.{half_unit, past_pick_in}
+use Rattle.ieee_operations.proofs.augmented_lemmas.Heads.{with_tail_is, past_in, picks_of}
 use Rattle.ieee_operations.proofs.augmented_lemmas.Heads.{near_is_nearest, pick_is_nearest, tie_is, no_tie_is, at_half}
-use Rattle.ieee_operations.proofs.augmented_lemmas.Heads.{beyond, past_pick, short_is_largest, half_left, no_half_left}
+use Rattle.ieee_operations.proofs.augmented_lemmas.Heads.{beyond, short_is_largest_in, half_left, no_half_left}
 use Rattle.ieee_operations.proofs.augmented_lemmas.Numbers.{signed_number, within_is, past_is, short_is, past_without, sum_rounded, quanta_in}
 use Rattle.ieee_operations.proofs.augmented_lemmas.Rests.{as_nearest, rest_in_format}
 
 -- the sum toward zero is a number of the format
 pub short_in : (f : Format) → 3 ≤ f.precision → (x y short : Datum) (j : ℕ) → IsAugmentedNumber f x
-    → IsAugmentedNumber f y
-    → IsSum f TowardZero x y short j → IsAugmentedNumber f short
+    → IsAugmentedNumber f y → IsSum f TowardZero x y short j → IsAugmentedNumber f short
 short_in f h x y short j nx ny sum =
     let v = number x +ℤ number y in
     let of_zero = zero_sum_sign NearestTiesToEven (is_negative x) (is_negative y) in
@@ -52,8 +52,7 @@ short_in f h x y short j nx ny sum =
 -- a head within the largest value and what it leaves are the two results
 finish : (f : Format) → 3 ≤ f.precision → (x y : Datum) → IsAugmentedNumber f x → IsAugmentedNumber f y → (p : ℕ)
     → IsTiesToZeroPick f.precision (magnitude (number x +ℤ number y)) 1 p → p ≤ largest f
-    → (value rest head tail : Datum) (status : ℕ)
-    → value ≡ signed_quanta f.nonfinite
+    → (value rest head tail : Datum) (status : ℕ) → value ≡ signed_quanta f.nonfinite
     (sign_of (zero_sum_sign NearestTiesToEven (is_negative x) (is_negative y)) (number x +ℤ number y)) p
     → HasNumber ((number x +ℤ number y) -ℤ number value) rest
     → head ≡ value → tail ≡ with_sign f value rest → status ≡ ok_bits → IsAugmentedSum f x y head tail status
@@ -73,8 +72,7 @@ finish f h x y nx ny p t l value rest head tail status e r hd tl o =
 -- the sum toward zero is the head: it leaves exactly the opposite of what the sum to nearest leaves
 pub head_is_short : (f : Format) → 3 ≤ f.precision → (x y near short rest left other : Datum) (i j rest_status : ℕ)
     → IsAugmentedNumber f x → IsAugmentedNumber f y → IsSum f NearestTiesToEven x y near i
-    → IsSum f TowardZero x y short j
-    → IsAugmentedNumber f near
+    → IsSum f TowardZero x y short j → IsAugmentedNumber f near
     → (rest_status ≡ ok_bits → HasNumber ((number x +ℤ number y) -ℤ number near) rest)
     → (IsNearestTo f.precision (number x +ℤ number y) (number near) → rest_status ≡ ok_bits)
     → HasNumber ((number x +ℤ number y) -ℤ number short) left → other ≡ negated f.nonfinite rest
@@ -88,16 +86,14 @@ head_is_short f h x y near short rest left other i j rest_status nx ny sum short
     let t = sum_rounded f TowardZero x y short j nx.is_finite ny.is_finite shorter in
     let a = picks_of f of_zero v 1 near short i j (lit< tt) n t nn.is_finite in
     let r = exact (nearest (near_is_nearest f of_zero v near short a)) in
-    let p = tie_is f of_zero v near short rest left a r l
-    (subst (λ (d : Datum). is_equal left d ≡ true) o e) in
+    let p = tie_is f of_zero v near short rest left a r l (subst (λ (d : Datum). is_equal left d ≡ true) o e) in
     finish f h x y nx ny a.lower p a.lower_within short left head tail status a.short_is l hd tl ok
 
 -- the sum to nearest is the head
 pub head_is_near : (f : Format) → 3 ≤ f.precision → (x y near short rest left other : Datum)
     (i j rest_status left_status : ℕ)
     → IsAugmentedNumber f x → IsAugmentedNumber f y → IsSum f NearestTiesToEven x y near i
-    → IsSum f TowardZero x y short j
-    → IsAugmentedNumber f near
+    → IsSum f TowardZero x y short j → IsAugmentedNumber f near
     → (rest_status ≡ ok_bits → HasNumber ((number x +ℤ number y) -ℤ number near) rest)
     → (IsNearestTo f.precision (number x +ℤ number y) (number near) → rest_status ≡ ok_bits)
     → (left_status ≡ ok_bits → HasNumber ((number x +ℤ number y) -ℤ number short) left)
@@ -142,15 +138,14 @@ sum_past f h x y near short i j nx ny sum shorter nn =
       is_pick = n.is_pick;
       value_is = n.value_is;
       past = past;
-      short_is = short_is_largest f h of_zero v n.pick short j past n.is_pick t;
+      short_is = short_is_largest_in f h of_zero v 1 n.pick short j (lit< tt) past n.is_pick t;
     }
 
 -- the largest value is the head: the sum is halfway past it
 pub head_is_largest : (f : Format) → 3 ≤ f.precision → 1 ≤ f.span → (x y near short left magnitude_of_left unit : Datum)
     (i j : ℕ)
     → IsAugmentedNumber f x → IsAugmentedNumber f y → IsSum f NearestTiesToEven x y near i
-    → IsSum f TowardZero x y short j
-    → is_finite near ≡ false
+    → IsSum f TowardZero x y short j → is_finite near ≡ false
     → HasNumber ((number x +ℤ number y) -ℤ number short) left → magnitude_of_left ≡ abs f left
     → unit ≡ finite false (half_unit f) → is_equal magnitude_of_left unit ≡ true
     → (head tail : Datum) (status : ℕ) → head ≡ short → tail ≡ with_sign f short left
@@ -172,8 +167,7 @@ head_is_largest f h k x y near short left magnitude_of_left unit i j nx ny sum s
 pub head_is_past : (f : Format) → 3 ≤ f.precision → 1 ≤ f.span → (x y near short left magnitude_of_left unit : Datum)
     (i j left_status : ℕ)
     → IsAugmentedNumber f x → IsAugmentedNumber f y → IsSum f NearestTiesToEven x y near i
-    → IsSum f TowardZero x y short j
-    → is_finite near ≡ false
+    → IsSum f TowardZero x y short j → is_finite near ≡ false
     → (left_status ≡ ok_bits → HasNumber ((number x +ℤ number y) -ℤ number short) left)
     → (IsNearestTo f.precision (number x +ℤ number y) (number short) → left_status ≡ ok_bits)
     → magnitude_of_left ≡ abs f left → unit ≡ finite false (half_unit f)
@@ -187,14 +181,13 @@ head_is_past f h k x y near short left magnitude_of_left unit i j left_status nx
     let s = sign_of of_zero v in
     let n = sum_past f h x y near short i j nx ny sum shorter nn in
     let number_is : number short ≡ signed s (largest f) = ap number n.short_is in
-    let p = past_pick f h k s (magnitude v) n.pick n.past n.is_pick
-    (no_half_left f h k of_zero v left unit left_status u
+    let no_half = no_half_left f h k of_zero v left unit left_status u
     (λ o. subst (λ (z : ℤ). HasNumber (v -ℤ z) left) number_is (exact o))
     (λ q. nearest (subst (λ (z : ℤ). IsNearestTo f.precision v z) (sym number_is) q))
-    (λ o. subst (λ (d : Datum). is_equal d unit ≡ false) m (differs o))) in
+    (λ o. subst (λ (d : Datum). is_equal d unit ≡ false) m (differs o)) in
+    let p = past_pick_in f h k s (magnitude v) 1 n.pick (lit< tt) n.past n.is_pick (λ e. no_half (omega (arith, e))) in
     sum_of_numbers f x y head tail status nx.is_finite ny.is_finite
-    (past_largest_is f of_zero v p.pick head tail status p.is_pick p.past
-    (hd ∙ n.value_is ∙ past_is f s n.pick n.past)
+    (past_in f of_zero v 1 p.pick head tail status p.is_pick p.past (hd ∙ n.value_is ∙ past_is f s n.pick n.past)
     (tl ∙ sym hd) ok)
 
 -- ---- how far the smallest value is moved to half a unit in the last place of the largest one

@@ -75,9 +75,7 @@ signaling_is p q a c k h l some o e qe =
     let t : eqb (bit_and (cleared_of IEEE754 p q) (2 ^ (p - 1) - 1)) 0 ≡ false =
     ne_eqb _ 0 (λ z. omega (arith, m, z, some)) in
     ap (λ (b : Bool). (cond b (bit_or (cleared_of IEEE754 p q) (2 ^ (p - 2) / 2)) (cleared_of IEEE754 p q))
-    % 2 ^ (p - 2))
-    t
-    ∙ ap (λ (n : ℕ). n % 2 ^ (p - 2)) d ∙ mod-mul-add (2 * c) (2 ^ (p - 2)) k l
+    % 2 ^ (p - 2)) t ∙ ap (λ (n : ℕ). n % 2 ^ (p - 2)) d ∙ mod-mul-add (2 * c) (2 ^ (p - 2)) k l
 
 -- ---- each kind of format
 
@@ -122,8 +120,7 @@ module _ (f : Format) (k : ℕ) where
       let x = integer_datum f false k in
       ap (λ (b : Bool). get_payload f (cond b (qnan f (integer_of f x)) zero_datum)) (fits 0 (omega arith) l)
       ∙ ap (λ (n : ℕ). integer_datum f false (payload_of f (quiet_significand f n))) integer_is
-      ∙ ap (λ (n : ℕ). integer_datum f false n)
-      (quiet_back f.nonfinite f.explicit_integer_bit f.precision k h l)
+      ∙ ap (λ (n : ℕ). integer_datum f false n) (quiet_back f.nonfinite f.explicit_integer_bit f.precision k h l)
 
   signaling_kept : 3 ≤ f.precision → k < 2 ^ payload_bits f → 1 ≤ k
       → get_payload f (set_payload_signaling f (integer_datum f false k)) ≡ integer_datum f false k

@@ -1,20 +1,18 @@
 -- Augmented products, in each of the cases of the calls: special operands, an exact rest, and past the largest value.
 use Rattle.std.proofs.Common.{◌≡◌, ℕ, zero, suc, ◌+◌, ◌-◌, ◌*◌, ◌^◌, ◌<◌, ◌≤◌, Bool}
-use Rattle.std.proofs.Common.{true, false, ltb, if◌then◌else◌, sym, refl, ap, ◌∙◌, subst, ◌⊎◌, inl}
-use Rattle.std.proofs.Common.{inr, ⊎_elim, arith}
+use Rattle.std.proofs.Common.{true, false, ltb, if◌then◌else◌, sym, refl, ap, ◌∙◌, subst, ◌⊎◌, inl, inr, arith}
 use Rattle.std.specs.Prelude.{ℤ, pos, ◌+ℤ◌, ◌-ℤ◌, ◌*ℤ◌}
 use Rattle.std.specs.Bool.{MatchBool}
 use Rattle.std.proofs.Math.Nat.{mul-pos}
-use Rattle.std.proofs.lemmas.Bool.{cases_lt, false≢true, lt-ltb, le-ltb, eq-eqb}
+use Rattle.std.proofs.lemmas.Bool.{false≢true, lt-ltb, le-ltb, eq-eqb}
 use Rattle.std.proofs.lemmas.Int.{ints}
 use Rattle.std.proofs.lemmas.Nat.{pow_pos}
 use Rattle.apfloat_model.specs.declared.kinds.Category.TheVariants.{Normal, Zero, Infinity, NaN}
 use Rattle.apfloat_model.specs.declared.kinds.Round.{Round}
 use Rattle.apfloat_model.specs.declared.kinds.Round.TheVariants.{NearestTiesToEven, TowardZero}
-use Rattle.apfloat_model.specs.formats.Format.{Format, largest, nan_base}
+use Rattle.apfloat_model.specs.formats.Format.{Format, largest}
 use Rattle.apfloat_model.specs.formats.Datum.{Datum, finite, infinite, nan}
-use Rattle.apfloat_model.specs.rounding.Grid.{IsOnGrid}
-use Rattle.apfloat_model.specs.rounding.Rounding.{IsPick, past_largest, signed_quanta, ok_bits, overflow_bit, underflow_bit, inexact_bit}
+use Rattle.apfloat_model.specs.rounding.Rounding.{signed_quanta, ok_bits, overflow_bit, underflow_bit, inexact_bit}
 use Rattle.apfloat_model.specs.rounding.Negation.{negated}
 use Rattle.apfloat_model.specs.arithmetic.Exact.{magnitude, signed, sign_of, product_sign, IsRounded}
 use Rattle.apfloat_model.specs.arithmetic.Products.{IsProduct}
@@ -23,13 +21,8 @@ use Rattle.apfloat_model.specs.arithmetic.Sums.{zero_sum_sign}
 use Rattle.apfloat_model.specs.order.Classes.{category_of, is_finite, is_finite_non_zero, is_finite_non_zero_category, is_negative}
 use Rattle.apfloat_model.specs.order.Order.{number}
 use Rattle.apfloat_model.proofs.arithmetic.Signs.{magnitude_signed, no_sign}
-use Rattle.apfloat_model.proofs.formats.Greatest.{greatest_fits, greatest_some}
-use Rattle.apfloat_model.proofs.formats.Ranges.{at_top}
 use Rattle.apfloat_model.proofs.order.PredicatesAgree.{number_agrees}
-use Rattle.apfloat_model.proofs.rounding.Deliveries.{signed_some}
 use Rattle.apfloat_model.proofs.rounding.Laws.{delivered_once, exact_delivered, zero_on_grid}
-use Rattle.apfloat_model.proofs.rounding.FarMagnitudes.{largest_on_grid}
-use Rattle.apfloat_model.proofs.whole_numbers.SignedNumbers.{largest_some}
 use Rattle.apfloat_pair_theory.proofs.numbers.Roundings.{signed_exact}
 use Rattle.apfloat_pair_theory.proofs.numbers.Signed.{on_grid_as}
 use Rattle.apfloat_model.proofs.whole_numbers.SignedProducts.{sum_times, magnitude-mul, signed_product, signed_times}
@@ -37,12 +30,12 @@ use Rattle.ieee_operations.specs.augmented.Augmented.{IsPastLargest, IsWithTail,
 use Rattle.ieee_operations.specs.augmented.Numbers.{IsNonzeroIn, IsNearProduct}
 use Rattle.ieee_operations.specs.augmented.TiesToZero.{IsTiesToZeroPick}
 use Rattle.ieee_operations.proofs.augmented_lemmas.Cases.{each_product}
-use Rattle.ieee_operations.proofs.augmented_lemmas.FractionPicks.{beyond_in, past_pick_in}
-use Rattle.ieee_operations.proofs.augmented_lemmas.FractionRoundings.{rest_of_product, fraction_exactly, ok_parts, product_rounded, rest_rounded}
-use Rattle.ieee_operations.proofs.augmented_lemmas.Heads.{half_unit}
+use Rattle.ieee_operations.proofs.augmented_lemmas.FractionPicks.{half_unit, past_pick_in}
+use Rattle.ieee_operations.proofs.augmented_lemmas.FractionRoundings.{rest_of_product, product_rounded, rest_rounded}
+use Rattle.ieee_operations.proofs.augmented_lemmas.Heads.{half_is_within, half_on_grid, past_in, short_is_largest_in}
 use Rattle.ieee_operations.proofs.augmented_lemmas.Multiples.{augmented_times}
-use Rattle.ieee_operations.proofs.augmented_lemmas.Numbers.{within_is, past_is, short_is, past_without}
-use Rattle.ieee_operations.proofs.augmented_lemmas.TiesToZero.{ties_to_zero_exact, short_is_below}
+use Rattle.ieee_operations.proofs.augmented_lemmas.Numbers.{past_is, past_without, fraction_exactly, ok_parts}
+use Rattle.ieee_operations.proofs.augmented_lemmas.TiesToZero.{ties_to_zero_exact}
 
 -- ---- finite data, and others
 
@@ -68,10 +61,8 @@ numbers_of_sum f (infinite b) y head tail status p q h = absurd (false≢true p)
 numbers_of_sum f (nan b m) y head tail status p q h = absurd (false≢true p)
 
 -- a product of numbers other than zero is not zero
-pub product_some : (f : Format) (x y : Datum) → IsNonzeroIn f x → IsNonzeroIn f y
-    → 0 < magnitude (number x *ℤ number y)
-product_some f x y p q =
-    subst (λ (i : ℕ). 0 < i) (sym (magnitude-mul (number x) (number y))) (mul-pos p.some q.some)
+pub product_some : (f : Format) (x y : Datum) → IsNonzeroIn f x → IsNonzeroIn f y → 0 < magnitude (number x *ℤ number y)
+product_some f x y p q = subst (λ (i : ℕ). 0 < i) (sym (magnitude-mul (number x) (number y))) (mul-pos p.some q.some)
 
 nothing_left : (s : Bool) (k : ℕ) → k ≡ 0 → (pos 0 -ℤ signed s k) ≡ pos 0
 nothing_left true k e = omega (arith, ints, e)
@@ -159,57 +150,9 @@ exact_product f x y first rest rest_status nx ny p fused o head tail status sum 
 
 -- ---- past the largest value
 
-pub past_in : (f : Format) (of_zero : Bool) (exact : ℤ) (parts p : ℕ) (head tail : Datum) (status : ℕ)
-    → IsTiesToZeroPick f.precision (magnitude exact) parts p → largest f < p
-    → head ≡ past_largest f.nonfinite (nan_base f) (sign_of of_zero exact) → tail ≡ head
-    → status ≡ overflow_bit + inexact_bit → IsAugmented f of_zero exact parts head tail status
-past_in f of_zero exact parts p head tail status t l e k o =
-    let s = sign_of of_zero exact in
-    let w : ltb (largest f) p ≡ true = lt-ltb (largest f) p l in
-    record {
-      pick = p;
-      is_pick = t;
-      is = subst (λ (c : Bool). MatchBool c (IsPastLargest f s head tail status)
-          (IsWithTail f s exact parts p head tail status)) (sym w)
-          (record { head_is = e; tail_is = k; status_is = o });
-    }
-
--- the product toward zero is the largest value
-short_is_largest_in : (f : Format) → 3 ≤ f.precision → (of_zero : Bool) (exact : ℤ) (parts e : ℕ) (short : Datum)
-    (j : ℕ) → 0 < parts → largest f < e
-    → IsPick f.precision NearestTiesToEven (sign_of of_zero exact) (magnitude exact) parts e
-    → IsRounded f TowardZero of_zero exact parts short j → short ≡ finite (sign_of of_zero exact) (largest f)
-short_is_largest_in f h of_zero exact parts e short j p l x y =
-    let s = sign_of of_zero exact in
-    let g = beyond_in f s (magnitude exact) parts e p l x in
-    let b = short_is_below f.precision s (magnitude exact) parts e y.pick x y.is_pick in
-    let lo : largest f ≤ x.below = x.is_below.greatest (largest f) (largest_on_grid f) (omega (arith, g)) in
-    ⊎_elim
-    (λ (q : largest f < y.pick). y.value_is ∙ short_is f s y.pick q)
-    (λ (q : y.pick ≤ largest f).
-    let w : y.pick ≡ largest f = omega (arith, q, b, lo) in
-    y.value_is ∙ within_is f TowardZero s y.pick q ∙
-    ap (λ (i : ℕ). signed_quanta f.nonfinite s i) w ∙ signed_some f.nonfinite s (largest f) (largest_some f h))
-    (cases_lt (largest f) y.pick)
-
 signed_minus : (s : Bool) (a b c : ℕ) → a ≡ b + c → signed s c ≡ (signed s a -ℤ signed s b)
 signed_minus true a b c e = omega (arith, ints, e)
 signed_minus false a b c e = omega (arith, ints, e)
-
-half_on_grid : (f : Format) → 3 ≤ f.precision → IsOnGrid f.precision (half_unit f)
-half_on_grid f h = record {
-  significand = 1;
-  place = f.span - 1;
-  fits = let a = greatest_fits f.nonfinite f.precision in
-      let b = greatest_some f.nonfinite f.precision h in omega (arith, a, b);
-  is = omega arith;
-}
-
-half_is_within : (f : Format) → 3 ≤ f.precision → half_unit f ≤ largest f
-half_is_within f h =
-    let w : 1 * half_unit f ≤ largest f =
-    at_top f 1 (f.span - 1) (greatest_some f.nonfinite f.precision h) (omega arith) in
-    omega (arith, w)
 
 -- Halfway past the largest value, what that value leaves is exact.
 half_is_exact : (f : Format) → 3 ≤ f.precision → (of_zero s : Bool) (exact : ℤ) (parts : ℕ) (x y short rest : Datum)
@@ -234,8 +177,7 @@ half_is_exact f h of_zero s exact parts x y short rest j p u e d is r amount =
 -- the product rounded, in some mode
 pub rounded_in : (f : Format) (mode : Round) (x y near value : Datum) (status : ℕ) → IsNearProduct f x y near
     → IsProduct f mode x y value status
-    → IsRounded f mode (product_sign (is_negative x) (is_negative y)) (number x *ℤ number y)
-    (2 ^ f.scale) value status
+    → IsRounded f mode (product_sign (is_negative x) (is_negative y)) (number x *ℤ number y) (2 ^ f.scale) value status
 rounded_in f mode x y near value status a product =
     product_rounded f mode x y value status a.left.is_in.is_finite a.right.is_in.is_finite
     (product_some f x y a.left a.right) product
@@ -254,8 +196,7 @@ short_is_top f h x y near short j a out shorter =
 -- the head is past the largest value: what the largest value leaves is not exact
 pub product_is_past : (f : Format) → 3 ≤ f.precision → 1 ≤ f.span → (x y near short rest : Datum) (j k : ℕ)
     → IsNearProduct f x y near → is_finite near ≡ false → IsProduct f TowardZero x y short j
-    → IsFusedSum f NearestTiesToEven x y (negated f.nonfinite short) rest k → (k ≡ ok_bits → ⊥)
-    → (head tail : Datum)
+    → IsFusedSum f NearestTiesToEven x y (negated f.nonfinite short) rest k → (k ≡ ok_bits → ⊥) → (head tail : Datum)
     (status : ℕ) → head ≡ near → tail ≡ near → status ≡ overflow_bit + inexact_bit
     → IsAugmentedProduct f x y head tail status
 product_is_past f h w x y near short rest j k a out shorter fused lost head tail status hd tl o =
@@ -276,8 +217,7 @@ product_is_past f h w x y near short rest j k a out shorter fused lost head tail
     (hd ∙ n.value_is ∙ past_is f s n.pick past) (tl ∙ sym hd) o)
 
 -- the product toward zero is finite
-pub short_is_finite : (f : Format) → 3 ≤ f.precision → (x y near short : Datum) (j : ℕ)
-    → IsNearProduct f x y near
+pub short_is_finite : (f : Format) → 3 ≤ f.precision → (x y near short : Datum) (j : ℕ) → IsNearProduct f x y near
     → is_finite near ≡ false → IsProduct f TowardZero x y short j → is_finite short ≡ true
 short_is_finite f h x y near short j a out shorter = ap is_finite (short_is_top f h x y near short j a out shorter)
 
@@ -288,8 +228,7 @@ normal_some zero e = cc
 normal_some (suc m) e = omega arith
 
 pub some_of_normal : (x : Datum) → category_of x ≡ Normal → 0 < magnitude (number x)
-some_of_normal (finite b m) e =
-    subst (λ (i : ℕ). 0 < i) (sym (magnitude_signed b m)) (normal_some m e)
+some_of_normal (finite b m) e = subst (λ (i : ℕ). 0 < i) (sym (magnitude_signed b m)) (normal_some m e)
 some_of_normal (infinite b) e = cc
 some_of_normal (nan b s) e = cc
 

@@ -48,8 +48,7 @@ sum_down m c h = omega (arith, ints, one_side c)
 first_within : (precision top : ℕ) (a c z : ℤ) → magnitude c ≤ magnitude a → magnitude a ≤ top
     → magnitude z ≤ top → IsNearest precision (a +ℤ c) z → magnitude (z -ℤ a) ≤ top
 first_within precision top (pos m) c z l x y n =
-    let k : pos 0 ≤ℤ z =
-    nearest_above precision (pos 0) (pos m +ℤ c) z (zero_on_grid precision) (sum_up m c l) n in
+    let k : pos 0 ≤ℤ z = nearest_above precision (pos 0) (pos m +ℤ c) z (zero_on_grid precision) (sum_up m c l) n in
     between_up (pos m) c z z (omega (arith, ints)) l k top x y
 first_within precision top (negsuc m) c z l x y n =
     let k : z ≤ℤ pos 0 =
@@ -100,8 +99,7 @@ first_exact f x head first status p q h o =
 -- of a nearest sum, the first subtraction of Fast2Sum is exact
 pub first_of_nearest : (f : Format) → 3 ≤ f.precision → (x y head first : Datum) (status : ℕ)
     → IsAugmentedNumber f x → IsAugmentedNumber f y → IsAugmentedNumber f head
-    → magnitude (number y) ≤ magnitude (number x)
-    → IsNearestTo f.precision (number x +ℤ number y) (number head)
+    → magnitude (number y) ≤ magnitude (number x) → IsNearestTo f.precision (number x +ℤ number y) (number head)
     → IsDifference f NearestTiesToEven head x first status → status ≡ ok_bits
 first_of_nearest f h x y head first status p q r l n d =
     let a = number x in
@@ -125,8 +123,7 @@ second_of_nearest f h x y head first rest status p q d n s =
     let n' = as_nearest f.precision (a +ℤ c) z n in
     let i = rest_in_format f h a c z p.on_grid q.on_grid q.within n' in
     let r = difference_rounded f NearestTiesToEven y first rest status q.is_finite d.is_finite s in
-    let e = d.number_is in
-    let k : ((a +ℤ c) -ℤ z) ≡ (c -ℤ number first) = omega (arith, ints, e) in
+    let k : ((a +ℤ c) -ℤ z) ≡ (c -ℤ number first) = omega (arith, ints, d.number_is) in
     (rounded_exactly f NearestTiesToEven r.0 (c -ℤ number first) rest status
     (subst (λ (v : ℤ). IsOnGrid f.precision (magnitude v)) k i.on_grid)
     (subst (λ (v : ℤ). magnitude v ≤ largest f) k i.within) r.1).status_is

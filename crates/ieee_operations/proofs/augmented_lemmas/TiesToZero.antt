@@ -1,18 +1,17 @@
 -- The pick to nearest with ties toward zero: it is unique, it follows from the picks of two modes, and no grid number
 -- is nearer.
-use Rattle.std.proofs.Common.{◌≡◌, ℕ, ◌+◌, ◌-◌, ◌*◌, ◌<◌, ◌≤◌, Bool, true, false, cond, ltb, sym, refl, ap, ◌∙◌, subst, ⊎_elim, le_trans, arith}
+use Rattle.std.proofs.Common.{◌≡◌, ℕ, ◌+◌, ◌-◌, ◌*◌, ◌<◌, ◌≤◌, Bool, true, false, cond, ltb, sym, refl, ap, ◌∙◌, subst, le_trans, arith}
 use Rattle.std.specs.Prelude.{◌-ℤ◌}
-use Rattle.std.proofs.lemmas.Bool.{cases_lt, lt-ltb, le-ltb}
+use Rattle.std.proofs.lemmas.Bool.{lt-ltb, le-ltb}
 use Rattle.apfloat_model.specs.declared.kinds.Round.TheVariants.{NearestTiesToEven, TowardZero}
 use Rattle.apfloat_model.specs.rounding.Grid.{IsOnGrid}
-use Rattle.apfloat_model.specs.rounding.Rounding.{takes_above, IsPick}
+use Rattle.apfloat_model.specs.rounding.Rounding.{IsPick}
 use Rattle.apfloat_model.specs.arithmetic.Exact.{magnitude, signed}
 use Rattle.apfloat_model.proofs.arithmetic.Signs.{magnitude_signed}
 use Rattle.apfloat_model.proofs.general.Choices.{cond_same}
 use Rattle.apfloat_model.proofs.rounding.Laws.{exact_below, exact_above}
 use Rattle.apfloat_model.proofs.rounding.Neighbours.{below_unique, above_unique}
 use Rattle.apfloat_model.proofs.rounding.ModesAgree.{either_on_grid}
-use Rattle.apfloat_model.proofs.rounding.Picks.{even_nearer, even_farther}
 use Rattle.apfloat_pair_theory.proofs.numbers.Roundings.{apart, signed_apart, signed_far, near_at}
 use Rattle.apfloat_pair_theory.proofs.numbers.Signed.{on_grid_as}
 use Rattle.ieee_operations.specs.augmented.TiesToZero.{nearer_between, IsTiesToZeroPick}
@@ -55,21 +54,6 @@ ties_to_zero_exact precision g amount parts p o e = record {
 
 -- ---- from two modes
 
--- unless it is halfway, the pick to even is that with ties toward zero
-not_half : (negative odd above : Bool) (low high amount e : ℕ)
-    → takes_above NearestTiesToEven negative (amount - low * 1) (high * 1 - amount) odd ≡ above
-    → low * 1 ≤ amount → amount ≤ high * 1 → e ≡ cond above high low → (2 * amount ≡ e + low → ⊥)
-    → e ≡ nearer_between low high amount 1
-not_half negative odd true low high amount e t l h q n =
-    let w = even_nearer negative odd (amount - low * 1) (high * 1 - amount) t in
-    ⊎_elim
-    (λ (k : high * 1 - amount < amount - low * 1). q ∙ sym (takes_high low high amount 1 k))
-    (λ (k : amount - low * 1 ≤ high * 1 - amount). absurd (n (omega (arith, w, k, q, l, h))))
-    (cases_lt (high * 1 - amount) (amount - low * 1))
-not_half negative odd false low high amount e t l h q n =
-    let w = even_farther negative odd (amount - low * 1) (high * 1 - amount) t in
-    q ∙ sym (takes_low low high amount 1 w)
-
 -- halfway, the lower neighbour is
 half : (above : Bool) (low high amount e : ℕ) → low * 1 ≤ amount → amount ≤ high * 1 → e ≡ cond above high low
     → 2 * amount ≡ e + low → low ≡ nearer_between low high amount 1
@@ -89,15 +73,6 @@ from_pick : (precision : ℕ) (negative : Bool) (amount e p : ℕ)
     → IsTiesToZeroPick precision amount 1 p
 from_pick precision negative amount e p x is =
     record { below = x.below; above = x.above; is_below = x.is_below; is_above = x.is_above; is = is }
-
-pub from_even : (precision : ℕ) (negative : Bool) (amount e t : ℕ)
-    → IsPick precision NearestTiesToEven negative amount 1 e → IsPick precision TowardZero negative amount 1 t
-    → (2 * amount ≡ e + t → ⊥) → IsTiesToZeroPick precision amount 1 e
-from_even precision negative amount e t x y n =
-    let s = short_is_below precision negative amount 1 e t x y in
-    from_pick precision negative amount e e x
-    (not_half negative _ _ x.below x.above amount e refl x.is_below.not_above x.is_above.not_below x.is
-    (λ h. n (h ∙ ap (λ (z : ℕ). e + z) (sym s))))
 
 pub from_half : (precision : ℕ) (negative : Bool) (amount e t : ℕ)
     → IsPick precision NearestTiesToEven negative amount 1 e → IsPick precision TowardZero negative amount 1 t

@@ -36,11 +36,11 @@ use Rattle.ieee_operations.specs.augmented.Numbers.{IsTwiceLeft, HasRoundedTail}
 use Rattle.ieee_operations.specs.augmented.TiesToZero.{IsTiesToZeroPick}
 use Rattle.ieee_operations.proofs.augmented_lemmas.Cases.{HasCaseRanges}
 use Rattle.ieee_operations.proofs.augmented_lemmas.FractionPicks.{IsFractionPick, IsHalfPast, distance, below_fraction, gap, odd_half, tie_of_quanta, from_even_in, pick_cases, half_pick, half_short, low_pick, distance_fraction, distance_half, distance_half_past, distance_at_most}
-use Rattle.ieee_operations.proofs.augmented_lemmas.FractionRoundings.{rest_of_product, fraction_exactly, ok_parts}
+use Rattle.ieee_operations.proofs.augmented_lemmas.FractionRoundings.{rest_of_product}
 use Rattle.ieee_operations.proofs.augmented_lemmas.FractionRoundings.{rest_rounded, small_product, whole_is_exact}
 use Rattle.ieee_operations.proofs.augmented_lemmas.Heads.{ArePicks, picks_of}
 use Rattle.ieee_operations.proofs.augmented_lemmas.Multiples.{sign_some}
-use Rattle.ieee_operations.proofs.augmented_lemmas.Numbers.{signed_number, same_number, within_is}
+use Rattle.ieee_operations.proofs.augmented_lemmas.Numbers.{signed_number, same_number, within_is, fraction_exactly, ok_parts}
 use Rattle.ieee_operations.proofs.augmented_lemmas.Numbers.{quanta_in, abs_has, equal_numbers}
 use Rattle.ieee_operations.proofs.augmented_lemmas.ProductCases.{product_of_numbers, product_some, rounded_in}
 use Rattle.ieee_operations.proofs.augmented_lemmas.TiesToZero.{short_is_below}
@@ -64,8 +64,7 @@ double_within f h w n g q =
     let a = below_top f g.significand (g.place + 1) h g.fits (omega (arith, w, q)) in
     let b : g.significand * 2 ^ (g.place + 1) ≡ g.significand * (2 * 2 ^ g.place) =
     ap (λ (x : ℕ). g.significand * x) (twice_power g.place) in
-    let c = g.is in
-    omega (arith, a, b, c)
+    omega (arith, a, b, g.is)
 
 -- ---- what is known of a product with digits below the quantum
 
@@ -91,22 +90,19 @@ pub record IsTiny (f : Format) (x y near short : Datum) : Type 0 where
   pub picks : ArePicks f (sign_of_product x y) (magnitude (exact_of x y)) (2 ^ f.scale) near short
 
 -- What the rounding of an integral number of quanta leaves is exact.
-exact_whole : (f : Format) → 3 ≤ f.precision → (x y near : Datum) → IsNearProduct f x y near
-    → IsAugmentedNumber f near
+exact_whole : (f : Format) → 3 ≤ f.precision → (x y near : Datum) → IsNearProduct f x y near → IsAugmentedNumber f near
     → LeavesDigits f x y near → (whole : ℤ) → (whole *ℤ pos (2 ^ f.scale)) ≡ exact_of x y → ⊥
 exact_whole f h x y near a nn lost whole w =
     lost.not_ok (whole_is_exact f h x y near lost.rest a.status lost.status whole a.left.is_in a.right.is_in nn
     (product_some f x y a.left a.right) a.is lost.is w)
 
 -- so the product is none
-no_whole : (f : Format) → 3 ≤ f.precision → (x y near : Datum) → IsNearProduct f x y near
-    → IsAugmentedNumber f near
+no_whole : (f : Format) → 3 ≤ f.precision → (x y near : Datum) → IsNearProduct f x y near → IsAugmentedNumber f near
     → LeavesDigits f x y near → IsFractionPick (magnitude (exact_of x y)) (2 ^ f.scale)
 no_whole f h x y near a nn lost = record {
   not_whole = λ whole e.
       let w : (signed (sign_of_product x y) whole *ℤ pos (2 ^ f.scale)) ≡ (number x *ℤ number y) =
-      sym (signed_times (sign_of_product x y) whole (2 ^ f.scale)) ∙
-      ap (λ (n : ℕ). signed (sign_of_product x y) n) e ∙
+      sym (signed_times (sign_of_product x y) whole (2 ^ f.scale)) ∙ ap (λ (n : ℕ). signed (sign_of_product x y) n) e ∙
       signed_exact (product_sign (is_negative x) (is_negative y)) (number x *ℤ number y) in
       exact_whole f h x y near a nn lost (signed (sign_of_product x y) whole) w;
 }
@@ -120,10 +116,7 @@ small f h w x y near a nn lost =
     (λ (q : g.place + j.place < f.scale).
     let l = small_product f.precision f.scale (magnitude (number x)) (magnitude (number y)) (omega (arith, h)) g j q in
     let m = magnitude-mul (number x) (number y) in
-    record {
-      low = omega (arith, l, m);
-      double = double_within f h w (magnitude (number x)) g (omega (arith, q));
-    })
+    record { low = omega (arith, l, m); double = double_within f h w (magnitude (number x)) g (omega (arith, q)) })
     (λ (q : f.scale ≤ g.place + j.place).
     let v = whole_product f.precision f.scale (number x) (number y) g j q in
     absurd (exact_whole f h x y near a nn lost v.0 v.1.is))
@@ -182,8 +175,7 @@ magnitude_double z = omega (arith, ints, one_side z, one_side (z +ℤ z))
 -- twice what a head leaves is rounded once
 twice_rounded : (f : Format) (x y head left : Datum) (k : ℕ) → IsAugmentedNumber f x → is_finite y ≡ true
     → IsAugmentedNumber f head → 2 * magnitude (number x) ≤ largest f → 2 * magnitude (number head) ≤ largest f
-    → IsTwiceLeft f x y head left k
-    → (of_zero : Bool) × IsRounded f NearestTiesToEven of_zero
+    → IsTwiceLeft f x y head left k → (of_zero : Bool) × IsRounded f NearestTiesToEven of_zero
     (rest_of_product f x y head +ℤ rest_of_product f x y head) (2 ^ f.scale) left k
 twice_rounded f x y head left k nx q nh lx lh t =
     let a = doubled_has f x t.double nx lx t.is_double in
@@ -233,8 +225,7 @@ module _ (f : Format) (x y near short left : Datum) (k : ℕ) (t : IsTiny f x y 
   lower_parts = ap (λ (i : ℕ). i * 2 ^ f.scale) lower_below
 
   short_number : number short ≡ signed (sign_of_product x y) t.picks.lower
-  short_number =
-      ap number t.picks.short_is ∙ (signed_number f.nonfinite (sign_of_product x y) t.picks.lower).number_is
+  short_number = ap number t.picks.short_is ∙ (signed_number f.nonfinite (sign_of_product x y) t.picks.lower).number_is
 
   short_in : IsAugmentedNumber f short
   short_in =
@@ -248,9 +239,8 @@ module _ (f : Format) (x y near short left : Datum) (k : ℕ) (t : IsTiny f x y 
       ap magnitude short_number ∙ magnitude_signed (sign_of_product x y) t.picks.lower in
       let a = t.picks.is_even.is_below.not_above in
       let b = lower_parts in
-      let c = t.size.low in
       let d' : t.picks.lower * 2 ^ f.scale < 2 ^ f.precision * 2 ^ (f.precision - 1) * 2 ^ f.scale =
-      omega (arith, a, b, c) in
+      omega (arith, a, b, t.size.low) in
       let d : t.picks.lower < 2 ^ f.precision * 2 ^ (f.precision - 1) = lt_of_mul-lt-mul_right (2 ^ f.scale) d' in
       let v = square_within f t.precise t.wide in
       let w : 2 ^ f.precision * (2 * 2 ^ (f.precision - 1)) ≡ 2 ^ f.precision * 2 ^ f.precision =
@@ -294,15 +284,13 @@ module _ (f : Format) (x y near short left : Datum) (k : ℕ) (t : IsTiny f x y 
       let b : j * 2 ^ 0 ≤ largest f = below_top f j 0 t.precise l (omega (arith, t.wide)) in
       let d : rest_of_product f x y short
       ≡ (signed s (magnitude (exact_of x y)) -ℤ signed s (t.picks.lower * 2 ^ f.scale)) =
-      rest_is f x y short s t.picks.lower short_number ∙
-      ap (λ (i : ℤ). i -ℤ signed s (t.picks.lower * 2 ^ f.scale))
+      rest_is f x y short s t.picks.lower short_number ∙ ap (λ (i : ℤ). i -ℤ signed s (t.picks.lower * 2 ^ f.scale))
       (sym (signed_exact (product_sign (is_negative x) (is_negative y)) (exact_of x y))) in
       let w : (signed (sign_of_product x y) j *ℤ pos (2 ^ f.scale))
       ≡ (rest_of_product f x y short +ℤ rest_of_product f x y short) =
       sym (signed_times (sign_of_product x y) j (2 ^ f.scale)) ∙
       signed_twice (sign_of_product x y) (magnitude (exact_of x y)) (t.picks.lower * 2 ^ f.scale) (j * 2 ^ f.scale)
-      (omega (arith, e)) ∙
-      ap (λ (i : ℤ). i +ℤ i) (sym d) in
+      (omega (arith, e)) ∙ ap (λ (i : ℤ). i +ℤ i) (sym d) in
       (fraction_exactly f NearestTiesToEven rounded.0 (signed (sign_of_product x y) j) _ (2 ^ f.scale) left k parts_some
       (on_grid_as m g) (subst (λ (i : ℕ). i ≤ largest f) m (omega (arith, b))) w rounded.1).status_is
 
@@ -441,8 +429,7 @@ module _ (f : Format) (x y near short left : Datum) (k : ℕ) (t : IsTiny f x y 
         is = subst (λ (i : Bool). MatchBool i (IsPastLargest f s head tail status)
             (IsWithTail f s (exact_of x y) (2 ^ f.scale) pick head tail status)) (sym w) a;
       }) where
-        tail_within : (mode : Round) (negative : Bool) (amount q : ℕ)
-            → amount ≤ 2 ^ (f.precision - 1) * 2 ^ f.scale
+        tail_within : (mode : Round) (negative : Bool) (amount q : ℕ) → amount ≤ 2 ^ (f.precision - 1) * 2 ^ f.scale
             → IsPick f.precision mode negative amount (2 ^ f.scale) q → q ≤ largest f
         tail_within mode negative amount q a u =
             let g : IsOnGrid f.precision (2 ^ (f.precision - 1)) =
@@ -504,8 +491,7 @@ module _ (f : Format) (x y near short left : Datum) (k : ℕ) (t : IsTiny f x y 
   near_side =
       pick_cases f.precision (sign_of_product x y) (magnitude (exact_of x y)) (2 ^ f.scale) t.picks.even t.picks.is_even
 
-  pub head_is_near_tie : k ≡ ok_bits → (magnitude (number left) ≡ 1 → ⊥)
-      → (head tail : Datum) (status : ℕ)
+  pub head_is_near_tie : k ≡ ok_bits → (magnitude (number left) ≡ 1 → ⊥) → (head tail : Datum) (status : ℕ)
       → HasRoundedTail f TowardZero x y near head tail status → IsAugmentedProduct f x y head tail status
   head_is_near_tie ok other =
       tail_is near t.picks.even TowardZero t.near_in t.picks.near_is t.picks.even_within near_side

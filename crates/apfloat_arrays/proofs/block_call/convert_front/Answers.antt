@@ -10,7 +10,6 @@ returns g c =
     let size : length c.convert_block_by.new.output ≡ c.args.count * c.args.widths.target =
     c.convert_block_by.auto.output
     ∙ length-take-le (c.args.count * c.args.widths.target) c.args.buffer.now c.requires.room in
-    block_named
-    (IsConvertedBy c.args.overflow (constants_of g.S.Semantics) (constants_of g.T.Semantics) c.args.round)
+    block_named (IsConvertedBy c.args.overflow (constants_of g.S.Semantics) (constants_of g.T.Semantics) c.args.round)
     c.args.widths.source c.args.widths.target _ _ _ _ _ _ c.convert_block_by.result refl refl
     (sym (take_at c.convert_block_by.new.output _ _ size)) c.convert_block_by.ensures

@@ -13,15 +13,13 @@ convert_by_table-requires g c =
     subst
     (λ (w : Widths). IsGiven (constants_of g.S.Flagged) (constants_of g.T.Flagged) c.args.task w c.args.output.now)
     (same_widths c.args.widths (record { source = 1; target = c.bytes_of.result }) c.requires.source
-    (c.requires.target ∙ sym (c.bytes_of.ensures ∙ ap bytes_of c.BITS.ensures)))
-    c.requires.given in
-    let written = given.have.written in
+    (c.requires.target ∙ sym (c.bytes_of.ensures ∙ ap bytes_of c.BITS.ensures))) c.requires.given in
     record {
       has = λ place below. (given.have.read, given.have.written, c.far_answers_for-far.ensures);
       width = given.have.room;
       few =
           subst (λ (n : ℕ). n ≤ 16) (sym (c.bytes_of.ensures ∙ ap bytes_of c.BITS.ensures))
-          (in_bytes g.T.Flagged.BITS (omega (arith, written)) c.requires.few).greatest;
+          (in_bytes g.T.Flagged.BITS (omega (arith, given.have.written)) c.requires.few).greatest;
       input = given.input;
       output = given.output;
     }
@@ -32,5 +30,4 @@ returns g c =
     (λ (w : Widths). IsDone (constants_of g.S.Flagged) (constants_of g.T.Flagged) c.args.task w
     c.convert_by_table.new.output c.convert_by_table.result)
     (sym (same_widths c.args.widths (record { source = 1; target = c.bytes_of.result }) c.requires.source
-    (c.requires.target ∙ sym (c.bytes_of.ensures ∙ ap bytes_of c.BITS.ensures))))
-    c.convert_by_table.ensures
+    (c.requires.target ∙ sym (c.bytes_of.ensures ∙ ap bytes_of c.BITS.ensures)))) c.convert_by_table.ensures

@@ -8,9 +8,7 @@ overflow_cast-result g c =
     number_fits c.args.bytes.now c.number_of.result g.S.Flagged.BITS
     (λ i. let byte = c.type_inv.bytes i in omega (arith, byte)) c.number_of.ensures
     c.requires.size c.requires.bits
-    in
-    let word = fits.word in
-    omega (arith, word)
+    in omega (arith, fits.word)
 
 pub returns-clause-below : goal.returns-clause-below
 returns-clause-below g c =

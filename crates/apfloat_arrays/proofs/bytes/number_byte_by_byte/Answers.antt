@@ -19,14 +19,12 @@ overflow_add-number c =
     let small : c.from.result < 256 = omega (arith, c.from.ensures, byte) in
     let fits =
     one_more_fits c.loop-place.number c.from.result c.loop-place.place c.loop-place.invariant.below small within
-    in
-    omega arith
+    in omega arith
 
 pub loop-place-preserved : goal.loop-place-preserved
 loop-place-preserved c =
     let byte = c.type_inv.bytes (length c.args.bytes.now - 1 - c.loop-place.place) in
-    read_more c.args.bytes.now c.loop-place.number c.from.result c.loop-place.place (omega arith)
-    c.loop-place.invariant
+    read_more c.args.bytes.now c.loop-place.number c.from.result c.loop-place.place (omega arith) c.loop-place.invariant
     c.from.ensures (omega (arith, c.from.ensures, byte))
 
 pub returns : goal.returns

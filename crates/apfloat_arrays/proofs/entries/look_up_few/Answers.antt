@@ -14,9 +14,7 @@ pub loop-index-preserved : goal.loop-index-preserved
 loop-index-preserved g c =
     let size : length c.loop-index.output ≡ c.args.count * c.args.width =
     c.loop-index.auto.output ∙ c.requires.output in
-    let test = c.loop-index-test.true in
-    let last = c.requires.within in
-    let before : c.loop-index.index < c.args.count = omega (arith, test, last) in
+    let before : c.loop-index.index < c.args.count = omega (arith, c.loop-index-test.true, c.requires.within) in
     let room = place_size c.args.width c.loop-index.index c.args.count c.loop-index.output before size in
     let wide : length c.look_up_one-packed.new.target ≡ c.args.width = c.look_up_one-packed.auto.target ∙ room in
     since_more (g.P.TablePlaces.place c.args.places) (g.P.TablePlaces.size c.args.places) c.args.width c.args.first
@@ -27,12 +25,9 @@ loop-index-preserved g c =
 
 pub with-requires : goal.with-requires
 with-requires g c =
-    let low = c.loop-index-test.false in
     let high = c.loop-index.auto.index-end in
-    let last : c.loop-index.index ≡ c.args.first + c.args.size = omega (arith, low, high) in
-    let within = c.requires.within in
-    let counts = c.ranges.count.fits in
-    let room : c.args.first + c.args.size < 2 ^ 64 = omega (arith, within, counts) in
+    let last : c.loop-index.index ≡ c.args.first + c.args.size = omega (arith, c.loop-index-test.false, high) in
+    let room : c.args.first + c.args.size < 2 ^ 64 = omega (arith, c.requires.within, c.ranges.count.fits) in
     subst (λ (t : Tally). Fits (sum_of c.args.tally t)) (sym c.unpacked.ensures)
     (since_fits (g.P.TablePlaces.place c.args.places) (g.P.TablePlaces.size c.args.places) c.args.width c.args.first
     c.args.table.now c.args.tally c.loop-index.index c.args.size c.loop-index.output c.loop-index.packed last
@@ -40,9 +35,8 @@ with-requires g c =
 
 pub returns : goal.returns
 returns g c =
-    let low = c.loop-index-test.false in
     let high = c.loop-index.auto.index-end in
-    let last : c.loop-index.index ≡ c.args.first + c.args.size = omega (arith, low, high) in
+    let last : c.loop-index.index ≡ c.args.first + c.args.size = omega (arith, c.loop-index-test.false, high) in
     let sum : c.with.result ≡ sum_of c.args.tally (unpacked c.loop-index.packed) =
     c.with.ensures ∙ ap (sum_of c.args.tally) c.unpacked.ensures in
     since_done (g.P.TablePlaces.place c.args.places) (g.P.TablePlaces.size c.args.places) c.args.width c.args.first

@@ -17,6 +17,5 @@ returns-then-far-is_of_number-clause-place g c =
     → (g.S.Flagged.MIN_EXP +ℤ pos n) ≤ℤ (g.T.Flagged.MIN_EXP -ℤ pos g.T.Flagged.PRECISION)) biased
     c.is_little.ensures)
     (subst (λ (n : ℕ). IsTrue c.is_of_number.result → (0 < n) × (n + 1 < 2 ^ g.S.Flagged.EXP_BITS)) biased
-    c.is_of_number.ensures)
-    c.if-far-is_of_number.true
+    c.is_of_number.ensures) c.if-far-is_of_number.true
     (c.place_of.ensures.place ∙ ap (far_place c.is_past-past.result) c.is_minus-negative.ensures)

@@ -12,8 +12,7 @@ pub overflow_cast-result-2 : goal.overflow_cast-result-2
 overflow_cast-result-2 g c = omega (arith, ints, g.T.Flagged.lawful.parameters, c.PRECISION.ensures)
 
 pub overflow_sub-result : goal.overflow_sub-result
-overflow_sub-result g c =
-    omega (arith, ints, g.T.Flagged.lawful.parameters, c.MIN_EXP-2.ensures, c.PRECISION.ensures)
+overflow_sub-result g c = omega (arith, ints, g.T.Flagged.lawful.parameters, c.MIN_EXP-2.ensures, c.PRECISION.ensures)
 
 pub returns : goal.returns
 returns g c = λ test.

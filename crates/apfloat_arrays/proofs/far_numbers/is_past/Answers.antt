@@ -13,6 +13,5 @@ overflow_add-result-2 g c = omega (arith, ints, g.T.Flagged.lawful.parameters, c
 
 pub returns : goal.returns
 returns g c = λ test.
-    let from = g.S.Flagged.lawful.parameters in
     let to = g.T.Flagged.lawful.parameters in
-    omega (arith, ints, from, to, c.MIN_EXP.ensures, c.MAX_EXP.ensures, c.requires, test)
+    omega (arith, ints, g.S.Flagged.lawful.parameters, to, c.MIN_EXP.ensures, c.MAX_EXP.ensures, c.requires, test)

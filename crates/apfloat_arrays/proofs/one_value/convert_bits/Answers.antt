@@ -13,8 +13,7 @@ returns-in-Some-far_place g c =
     c.in-Some-far_place.place c.in-Some-far.answers _
     (subst
     (λ (o : Option (List Converted)). IfSome o (AreFarAnswers c.args.overflow (constants_of g.T.Flagged) c.args.round))
-    c.in-Some-far.is c.requires.far)
-    c.in-Some-far_place.ensures.place
+    c.in-Some-far.is c.requires.far) c.in-Some-far_place.ensures.place
 
 pub returns-in-Some : goal.returns-in-Some
 returns-in-Some g c =

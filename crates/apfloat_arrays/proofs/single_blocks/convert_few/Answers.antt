@@ -23,12 +23,10 @@ pub returns : goal.returns
 returns g c =
     let task = c.args.task in
     rw c.add.ensures
-    (singles_joined
-    (IsConvertedBy task.overflow (constants_of g.S.Flagged) (constants_of g.T.Flagged) task.round)
+    (singles_joined (IsConvertedBy task.overflow (constants_of g.S.Flagged) (constants_of g.T.Flagged) task.round)
     (bytes_of g.T.Flagged.BITS) c.bytes_of-width.result (task.count / 64 * 64) task.count task.input.now
     c.convert_blocks-counts.new.output c.convert_last-2.new.output c.convert_blocks-counts.result
-    c.convert_last-2.result
-    (c.bytes_of-width.ensures ∙ ap bytes_of c.BITS.ensures) (div-mul-le_self task.count 64)
+    c.convert_last-2.result (c.bytes_of-width.ensures ∙ ap bytes_of c.BITS.ensures) (div-mul-le_self task.count 64)
     (omega (arith, c.requires.given.input, c.ranges.task.0))
     (c.convert_blocks-counts.auto.output ∙ c.requires.given.output) c.convert_last-2.auto.output
     c.convert_last-2.ensures c.convert_blocks-counts.ensures)

@@ -23,8 +23,7 @@ pub returns : goal.returns
 returns g c =
     let task = c.args.task in
     rw c.add.ensures
-    (singles_joined
-    (IsConvertedBy task.overflow (constants_of g.S.Flagged) (constants_of g.T.Flagged) task.round)
+    (singles_joined (IsConvertedBy task.overflow (constants_of g.S.Flagged) (constants_of g.T.Flagged) task.round)
     (bytes_of g.T.Flagged.BITS) c.bytes_of-width.result (task.count / 256 * 256) task.count task.input.now
     c.convert_blocks-counts.new.output c.convert_rest.new.output c.convert_blocks-counts.result c.convert_rest.result
     (c.bytes_of-width.ensures ∙ ap bytes_of c.BITS.ensures) (div-mul-le_self task.count 256)

@@ -53,11 +53,9 @@ loop-index-preserved g c =
 
 pub returns : goal.returns
 returns g c =
-    let past = c.loop-index-test.false in
     let so_far = c.loop-index.invariant in
-    let kept : (k : ℕ) → k < g.row.N
-    → slice_index c.loop-index.uppers k ≡ number_in (slice_index c.args.uppers.now k) =
-    λ k before. so_far.each k (omega (arith, before, past)) in
+    let kept : (k : ℕ) → k < g.row.N → slice_index c.loop-index.uppers k ≡ number_in (slice_index c.args.uppers.now k) =
+    λ k before. so_far.each k (omega (arith, before, c.loop-index-test.false)) in
     record {
       finite = λ k before. subst (λ (n : ℕ). n % 2 ^ 15 < 255 * 2 ^ 7) (sym (kept k before))
           (cleared_finite (slice_index c.args.uppers.now k));
@@ -66,7 +64,7 @@ returns g c =
           let number = upper_alike x in (
             kept k before ∙ ap number_in (read k before).0
                 ∙ made_there (λ n. n / 2 ^ 16) (ltb (x / 2 ^ 16 % 2 ^ 15) (255 * 2 ^ 7)) input k refl number,
-            so_far.each_lower k (omega (arith, before, past))
+            so_far.each_lower k (omega (arith, before, c.loop-index-test.false))
                 ∙ (λ i. lower_in ((read k before).0 i) ((read k before).1 i))
                 ∙ made_there (λ n. n % 2 ^ 16) (ltb (x / 2 ^ 16 % 2 ^ 15) (255 * 2 ^ 7)) input k refl number,
           );

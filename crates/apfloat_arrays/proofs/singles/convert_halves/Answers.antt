@@ -53,9 +53,7 @@ loop-index-preserved g c =
 
 pub returns : goal.returns
 returns g c = λ overflow from to mode given is_single is_plan read.
-    let low = c.loop-index-test.false in
-    let high = c.loop-index.auto.index-end in
-    let last : c.loop-index.index ≡ g.row.N = omega (arith, low, high) in
+    let last : c.loop-index.index ≡ g.row.N = omega (arith, c.loop-index-test.false, c.loop-index.auto.index-end) in
     subst
     (λ (n : ℕ). IsRow (IsConvertedBy overflow from to mode) given c.args.width n c.loop-index.output
     (counts_with c.loop-index.few n)) last

@@ -32,8 +32,7 @@ loop-index-preserved g c =
           rw (w.output-is, w.counts-is, w.raise.ensures)
           (row_set Holds (number_from index input) (number_from (index + 1) input) c.args.width index g.row.N
           c.loop-index.output w.convert_slowly.new.output c.loop-index.counts w.convert_slowly.result before
-          (omega arith)
-          room
+          (omega arith) room
           (w.convert_slowly.auto.output ∙ place_size c.args.width index g.row.N c.loop-index.output before room)
           (next_there index input)
           (subst (λ (bytes : List ℕ). Holds bytes w.convert_slowly.new.output w.convert_slowly.result)
@@ -42,8 +41,7 @@ loop-index-preserved g c =
           c.requires.given.single bytes o
           (subst (λ (given : List ℕ). Holds given bytes o) (zero_there index input special) it))
           c.loop-index.invariant)
-      | else-not-is_finite w ↦
-          rw (w.output-is, w.counts-is)
+      | else-not-is_finite w ↦ rw (w.output-is, w.counts-is)
           (row_given Holds (number_from index input) (number_from (index + 1) input) c.args.width g.row.N
           c.loop-index.output c.loop-index.counts
           (λ k low. next_number index input (sym number ∙ w.if-not-is_finite.false) k)
@@ -52,9 +50,8 @@ loop-index-preserved g c =
 
 pub returns : goal.returns
 returns g c =
-    let past = c.loop-index-test.false in
     let most = c.loop-index.auto.index-end in
-    let all : c.loop-index.index ≡ c.args.first + 16 = omega (arith, past, most) in
+    let all : c.loop-index.index ≡ c.args.first + 16 = omega (arith, c.loop-index-test.false, most) in
     subst
     (λ (n : ℕ).
     IsRow (IsConvertedBy c.args.task.overflow (constants_of g.S.Flagged) (constants_of g.T.Flagged) c.args.task.round)

@@ -22,11 +22,9 @@ loop-group-preserved g c =
     let done = c.loop-group.group * 16 in
     let next : done + 16 ≡ (c.loop-group.group + 1) * 16 = omega arith in
     elim c.if-not-are_numbers.branch [
-      | then-not-are_numbers w ↦
-          subst
+      | then-not-are_numbers w ↦ subst
           (λ (n : ℕ). IsRow Holds (number_from n input) c.args.width g.row.N c.if-not-are_numbers.output
-          c.if-not-are_numbers.counts) next
-          (rw (w.output-is, w.counts-is) w.convert_group-counts.ensures)
+          c.if-not-are_numbers.counts) next (rw (w.output-is, w.counts-is) w.convert_group-counts.ensures)
       | else-not-are_numbers w ↦
           let numbers = c.are_numbers.ensures w.if-not-are_numbers.false in
           subst

@@ -9,5 +9,4 @@ overflow_cast-result c =
     let fits =
     number_fits c.args.bytes.now c.number_of.result 32 (λ i. let byte = c.type_inv.bytes i in omega (arith, byte))
     c.number_of.ensures size (omega arith) in
-    let word = fits.word in
-    omega (arith, word)
+    omega (arith, fits.word)

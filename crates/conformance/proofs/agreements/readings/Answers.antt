@@ -21,5 +21,4 @@ returns g c =
     let one =
     (t.determined NearestTiesToEven).reading c.args.text.now parsed.0 c.from_str_r.result parsed.1
     c.from_str_r.ensures in
-    subst (λ r. AreOneValue r c.from_str_r.result) (sym parsed.2)
-    (value_of_reading parsed.0 c.from_str_r.result one)
+    subst (λ r. AreOneValue r c.from_str_r.result) (sym parsed.2) (value_of_reading parsed.0 c.from_str_r.result one)

@@ -13,6 +13,5 @@ returns-clause-assigned g c =
     let t = g.met.F.Float in
     let by_operator = t.add_law c.args.x c.args.y c.add.result c.add.ensures in
     let assigned = t.add_assign_law c.args.x c.args.y c.add_assign.new.self c.add_assign.ensures.after in
-    let one = (t.determined NearestTiesToEven).sum c.args.x c.args.y assigned.0 c.add.result assigned.1
-    by_operator in
+    let one = (t.determined NearestTiesToEven).sum c.args.x c.args.y assigned.0 c.add.result assigned.1 by_operator in
     assigned.2 ∙ ap (λ a. a.value) one

@@ -4,8 +4,7 @@ use Rattle.apfloat_pair_theory.proofs.calls.PairFlagsTogether.{pair_from_unsigne
 use Rattle.conformance.proofs.pair_statuses.of_integers.Goals as goal
 
 pub returns-clause-unsigned : goal.returns-clause-unsigned
-returns-clause-unsigned c =
-    pair_from_unsigned_together c.args.mode c.args.unsigned _ _ c.from_u128_r.ensures
+returns-clause-unsigned c = pair_from_unsigned_together c.args.mode c.args.unsigned _ _ c.from_u128_r.ensures
 
 pub returns-clause-signed : goal.returns-clause-signed
 returns-clause-signed c =

@@ -6,8 +6,7 @@ returns-clause-unsigned c =
     pair_to_unsigned_together c.args.mode c.args.width c.args.x _ _ _ c.to_u128_r-unsigned.ensures.answer
 
 pub returns-clause-signed : goal.returns-clause-signed
-returns-clause-signed c =
-    pair_to_signed_together c.args.mode c.args.width c.args.x _ _ _ c.to_i128_r.ensures
+returns-clause-signed c = pair_to_signed_together c.args.mode c.args.width c.args.x _ _ _ c.to_i128_r.ensures
 
 pub returns-clause-converts_unsigned : goal.returns-clause-converts_unsigned
 returns-clause-converts_unsigned c = (_, c.to_u128_r-unsigned.ensures.answer)

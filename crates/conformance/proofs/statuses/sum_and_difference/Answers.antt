@@ -9,8 +9,7 @@ pub returns-clause-subtracts : goal.returns-clause-subtracts
 returns-clause-subtracts g c = c.sub_r.ensures.difference
 
 pub returns-clause-sum : goal.returns-clause-sum
-returns-clause-sum g c =
-    sum_together (format_of g.S.Flagged) c.args.mode c.args.x c.args.y _ _ c.add_r.ensures.sum
+returns-clause-sum g c = sum_together (format_of g.S.Flagged) c.args.mode c.args.x c.args.y _ _ c.add_r.ensures.sum
 
 pub returns-clause-difference : goal.returns-clause-difference
 returns-clause-difference g c =

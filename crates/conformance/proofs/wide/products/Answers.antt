@@ -8,5 +8,4 @@ pub returns : goal.returns
 returns g c =
     let format = format_of g.S.Flagged in
     gives_once (IsProduct format c.args.mode c.args.x c.args.y) (product_once format c.args.mode c.args.x c.args.y)
-    c.wide_mul_r.result
-    c.mul_r.result c.wide_mul_r.ensures c.mul_r.ensures.product
+    c.wide_mul_r.result c.mul_r.result c.wide_mul_r.ensures c.mul_r.ensures.product

@@ -4,6 +4,5 @@ use Rattle.fast_bits.proofs.conversions.converted_place.Goals as goal
 
 pub returns : goal.returns
 returns g c =
-    let from = g.S.Flagged.lawful.parameters in
     let to = g.T.Flagged.lawful.parameters in
-    omega (arith, ints, from, to, c.MIN_EXP.ensures, c.MIN_EXP-2.ensures, c.requires)
+    omega (arith, ints, g.S.Flagged.lawful.parameters, to, c.MIN_EXP.ensures, c.MIN_EXP-2.ensures, c.requires)

@@ -13,14 +13,12 @@ next_word_if-picked-requires g c = word_room g.S.Flagged.PRECISION c.args.kept c
 pub bits_at-bits-requires-clause-full : goal.bits_at-bits-requires-clause-full
 bits_at-bits-requires-clause-full g c =
     let low = moved_low c.moves_past-moved.result c.args.kept in
-    let full = c.requires.full in
-    rw c.next_word_if-picked.ensures (omega (arith, low, full))
+    rw c.next_word_if-picked.ensures (omega (arith, low, c.requires.full))
 
 pub bits_at-bits-requires-clause-fits : goal.bits_at-bits-requires-clause-fits
 bits_at-bits-requires-clause-fits g c =
     let high = moved_high c.moves_past-moved.result c.args.kept in
-    let fits = c.requires.fits in
-    rw c.next_word_if-picked.ensures (omega (arith, high, fits))
+    rw c.next_word_if-picked.ensures (omega (arith, high, c.requires.fits))
 
 pub returns : goal.returns
 returns g c = λ amount parts some enclosed stands. record {
@@ -34,6 +32,5 @@ returns g c = λ amount parts some enclosed stands. record {
   is_encoded =
       subst
       (λ (n : ℕ). IsEncodedBy (format_of g.S.Flagged) (layout_of g.S.Flagged) c.bits_at-bits.result
-      (finite c.args.negative (n * 2 ^ c.args.place)))
-      c.next_word_if-picked.ensures c.bits_at-bits.ensures;
+      (finite c.args.negative (n * 2 ^ c.args.place))) c.next_word_if-picked.ensures c.bits_at-bits.ensures;
 }

@@ -17,7 +17,6 @@ returns-in-Some g c =
     let sign = product_sign left.negative right.negative in
     subst₂
     (λ x y. IfSome c.multiply_numbers.result (IsNumberAnswer (constants_of g.S.Flagged)
-    (IsProduct (format_of g.S.Flagged) c.args.round x y)))
-    (sym both.0.read) (sym both.1.read)
+    (IsProduct (format_of g.S.Flagged) c.args.round x y))) (sym both.0.read) (sym both.1.read)
     (answered_if_some (constants_of g.S.Flagged) c.args.round sign sign (quanta_of left * quanta_of right)
     (2 ^ (format_of g.S.Flagged).scale) c.multiply_numbers.result refl c.multiply_numbers.ensures)

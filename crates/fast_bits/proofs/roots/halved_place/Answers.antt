@@ -4,5 +4,4 @@ use Rattle.fast_bits.proofs.roots.halved_place.Goals as goal
 
 pub returns-clause-balance : goal.returns-clause-balance
 returns-clause-balance g c =
-    let are = g.S.Flagged.lawful.parameters in
-    omega (arith, ints, are, c.MIN_EXP.ensures, c.MIN_EXP-2.ensures, c.requires)
+    omega (arith, ints, g.S.Flagged.lawful.parameters, c.MIN_EXP.ensures, c.MIN_EXP-2.ensures, c.requires)

@@ -10,8 +10,7 @@ guessed_root-requires c =
 
 pub root_if_right-requires : goal.root_if_right-requires
 root_if_right-requires c =
-    let short = c.requires.short in
-    short_guess c.guessed_root.result (64 - c.args.precision) c.guessed_root.type_inv (omega (arith, short))
+    short_guess c.guessed_root.result (64 - c.args.precision) c.guessed_root.type_inv (omega (arith, c.requires.short))
 
 pub returns-in-Some-clause-full : goal.returns-in-Some-clause-full
 returns-in-Some-clause-full c =

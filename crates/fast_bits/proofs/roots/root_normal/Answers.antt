@@ -12,7 +12,6 @@ returns-else-number g c =
     let is = c.in-Some.ensures in
     subst
     (λ (x : Datum). IfSome c.root_of_number.result (IsEncodedAnswer (constants_of g.S.Flagged)
-    (IsRoot (format_of g.S.Flagged) c.args.round x)))
-    (sym is.read)
+    (IsRoot (format_of g.S.Flagged) c.args.round x))) (sym is.read)
     (root_if_some (constants_of g.S.Flagged) c.args.round c.in-Some.number c.root_of_number.result is.is_full
     c.if-number.false c.root_of_number.ensures)

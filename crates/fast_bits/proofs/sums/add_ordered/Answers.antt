@@ -15,11 +15,10 @@ use Rattle.fast_bits.proofs.sums.add_ordered.Goals as goal
 
 pub total_of-total-requires-clause-high_full : goal.total_of-total-requires-clause-high_full
 total_of-total-requires-clause-high_full g c =
-    let short = c.requires.word.precise in
     let some = g.S.Flagged.lawful.parameters.precision_low in
     let moved = rw c.precision_of-precision.ensures at c.moved_up.ensures in
     rw moved (moved_full c.args.numbers.high.significand g.S.Flagged.PRECISION 62 (omega (arith, some))
-    (omega (arith, short)) c.requires.high.full)
+    (omega (arith, c.requires.word.precise)) c.requires.high.full)
 
 pub total_of-total-requires-clause-high_fits : goal.total_of-total-requires-clause-high_fits
 total_of-total-requires-clause-high_fits g c =
@@ -36,11 +35,10 @@ total_of-total-requires-clause-high_free g c =
 
 pub total_of-total-requires-clause-low_full : goal.total_of-total-requires-clause-low_full
 total_of-total-requires-clause-low_full g c =
-    let short = c.requires.word.precise in
     let some = g.S.Flagged.lawful.parameters.precision_low in
     let moved = rw c.precision_of-precision.ensures at c.moved_up-2.ensures in
     rw moved (moved_full c.args.numbers.low.significand g.S.Flagged.PRECISION 62 (omega (arith, some))
-    (omega (arith, short)) c.requires.low.full)
+    (omega (arith, c.requires.word.precise)) c.requires.low.full)
 
 pub total_of-total-requires-clause-low_fits : goal.total_of-total-requires-clause-low_fits
 total_of-total-requires-clause-low_fits g c =
@@ -74,8 +72,7 @@ returns-else-total-eq0 g c =
     let least : 2 ^ (g.S.Flagged.PRECISION + 1) ≤ 2 ^ 60 = pow-le-pow_right two_pos few in
     let r = ordered_total g.S.Flagged.PRECISION high.significand high.place low.significand low.place total unit
     high.negative low.negative c.args.numbers.unlike short c.requires.order.places place c.requires.unlike
-    (rw (first, second) at c.total_of-total.ensures.together)
-    (rw (first, second) at c.total_of-total.ensures.apart) in
+    (rw (first, second) at c.total_of-total.ensures.together) (rw (first, second) at c.total_of-total.ensures.apart) in
     let sign : high.negative ≡ sign_of of_zero exact =
     read_odd_sign (2 ^ 60) of_zero exact unit high.negative high.negative total r
     (λ z. absurd (c.if-total-eq0.false z)) (λ z. refl) in

@@ -14,7 +14,6 @@ returns-in-Some g c =
     let numbers = c.in-Some.numbers in
     subst₂
     (λ x y. IfSome c.add_ordered.result (IsNumberAnswer (constants_of g.S.Flagged)
-    (IsSum (format_of g.S.Flagged) c.args.round x y)))
-    (sym are.of_left.read) (sym are.of_right.read)
+    (IsSum (format_of g.S.Flagged) c.args.round x y))) (sym are.of_left.read) (sym are.of_right.read)
     (ordered_sum (constants_of g.S.Flagged) c.args.round c.add_ordered.result are.left
     (opposite_if false are.right) numbers.high numbers.low are.same c.add_ordered.ensures)

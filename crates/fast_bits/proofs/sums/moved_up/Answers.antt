@@ -5,6 +5,5 @@ use Rattle.fast_bits.proofs.sums.moved_up.Goals as goal
 
 pub returns : goal.returns
 returns c =
-    let short = c.requires.short in
-    let fits = moved_fits c.args.significand c.args.precision 62 (omega (arith, short)) c.requires.fits in
+    let fits = moved_fits c.args.significand c.args.precision 62 (omega (arith, c.requires.short)) c.requires.fits in
     mod-eq_of_lt (omega (arith, fits))

@@ -27,5 +27,4 @@ returns-in-Some g c =
     numbers.high numbers.low are.same c.add_ordered.ensures) in
     subst₂
     (λ x y. IfSome c.add_ordered.result (IsNumberAnswer (constants_of g.S.Flagged)
-    (IsDifference (format_of g.S.Flagged) c.args.round x y)))
-    (sym are.of_left.read) (sym are.of_right.read) difference
+    (IsDifference (format_of g.S.Flagged) c.args.round x y))) (sym are.of_left.read) (sym are.of_right.read) difference

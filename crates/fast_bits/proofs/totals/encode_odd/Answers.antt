@@ -37,8 +37,6 @@ pub returns-in-Some : goal.returns-in-Some
 returns-in-Some g c = λ amount parts some rounded.
     let any = some_digits c.args.significand c.digits-digits.result c.requires.some c.digits-digits.ensures.below in
     let there = c.in-Some.ensures in
-    let from = c.kept_place-from.ensures in
-    let precise = c.precision_of-precision.ensures in
     let unit = to_z-of_z w32 c.args.unit (fits_in w32 c.args.unit (omega (arith, ints, c.requires.within))) in
     let kept = total_kept g.S.Flagged.PRECISION c.args.significand c.digits-digits.result c.at_top-top.result
     c.in-Some.place c.power_of-last.result c.power_of-half.result (up c.args.unit) (down c.args.unit) amount parts
@@ -47,5 +45,5 @@ returns-in-Some g c = λ amount parts some rounded.
     any c.digits-digits.ensures.below (c.digits-digits.ensures.full any) c.at_top-top.ensures
     (rw c.precision_of-precision.ensures at c.power_of-last.ensures.value)
     (rw c.precision_of-precision.ensures at c.power_of-half.ensures.value)
-    (omega (arith, ints, there.0, from, precise, unit)) some rounded in
+    (omega (arith, ints, there.0, c.kept_place-from.ensures, c.precision_of-precision.ensures, unit)) some rounded in
     c.encode_cut.ensures amount parts some kept.enclosed kept.stands

@@ -1,5 +1,4 @@
-use Rattle.std.proofs.Common.{◌≡◌, ℕ, ◌-◌, ◌*◌, ◌%◌, ◌^◌, ◌<◌, ◌≤◌, min, ap}
-use Rattle.std.proofs.Common.{◌∙◌, arith}
+use Rattle.std.proofs.Common.{◌≡◌, ℕ, ◌-◌, ◌*◌, ◌%◌, ◌^◌, ◌<◌, ◌≤◌, min, ap, ◌∙◌, arith}
 use Rattle.std.proofs.Math.Nat.{mod-eq_of_lt, mul-lt-mul_of_pos_right, pow-le-pow_right}
 use Rattle.std.proofs.lemmas.Nat.{pow_pos}
 use Rattle.apfloat_model.proofs.general.Powers.{two_pos}
@@ -12,8 +11,7 @@ moved_below m places fits few =
     let less : m * 2 ^ places < 2 ^ 24 * 2 ^ places = mul-lt-mul_of_pos_right fits (pow_pos places) in
     omega (arith, unit, less)
 
-moved_whole : (m places : ℕ) → m < 2 ^ 24 → places ≤ 32
-    → m * 2 ^ places % 18446744073709551616 ≡ m * 2 ^ places
+moved_whole : (m places : ℕ) → m < 2 ^ 24 → places ≤ 32 → m * 2 ^ places % 18446744073709551616 ≡ m * 2 ^ places
 moved_whole m places fits few =
     let below = moved_below m places fits few in
     mod-eq_of_lt (omega (arith, below))

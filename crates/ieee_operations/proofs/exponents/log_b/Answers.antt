@@ -25,8 +25,7 @@ returns-in-Infinity g c =
 pub returns-in-Zero : goal.returns-in-Zero
 returns-in-Zero g c =
     rw (c.and-in-Zero.ensures.value, c.and-in-Zero.ensures.status)
-    (log_b_of_zero (format_of g.S.Flagged) c.args.mode c.args.x _ _
-    (sym c.category.ensures.category ∙ c.in-Zero.is)
+    (log_b_of_zero (format_of g.S.Flagged) c.args.mode c.args.x _ _ (sym c.category.ensures.category ∙ c.in-Zero.is)
     (c.neg.ensures ∙ ap (negated (format_of g.S.Flagged).nonfinite) c.infinity.ensures) refl)
 
 pub returns-in-Normal : goal.returns-in-Normal

@@ -7,5 +7,4 @@ write_number-requires g c = fits c.convert_bits-answer.result.bits _ (length c.a
     c.convert_bits-answer.ensures.is_encoded.below c.requires.0.room
 
 pub returns-then-self : goal.returns-then-self
-returns-then-self g c =
-    rw (c.write_number.ensures, sym c.number_of.ensures) c.convert_bits-answer.ensures
+returns-then-self g c = rw (c.write_number.ensures, sym c.number_of.ensures) c.convert_bits-answer.ensures

@@ -36,8 +36,7 @@ quotient_of-answer-requires-clause-finite g c =
     let index = c.loop-index.index in
     let xs : List Datum = values_in k c.args.width c.args.values.now c.args.first (length c.args.codes.now) in
     let x : Datum = value_in k c.args.width c.args.values.now (c.args.first + index) in
-    ap (λ (n : ℕ). is_finite (value_of k n)) c.bits_at-bits.ensures
-    ∙ finite_at xs index x c.requires.finite
+    ap (λ (n : ℕ). is_finite (value_of k n)) c.bits_at-bits.ensures ∙ finite_at xs index x c.requires.finite
     (values_at k c.args.width c.args.values.now c.args.first (length c.args.codes.now) index c.loop-index-test.true)
 
 pub with-counts-requires : goal.with-counts-requires
@@ -56,8 +55,7 @@ loop-index-preserved g c =
     let before : index < length codes = omega (arith, c.loop-index-test.true, size) in
     subst
     (λ (n : ℕ). AreWritten Holds (index + 1) (values_in k c.args.width c.args.values.now c.args.first n)
-    (slice_set codes index y) c.with-counts.result)
-    (sym (length_set codes index y))
+    (slice_set codes index y) c.with-counts.result) (sym (length_set codes index y))
     (one_written c.loop-index.invariant (value_in k c.args.width c.args.values.now (c.args.first + index)) y status
     before (values_at k c.args.width c.args.values.now c.args.first (length codes) index before)
     (subst (λ (n : ℕ). Holds (value_of k n) y status) c.bits_at-bits.ensures
@@ -76,6 +74,4 @@ returns g c =
     let many = sym (values_length k c.args.width c.args.values.now c.args.first (length codes)) in
     subst
     (λ (n : ℕ). AreCounted Holds (values_in k c.args.width c.args.values.now c.args.first n) codes
-    c.loop-index.counts)
-    size
-    (all_written c.loop-index.invariant (last ∙ many) many)
+    c.loop-index.counts) size (all_written c.loop-index.invariant (last ∙ many) many)

@@ -41,8 +41,7 @@ returns-then-not-is_finite g c =
     c.from_bits-x.ensures.read ∙ ap (value_of k) c.bits_at.ensures in
     one_not_finite (values_in k c.args.width c.args.bytes.now c.args.first c.args.count) c.loop-index.index x
     (values_at k c.args.width c.args.bytes.now c.args.first c.args.count c.loop-index.index c.loop-index-test.true
-    ∙ ap (λ (d : Datum). Some d) (sym read))
-    (sym (finite_agrees x) ∙ sym c.is_finite.ensures ∙ c.if-not-is_finite.true)
+    ∙ ap (λ (d : Datum). Some d) (sym read)) (sym (finite_agrees x) ∙ sym c.is_finite.ensures ∙ c.if-not-is_finite.true)
 
 pub greater-greatest-requires-clause-greatest : goal.greater-greatest-requires-clause-greatest
 greater-greatest-requires-clause-greatest g c = own_quanta c.loop-index.greatest _ c.loop-index.invariant.1
@@ -63,8 +62,7 @@ loop-index-preserved g c =
     values_next k c.args.width c.args.bytes.now c.args.first index ∙ ap (λ (d : Datum). xs ++ d ∷ []) (sym read) in
     let before = ap quanta_of c.loop-index.invariant.1 in
     let more = ap greatest_magnitude next ∙ greatest_more xs x in (
-      ap are_finite next
-          ∙ finite_push xs x c.loop-index.invariant.0
+      ap are_finite next ∙ finite_push xs x c.loop-index.invariant.0
           (sym (finite_agrees x) ∙ sym c.is_finite.ensures ∙ c.if-not-is_finite.false),
       c.greater-greatest.ensures.value
           ∙ ap (λ (n : ℕ). finite false n) (ap (λ (n : ℕ). max (quanta_of x) n) before ∙ sym more),
@@ -80,5 +78,4 @@ returns g c =
     (λ (n : ℕ). (are_finite (values_in k c.args.width c.args.bytes.now c.args.first n) ≡ true)
     × (c.loop-index.greatest
     ≡ finite false (greatest_magnitude (values_in k c.args.width c.args.bytes.now c.args.first n)))
-    × IsMember (format_of g.S.Semantics) c.loop-index.greatest)
-    last c.loop-index.invariant
+    × IsMember (format_of g.S.Semantics) c.loop-index.greatest) last c.loop-index.invariant

@@ -14,17 +14,14 @@ loop-index-preserved g c =
     let bytes = c.args.bytes.now in
     let index = c.loop-index.index in
     let size = c.loop-index.invariant.size in
-    let within = c.loop-index-test.true in
     record {
       size = length-set halves index c.upper_half.result ∙ size;
       each = λ k before.
           set_says (λ n half. half ≡ odd_quotient (number_of (value_at 4 n bytes)) (2 ^ 16)) halves index
-          c.upper_half.result (omega (arith, size, within))
+          c.upper_half.result (omega (arith, size, c.loop-index-test.true))
           (c.upper_half.ensures ∙ ap (λ (n : ℕ). odd_quotient n (2 ^ 16)) c.word_of.ensures) k
           (λ other. c.loop-index.invariant.each k (omega (arith, before, other)));
     }
 
 pub returns : goal.returns
-returns g c =
-    let past = c.loop-index-test.false in
-    λ k before. c.loop-index.invariant.each k (omega (arith, before, past))
+returns g c = λ k before. c.loop-index.invariant.each k (omega (arith, before, c.loop-index-test.false))

@@ -20,26 +20,24 @@ loop-index-preserved g c =
     let index = c.loop-index.index in
     let size = c.loop-index.invariant.size in
     let lower_size = c.loop-index.invariant.lower_size in
-    let within = c.loop-index-test.true in
     record {
       size = length-set uppers index (c.word_of-word.result / 2 ^ 16) ∙ size;
       lower_size = length-set lowers index (c.word_of-word.result % 2 ^ 16) ∙ lower_size;
       upper = λ k before.
           set_says (λ n half. half ≡ number_of (value_at 4 n bytes) / 2 ^ 16) uppers index
           (c.word_of-word.result / 2 ^ 16)
-          (omega (arith, size, within)) (ap (λ (n : ℕ). n / 2 ^ 16) c.word_of-word.ensures) k
+          (omega (arith, size, c.loop-index-test.true)) (ap (λ (n : ℕ). n / 2 ^ 16) c.word_of-word.ensures) k
           (λ other. c.loop-index.invariant.upper k (omega (arith, before, other)));
       lower = λ k before.
           set_says (λ n half. half ≡ number_of (value_at 4 n bytes) % 2 ^ 16) lowers index
           (c.word_of-word.result % 2 ^ 16)
-          (omega (arith, lower_size, within)) (ap (λ (n : ℕ). n % 2 ^ 16) c.word_of-word.ensures) k
+          (omega (arith, lower_size, c.loop-index-test.true)) (ap (λ (n : ℕ). n % 2 ^ 16) c.word_of-word.ensures) k
           (λ other. c.loop-index.invariant.lower k (omega (arith, before, other)));
     }
 
 pub returns : goal.returns
 returns g c =
-    let past = c.loop-index-test.false in
     λ k before. (
-      c.loop-index.invariant.upper k (omega (arith, before, past)),
-      c.loop-index.invariant.lower k (omega (arith, before, past)),
+      c.loop-index.invariant.upper k (omega (arith, before, c.loop-index-test.false)),
+      c.loop-index.invariant.lower k (omega (arith, before, c.loop-index-test.false)),
     )

@@ -14,8 +14,7 @@ loop-place-preserved c =
     ∙ place_size 8 c.loop-place.place 256 c.loop-place.table within long in (
       omega (arith, past),
       same_len_mid (c.loop-place.place * 8) (c.loop-place.place * 8 + 8 - c.loop-place.place * 8) c.loop-place.table
-          c.copy_from_slice-in-loop-place.new.self c.copy_from_slice-in-loop-place.auto.self
-          ∙ long,
+          c.copy_from_slice-in-loop-place.new.self c.copy_from_slice-in-loop-place.auto.self ∙ long,
       λ overflow format d mode codes_are filled.
           entry_copied overflow format d mode c.args.codes c.loop-place.place c.loop-place.table
           c.copy_from_slice-in-loop-place.new.self codes_are past within long size

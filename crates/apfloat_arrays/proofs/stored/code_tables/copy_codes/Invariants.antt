@@ -11,6 +11,5 @@ abbrev pub invariant-loop-place : goal.invariant-loop-place
 invariant-loop-place l =
     (l.fn.codes ≤ l.place) × (length l.table ≡ 256 * 8)
     × ((overflow : Overflow) (format : StoredFormat) (d : Constants) (mode : Round)
-    → l.fn.codes ≡ 2 ^ bits_in format
-    → AreCodeEntries overflow format d mode l.fn.codes l.fn.table
+    → l.fn.codes ≡ 2 ^ bits_in format → AreCodeEntries overflow format d mode l.fn.codes l.fn.table
     → AreCodeEntries overflow format d mode l.place l.table)

@@ -23,9 +23,7 @@ loop-place-preserved g c =
     let answer = c.result_in.result in
     let place = c.loop-place.place in
     let size : length c.loop-place.table ≡ 256 * 8 = c.loop-place.auto.table ∙ c.requires.table in
-    let test = c.loop-place-test.true in
-    let few = c.requires.codes in
-    let within : c.loop-place.place < 256 = omega (arith, test, few) in
+    let within : c.loop-place.place < 256 = omega (arith, c.loop-place-test.true, c.requires.codes) in
     let wide : length c.write_result.new.entry ≡ 8 =
     c.write_result.auto.entry ∙ place_size 8 place 256 c.loop-place.table within size in
     let below : c.result_in.result.bits < 2 ^ 32 =

@@ -12,8 +12,7 @@ returns g c =
     subst
     (λ (n : ℕ). IsConversionBy c.args.overflow (format_with (constants_of g.F.StorageFormat)) (format_of g.T.Flagged)
     c.args.round (datum_of (constants_of g.F.StorageFormat) n)
-    c.treat.result.value (bits_of c.treat.result.status) c.treat.new.loses_info)
-    c.from_bits-x.ensures
+    c.treat.result.value (bits_of c.treat.result.status) c.treat.new.loses_info) c.from_bits-x.ensures
     (c.treat.ensures (format_with (constants_of g.F.StorageFormat)) c.args.round
     (datum_of (constants_of g.F.StorageFormat) c.from_bits-x.result) refl (sym c.is_negative.ensures)
     c.convert_r-answer.ensures.converted)

@@ -10,7 +10,6 @@ pub returns : goal.returns
 returns g c =
     subst
     (λ (n : ℕ). IsConversionBy c.args.overflow scale_format (format_of g.T.Flagged) c.args.round (scale_of n)
-    c.treat.result.value (bits_of c.treat.result.status) c.treat.new.loses_info)
-    c.from_bits-x.ensures
+    c.treat.result.value (bits_of c.treat.result.status) c.treat.new.loses_info) c.from_bits-x.ensures
     (c.treat.ensures scale_format c.args.round (scale_of c.from_bits-x.result) (sym c.class_of_scale.ensures)
     (scale_sign c.from_bits-x.result) c.convert_r-answer.ensures.converted)

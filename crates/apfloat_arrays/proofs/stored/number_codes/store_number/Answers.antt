@@ -1,5 +1,4 @@
-use Rattle.std.proofs.Common.{◌≡◌, ℕ, ◌+◌, ◌-◌, ◌*◌, ◌%◌, ◌^◌, ◌<◌, ◌≤◌, Bool}
-use Rattle.std.proofs.Common.{cond, eqb, not, min, sym, ap, ◌∙◌}
+use Rattle.std.proofs.Common.{◌≡◌, ℕ, ◌+◌, ◌-◌, ◌*◌, ◌%◌, ◌^◌, ◌<◌, ◌≤◌, Bool, cond, eqb, not, min, sym, ap, ◌∙◌}
 use Rattle.std.proofs.Common.{subst, arith, pos, ◌-ℤ◌}
 use Rattle.std.proofs.Math.Nat.{pow-le-pow_right}
 use Rattle.std.proofs.lemmas.Int.{ints}
@@ -50,21 +49,18 @@ returns g c =
     let digits : c.significand_in-significand.result * 2 ^ (32 - min (first - c.saturating_sub-place.result) 32)
     ≡ m * 2 ^ (32 - min (first - e) 32) =
     ap (λ (n : ℕ). n * 2 ^ (32 - min (first - c.saturating_sub-place.result) 32))
-    c.significand_in-significand.ensures.is
-    ∙ ap (λ (n : ℕ). m * 2 ^ (32 - min (first - n) 32)) place in
+    c.significand_in-significand.ensures.is ∙ ap (λ (n : ℕ). m * 2 ^ (32 - min (first - n) 32)) place in
     let negative_is : c.is_minus_in-negative.result ≡ is_minus k c.args.bits = c.is_minus_in-negative.ensures in
     let rounded : made.result.kept ≡ rounded_by low mode negative t =
     made.ensures.kept ∙ (λ i. rounded_by low mode (negative_is i) (digits i)) in
     let placed : c.placed.result ≡ (e - first) * 2 ^ (s.precision - 1) =
-    c.placed.ensures.is
-    ∙ ap (λ (n : ℕ). n * 2 ^ (s.precision - 1))
+    c.placed.ensures.is ∙ ap (λ (n : ℕ). n * 2 ^ (s.precision - 1))
     (c.saturating_sub.ensures ∙ ap (λ (n : ℕ). n - first) place) in
     let index_is : index ≡ rounded_by low mode negative t + (e - first) * 2 ^ (s.precision - 1) =
     (λ i. rounded i + placed i) in
     let exact : made.result.exact ≡ eqb (t % 2 ^ low) 0 =
     made.ensures.exact ∙ ap (λ (n : ℕ). eqb (n % 2 ^ low) 0) digits in
-    let out : made.result.leads_out ≡ leads_out mode negative =
-    made.ensures.out ∙ ap (leads_out mode) negative_is in
+    let out : made.result.leads_out ≡ leads_out mode negative = made.ensures.out ∙ ap (leads_out mode) negative_is in
     let code_is : IsCodeOf s negative index code = record {
       is = c.code_of.ensures
           ∙ ap (λ (b : Bool). cond b (2 ^ (s.bits - 1)) 0 + min index (2 ^ (s.bits - 1) - 1)) negative_is;
@@ -73,15 +69,11 @@ returns g c =
     subst (λ (b : Bool). IsStatusOf s made.result.leads_out index b status) exact
     (record { is = c.status_of-status.ensures }) in
     let from_scale = scale_is k g.S.Semantics.lawful.parameters in
-    let two = law.precision_low in
-    let above = law.exponent in
-    let least = law.min_exp_high in
     let more = source.more in
-    let first_is = c.first_place-first.ensures.is in
     let to_scale : pos (format_with s).scale ≡ pos (s.precision - 1) -ℤ s.min_exp =
-    omega (arith, ints, two, least) in
+    omega (arith, ints, law.precision_low, law.min_exp_high) in
     let scales : (format_of g.S.Semantics).scale ≡ (format_with s).scale + (k.precision - s.precision) + first =
-    omega (arith, ints, from_scale, to_scale, first_is, more, two) in
+    omega (arith, ints, from_scale, to_scale, c.first_place-first.ensures.is, more, law.precision_low) in
     let fits : m < 2 ^ k.precision =
     subst (λ (n : ℕ). n < 2 ^ k.precision) c.significand_in-significand.ensures.is
     c.significand_in-significand.ensures.below in
@@ -93,8 +85,7 @@ returns g c =
       stored =
           subst
           (λ (x : Datum). IsInto s (format_of g.S.Semantics) mode x code status (not (eqb status 0))) (sym read) into;
-      below = code_below s negative index code (omega (arith, two, above)) code_is;
+      below = code_below s negative index code (omega (arith, law.precision_low, law.exponent)) code_is;
       past =
-          overflow_only_past s negative made.result.leads_out (eqb (t % 2 ^ low) 0) index code status code_is
-          status_is;
+          overflow_only_past s negative made.result.leads_out (eqb (t % 2 ^ low) 0) index code status code_is status_is;
     })

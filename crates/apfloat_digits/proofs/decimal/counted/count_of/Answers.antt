@@ -6,7 +6,7 @@ use Rattle.apfloat_model.proofs.arithmetic.Significands.{significand_value}
 use Rattle.apfloat_ieee.specs.Types.{format_of}
 use Rattle.apfloat_decimals.specs.ExactDecimals.{IsNumberOf}
 use Rattle.apfloat_decimals.proofs.digits.ExactDecimals.{number_of}
-use Rattle.apfloat_digits.proofs.decimal_lemmas.ScaledValues.{number_exponent}
+use Rattle.apfloat_decimals.proofs.numbers.QuantumPlaces.{number_exponent}
 use Rattle.apfloat_digits.proofs.decimal_lemmas.DigitPlaces.{counted, last_below}
 use Rattle.apfloat_digits.proofs.decimal_lemmas.ScaledValues.{last_of, first_within}
 use Rattle.apfloat_digits.proofs.decimal.counted.count_of.Given.{Over}
@@ -16,8 +16,7 @@ use Rattle.apfloat_digits.proofs.decimal.counted.count_of.Goals as goal
 pub last_place-place-requires-clause-some : goal.last_place-place-requires-clause-some
 last_place-place-requires-clause-some g c =
     let least : 0 < 2 ^ (g.S.Semantics.PRECISION - 1) = pow_pos (g.S.Semantics.PRECISION - 1) in
-    let full = c.number-number.ensures.full in
-    omega (arith, least, full)
+    omega (arith, least, c.number-number.ensures.full)
 
 pub last_place-place-requires-clause-within : goal.last_place-place-requires-clause-within
 last_place-place-requires-clause-within g c =

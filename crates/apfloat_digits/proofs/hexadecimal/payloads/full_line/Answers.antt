@@ -8,8 +8,7 @@ pub returns-in-Infinity-clause-text : goal.returns-in-Infinity-clause-text
 returns-in-Infinity-clause-text g c =
     full_of (format_of g.S.Semantics) c.args.x c.line_of.result
     (other_category (format_of g.S.Semantics) c.args.x Infinity
-    (cc (c.category.ensures.category, c.in-Infinity.is)) refl)
-    c.line_of.ensures.text
+    (cc (c.category.ensures.category, c.in-Infinity.is)) refl) c.line_of.ensures.text
 
 pub returns-in-Zero-clause-text : goal.returns-in-Zero-clause-text
 returns-in-Zero-clause-text g c =

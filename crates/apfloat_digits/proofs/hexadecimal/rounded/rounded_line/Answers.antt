@@ -20,8 +20,7 @@ cut_is g c =
       low = c.digits_of-number.ensures.low;
       high = c.digits_of-number.ensures.high;
       number = c.digits_of-number.ensures.number;
-    })
-    c.shift_right-cut.ensures.stands
+    }) c.shift_right-cut.ensures.stands
 
 pub carried-requires-clause-least : goal.carried-requires-clause-least
 carried-requires-clause-least g c =

@@ -7,7 +7,7 @@ use Rattle.apfloat_model.proofs.arithmetic.Significands.{significand_logarithm}
 use Rattle.apfloat_model.proofs.formats.LawfulRanges.{ranges_of}
 use Rattle.apfloat_model.proofs.order.PositiveValues.{logarithm_within}
 use Rattle.apfloat_ieee.specs.Types.{constants_of, format_of}
-use Rattle.apfloat_digits.proofs.decimal_lemmas.ScaledValues.{number_exponent}
+use Rattle.apfloat_decimals.proofs.numbers.QuantumPlaces.{number_exponent}
 use Rattle.apfloat_digits.specs.hexadecimal.HexTexts.{IsNumberOf}
 use Rattle.apfloat_digits.proofs.hexadecimal_lemmas.AlignedDigits.{IsWide, widened}
 use Rattle.apfloat_digits.proofs.hexadecimal.significands.digits_of.Given.{Over}

@@ -4,9 +4,7 @@ use Rattle.apfloat_digits.proofs.hexadecimal_lemmas.Characters.{last_digit, room
 use Rattle.apfloat_digits.proofs.hexadecimal.texts.+push_digits.Goals as goal
 
 pub push_digits-requires : goal.push_digits-requires
-push_digits-requires t c =
-    let room = c.requires in
-    (omega (arith, c.decreases, c.if-places-eq0.false), omega (arith, room))
+push_digits-requires t c = (omega (arith, c.decreases, c.if-places-eq0.false), omega (arith, c.requires))
 
 pub push-requires : goal.push-requires
 push-requires t c =

@@ -24,8 +24,7 @@ returns-clause-text g c =
             low = c.digits_of-number.ensures.low;
             high = c.digits_of-number.ensures.high;
             number = c.digits_of-number.ensures.number;
-          })
-          refl c.shortened-fraction.ensures.few c.shortened-fraction.ensures.fits c.shortened-fraction.ensures.same
+          }) refl c.shortened-fraction.ensures.few c.shortened-fraction.ensures.fits c.shortened-fraction.ensures.same
           c.shortened-fraction.ensures.last;
       text_is = rw exact at c.number_line.ensures.text;
     }

@@ -16,17 +16,12 @@ in_quanta-value-requires-clause-finite g c =
 pub add_number-requires-clause-near : goal.add_number-requires-clause-near
 add_number-requires-clause-near g c =
     let ranges = ranges_of (constants_of g.S.Flagged) g.S.Flagged.lawful in
-    let scale = c.scale_of.ensures.value in
-    let place = c.in_quanta-value.ensures.place in
-    let narrow = c.requires.format.narrow in
-    let low = ranges.scale in
-    omega (arith, scale, place, narrow, low)
+    omega (arith, c.scale_of.ensures.value, c.in_quanta-value.ensures.place, c.requires.format.narrow, ranges.scale)
 
 pub add_number-requires-clause-small : goal.add_number-requires-clause-small
 add_number-requires-clause-small g c =
     let f = format_of g.S.Flagged in
     let ranges = ranges_of (constants_of g.S.Flagged) g.S.Flagged.lawful in
-    let low = ranges.scale in
     let short = c.requires.format.short in
     let narrow = c.requires.format.narrow in
     rw (
@@ -35,7 +30,7 @@ add_number-requires-clause-small g c =
           c.in_quanta-value.ensures.value,
     )
     (few_digits (quanta_of c.args.x) (2 ^ f.scale) (f.precision + f.span) c.in_quanta-value.ensures.within
-    (power_few f.scale (f.precision + f.span) (omega (arith, low))) (omega (arith, short, narrow)))
+    (power_few f.scale (f.precision + f.span) (omega (arith, ranges.scale))) (omega (arith, short, narrow)))
 
 pub returns-then-is_finite : goal.returns-then-is_finite
 returns-then-is_finite g c =
@@ -56,5 +51,4 @@ pub returns-else-is_finite : goal.returns-else-is_finite
 returns-else-is_finite g c =
     let finite = sym (finite_agrees c.args.x) ∙ sym c.is_finite.ensures ∙ c.if-is_finite.false in
     rw (sym (special_value (format_of g.S.Flagged) TowardZero c.args.x c.round_to_integral.result.value
-    (bits_of c.round_to_integral.result.status) finite c.round_to_integral.ensures).same)
-    c.add_special.ensures
+    (bits_of c.round_to_integral.result.status) finite c.round_to_integral.ensures).same) c.add_special.ensures

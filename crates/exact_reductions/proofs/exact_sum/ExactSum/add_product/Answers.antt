@@ -23,21 +23,16 @@ in_quanta-right-requires-clause-finite g c =
 
 pub add_number-requires-clause-near : goal.add_number-requires-clause-near
 add_number-requires-clause-near g c =
-    let left = c.in_quanta-left.ensures.place in
-    let right = c.in_quanta-right.ensures.place in
-    let narrow = c.requires.format.narrow in
-    omega (arith, left, right, narrow)
+    omega (arith, c.in_quanta-left.ensures.place, c.in_quanta-right.ensures.place, c.requires.format.narrow)
 
 pub add_number-requires-clause-small : goal.add_number-requires-clause-small
 add_number-requires-clause-small g c =
     let f = format_of g.S.Flagged in
-    let short = c.requires.format.short in
-    let narrow = c.requires.format.narrow in
     rw (product_units (quanta_of c.args.x) (quanta_of c.args.y) c.in_quanta-left.result.significand
     c.in_quanta-right.result.significand c.in_quanta-left.result.place c.in_quanta-right.result.place
     c.full_product.result c.in_quanta-left.ensures.value c.in_quanta-right.ensures.value c.full_product.ensures)
     (few_digits (quanta_of c.args.x) (quanta_of c.args.y) (f.precision + f.span) c.in_quanta-left.ensures.within
-    c.in_quanta-right.ensures.within (omega (arith, short, narrow)))
+    c.in_quanta-right.ensures.within (omega (arith, c.requires.format.short, c.requires.format.narrow)))
 
 pub returns-then-finite : goal.returns-then-finite
 returns-then-finite g c =
@@ -53,11 +48,9 @@ returns-then-finite g c =
     c.in_quanta-right.result.significand c.in_quanta-left.result.place c.in_quanta-right.result.place
     c.full_product.result c.in_quanta-left.ensures.value c.in_quanta-right.ensures.value c.full_product.ensures in
     let sign : c.product_sign.result ≡ product_sign (is_negative x) (is_negative y) =
-    c.product_sign.ensures
-    ∙ ap (λ (s : Bool). product_sign s c.is_negative-then-finite.result) c.is_negative.ensures
+    c.product_sign.ensures ∙ ap (λ (s : Bool). product_sign s c.is_negative-then-finite.result) c.is_negative.ensures
     ∙ ap (λ (s : Bool). product_sign (is_negative x) s) c.is_negative-then-finite.ensures in
-    c.add_number.ensures
-    ∙ ap (λ (t : Tally). joined c.args.self.now t)
+    c.add_number.ensures ∙ ap (λ (t : Tally). joined c.args.self.now t)
     (ap (λ (s : Bool). number_tally s amount) sign
     ∙ ap (λ (n : ℕ). number_tally (product_sign (is_negative x) (is_negative y)) n) units
     ∙ sym (finite_product f x y left right))

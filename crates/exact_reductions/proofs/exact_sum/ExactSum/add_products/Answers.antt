@@ -9,8 +9,7 @@ loop-i-preserved g c =
     let x = c.index-x-i.result in
     let y = c.index-y-i.result in
     let h : c.loop-i.i < length c.args.x.now = omega (arith, c.loop-i-test.true) in
-    let lengths = c.requires.lengths in
-    let k : c.loop-i.i < length c.args.y.now = omega (arith, h, lengths) in
+    let k : c.loop-i.i < length c.args.y.now = omega (arith, h, c.requires.lengths) in
     one_done _ _ _ _ _ _ _ _ c.loop-i.invariant
     (products_here f c.args.x.now c.args.y.now c.loop-i.i x y h k c.index-x-i.is c.index-y-i.is)
     c.add_product.ensures (product_one f x y)
@@ -18,5 +17,4 @@ loop-i-preserved g c =
 pub returns : goal.returns
 returns g c =
     let l : length c.args.x.now ≤ c.loop-i.i = omega (arith, c.loop-i-test.false) in
-    all_done _ _ _ _ _ c.loop-i.invariant
-    (products_done (format_of g.S.Flagged) c.args.x.now c.args.y.now c.loop-i.i l)
+    all_done _ _ _ _ _ c.loop-i.invariant (products_done (format_of g.S.Flagged) c.args.x.now c.args.y.now c.loop-i.i l)

@@ -36,8 +36,7 @@ returns c =
     let magnitude = word.magnitude in
     let low = c.ranges.lower.fits in
     let lost : c.loses_sign.result ≡ (has_one_zero t.nonfinite && negative && eqb a 0) =
-    c.loses_sign.ensures
-    ∙ ap (λ (b : Bool). has_one_zero t.nonfinite && negative && b)
+    c.loses_sign.ensures ∙ ap (λ (b : Bool). has_one_zero t.nonfinite && negative && b)
     (both_zero (upper % 2 ^ 15) c.args.lower ∙ ap (λ (n : ℕ). eqb n 0) word.magnitude) in
     let rounded =
     c.finish-lane.ensures plan.saturates plan.round (significand_of a * 2 ^ place_of a * 2 ^ f.scale) (2 ^ 149)

@@ -13,11 +13,10 @@ returns c = λ saturates mode amount parts some side reached.
     let is = c.delivered.ensures in
     let kept = c.args.scaled.kept in
     let rest = c.args.scaled.rest in
-    let word = c.args.scaled.short in
     let high : (c.args.scaled.kept * 2 ^ 16 + c.args.scaled.rest) / 2 ^ 16 ≡ c.args.scaled.kept =
-    omega (arith, word) in
+    omega (arith, c.args.scaled.short) in
     let low : (c.args.scaled.kept * 2 ^ 16 + c.args.scaled.rest) % 2 ^ 16 ≡ c.args.scaled.rest =
-    omega (arith, word) in
+    omega (arith, c.args.scaled.short) in
     let addend = c.args.side.addend in
     let sum : c.carried-rounded.result ≡ rounded_by 16 mode c.args.negative (kept * 2 ^ 16 + rest) =
     c.carried-rounded.ensures
@@ -32,5 +31,4 @@ returns c = λ saturates mode amount parts some side reached.
       overflow = rw (is.overflow, c.from-2.ensures, sum, side.raises) refl;
       invalid = is.invalid;
       nan_is = rw (is.nan_is, c.from-3.ensures, c.min-code.ensures, sum, side.greatest) refl;
-    })
-    reached
+    }) reached

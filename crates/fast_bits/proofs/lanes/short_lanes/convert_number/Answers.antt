@@ -20,8 +20,7 @@ use Rattle.fast_bits.proofs.lanes.short_lanes.convert_number.Goals as goal
 halves : (c : goal.After-struct_known-1) (x : ℕ) → c.args.half ≡ odd_quotient x (2 ^ 16)
     → (x < 2 ^ 32) × IsHalf c.args.half x
 halves c x is =
-    let below : odd_quotient x (2 ^ 16) < 2 ^ 16 =
-    subst (λ (n : ℕ). n < 2 ^ 16) is c.ranges.half.fits in
+    let below : odd_quotient x (2 ^ 16) < 2 ^ 16 = subst (λ (n : ℕ). n < 2 ^ 16) is c.ranges.half.fits in
     let word = word_below x below in
     (word, subst (λ (n : ℕ). IsHalf n x) (sym is) (half_is x word))
 
@@ -38,13 +37,12 @@ lane_is c x is =
     let h = c.args.half in
     let amount = significand_of (x % 2 ^ 31) * 2 ^ place_of (x % 2 ^ 31) * 2 ^ f.scale in
     let precise = t.lawful.precise in
-    let low = t.lawful.below in
     let side : IsSideOf (15 - t.precision) plan.saturates f plan.round (eqb (h / 2 ^ 15) 1) c.if-negative.side =
     elim c.if-negative.branch [
       | then-negative w ↦ rw (w.side-is, w.if-negative.true) plan.negative_is
       | else-negative w ↦ rw (w.side-is, ne_eqb (h / 2 ^ 15) 1 w.if-negative.false) plan.positive_is
     ] in
-    let scale : pos f.scale ≡ pos (t.precision - 1) -ℤ t.min_exp = omega (arith, ints, precise, low) in
+    let scale : pos f.scale ≡ pos (t.precision - 1) -ℤ t.min_exp = omega (arith, ints, precise, t.lawful.below) in
     let scaled = half_scaled f t.min_exp x h c.first_exponent-first.result precise plan.short.digits scale
     plan.short.least c.first_exponent-first.ensures.is (halves c x is).1 in
     let there : IsScaled t.precision (15 - t.precision) (c.digits_of.result + c.place_of.result * 2 ^ 14) amount
@@ -65,16 +63,13 @@ returns c =
       converted = λ x single layout number is is_single.
           let both = halves c x is in
           let sign = both.1.sign in
-          let exponent = both.1.exponent in
-          let few : x % 2 ^ 31 < 255 * 2 ^ 23 = omega (arith, exponent, number) in
+          let few : x % 2 ^ 31 < 255 * 2 ^ 23 = omega (arith, both.1.exponent, number) in
           let read : datum_of single layout x
           ≡ finite (eqb (h / 2 ^ 15) 1) (significand_of (x % 2 ^ 31) * 2 ^ place_of (x % 2 ^ 31)) =
           single_read single layout x is_single both.0 few
-          ∙ ap (λ (n : ℕ). finite (eqb n 1) (significand_of (x % 2 ^ 31) * 2 ^ place_of (x % 2 ^ 31)))
-          (sym sign) in
+          ∙ ap (λ (n : ℕ). finite (eqb n 1) (significand_of (x % 2 ^ 31) * 2 ^ place_of (x % 2 ^ 31))) (sym sign) in
           let lost : c.loses_sign.result ≡ (has_one_zero t.nonfinite && eqb (h / 2 ^ 15) 1 && eqb (x % 2 ^ 31) 0) =
-          c.loses_sign.ensures
-          ∙ ap (λ (b : Bool). has_one_zero t.nonfinite && eqb (h / 2 ^ 15) 1 && b) both.1.zero in
+          c.loses_sign.ensures ∙ ap (λ (b : Bool). has_one_zero t.nonfinite && eqb (h / 2 ^ 15) 1 && b) both.1.zero in
           lane_converted plan.saturates single layout f (layout_at t) plan.round (eqb (h / 2 ^ 15) 1)
           c.loses_sign.result (x % 2 ^ 31) x c.finish-lane.result read is_single.scale (omega (arith, precise)) lost
           (lane_is c x is);

@@ -44,5 +44,4 @@ returns c = λ saturates mode amount parts some side scaled.
       overflow = rw (is.overflow, c.from-2.ensures, rounded, side.raises) refl;
       invalid = is.invalid;
       nan_is = rw (is.nan_is, c.from-3.ensures, c.min-code.ensures, rounded, side.greatest) refl;
-    })
-    there
+    }) there

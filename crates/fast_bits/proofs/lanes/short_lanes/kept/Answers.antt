@@ -6,9 +6,7 @@ use Rattle.fast_bits.proofs.lanes.short_lanes.kept.Goals as goal
 
 pub returns-clause-below : goal.returns-clause-below
 returns-clause-below c =
-    let short = c.requires in
-    let word = c.ranges.digits.fits in
-    let places : 9 ≤ 15 - c.args.target.precision = omega (arith, short) in
+    let places : 9 ≤ 15 - c.args.target.precision = omega (arith, c.requires) in
     let unit : 2 ^ 9 ≤ 2 ^ (15 - c.args.target.precision) = pow-le-pow_right two_pos places in
     div_below c.args.digits (2 ^ (15 - c.args.target.precision)) (2 ^ 7) (pow_pos (15 - c.args.target.precision))
-    (omega (arith, word, unit))
+    (omega (arith, c.ranges.digits.fits, unit))

@@ -6,11 +6,9 @@ use Rattle.fast_bits.proofs.lanes.short_lanes.placed.Goals as goal
 pub returns : goal.returns
 returns c =
     let p = c.args.target.precision in
-    let short = c.requires.precision in
-    let place = c.requires.place in
-    let places : c.args.target.precision - 1 ≤ 5 = omega (arith, short) in
+    let places : c.args.target.precision - 1 ≤ 5 = omega (arith, c.requires.precision) in
     let unit : 2 ^ (c.args.target.precision - 1) ≤ 2 ^ 5 = pow-le-pow_right two_pos places in
-    let most : c.args.place ≤ 255 = omega (arith, place) in
+    let most : c.args.place ≤ 255 = omega (arith, c.requires.place) in
     let moved : c.args.place * 2 ^ (p - 1) ≤ 255 * 2 ^ (p - 1) = mul-le-mul_right (2 ^ (p - 1)) most in
     let below : c.args.place * 2 ^ (p - 1) < 2 ^ 13 = omega (arith, moved, unit) in
     let same : c.args.place * 2 ^ (p - 1) % 65536 ≡ c.args.place * 2 ^ (p - 1) =

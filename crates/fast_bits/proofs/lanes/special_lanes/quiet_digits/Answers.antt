@@ -13,8 +13,7 @@ returns-clause-is c = λ single layout trailing is_single below it.
 
 pub returns-clause-below : goal.returns-clause-below
 returns-clause-below c =
-    let few = c.args.target.lawful.digits in
     let places = 17 - c.args.target.precision in
-    let some : 1 ≤ 17 - c.args.target.precision = omega (arith, few) in
+    let some : 1 ≤ 17 - c.args.target.precision = omega (arith, c.args.target.lawful.digits) in
     let least : 2 ^ 1 ≤ 2 ^ (17 - c.args.target.precision) = pow-le-pow_right two_pos some in
     (div-lt_iff_lt-mul {x = c.args.payload % 32768 + 32768} {y = 32768} (pow_pos places)).1 (omega (arith, least))

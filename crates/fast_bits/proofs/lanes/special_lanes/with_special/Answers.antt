@@ -19,8 +19,7 @@ returns-clause-special c = λ single read mode x is_single word high past specia
     ap (λ (n : ℕ). n / 2 ^ (24 - t.precision)) (quieted_is single read (x % 2 ^ 23) is_single (omega arith)) in
     let bits : c.if-nan-ieee.result ≡ cond (c.args.nan && is_ieee t.nonfinite) (lane.bits + d) lane.bits =
     elim c.if-nan-ieee.branch [
-      | then-nan-ieee w ↦
-          rw (w.result-is, sym ieee, w.if-nan-ieee.true, w.from.ensures)
+      | then-nan-ieee w ↦ rw (w.result-is, sym ieee, w.if-nan-ieee.true, w.from.ensures)
           (ap (λ (n : ℕ). lane.bits + n)
           (w.quiet_digits.ensures.is single read (x % 2 ^ 23) is_single (omega arith) it ∙ quiet))
       | else-nan-ieee w ↦ rw (w.result-is, sym ieee, w.if-nan-ieee.false) refl

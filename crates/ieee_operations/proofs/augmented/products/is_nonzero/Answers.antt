@@ -14,13 +14,11 @@ returns-in-Normal-clause-yes g c =
     }
 
 pub returns-in-Zero-clause-no : goal.returns-in-Zero-clause-no
-returns-in-Zero-clause-no g c =
-    λ h. zero_of_category c.args.x (sym c.category.ensures.category ∙ c.in-Zero.is)
+returns-in-Zero-clause-no g c = λ h. zero_of_category c.args.x (sym c.category.ensures.category ∙ c.in-Zero.is)
 
 pub returns-in-Infinity-clause-no : goal.returns-in-Infinity-clause-no
 returns-in-Infinity-clause-no g c =
     λ h. infinity_of_category c.args.x (sym c.category.ensures.category ∙ c.in-Infinity.is)
 
 pub returns-in-NaN-clause-no : goal.returns-in-NaN-clause-no
-returns-in-NaN-clause-no g c =
-    λ h. nan_of_category c.args.x (sym c.category.ensures.category ∙ c.in-NaN.is)
+returns-in-NaN-clause-no g c = λ h. nan_of_category c.args.x (sym c.category.ensures.category ∙ c.in-NaN.is)

@@ -26,8 +26,7 @@ returns-then-is_ok g c =
     let finite = left_is_finite _ _ _ _ _ _ _ t c.twice_left-left.ensures ok in
     let other = left_not_one (format_of g.S.Flagged) c.twice_left-left.result.value c.abs.result c.smallest.result
     finite c.abs.ensures c.smallest.ensures (c.is_exactly.ensures.no c.if-is_exactly.false ok) in
-    head_is_near_tie _ _ _ _ _ _ _ t c.twice_left-left.ensures ok other _ _ _
-    c.with_rounded_tail-then-is_ok.ensures
+    head_is_near_tie _ _ _ _ _ _ _ t c.twice_left-left.ensures ok other _ _ _ c.with_rounded_tail-then-is_ok.ensures
 
 pub returns-else-is_ok : goal.returns-else-is_ok
 returns-else-is_ok g c =

@@ -29,19 +29,16 @@ returns-in-Err c =
     (length c.args.codes.now)) width in
     subst
     (λ (r : Result ℕ ArrayError). IsDequantizedArray c.args.self r c.args.scales.now c.args.codes.now
-    c.args.values.now c.args.values.now (Err c.in-Err.error))
-    known (refl, refl)
+    c.args.values.now c.args.values.now (Err c.in-Err.error)) known (refl, refl)
 
 pub returns-in-Ok : goal.returns-in-Ok
 returns-in-Ok c =
     let width = rw c.built_in.ensures at c.width-width.ensures.is in
     let fits = fitting c.args.self.length c.width-width.result (length c.args.values.now) (length c.args.scales.now)
     (length c.args.codes.now) _ (sym c.in-Ok.ensures) in
-    let known = ap (λ (n : ℕ). Ok n) fits.scales_are
-    ∙ c.in-Ok.ensures
+    let known = ap (λ (n : ℕ). Ok n) fits.scales_are ∙ c.in-Ok.ensures
     ∙ ap (λ (w : ℕ). blocks_of c.args.self.length w (length c.args.values.now) (length c.args.scales.now)
     (length c.args.codes.now)) width in
     subst
     (λ (r : Result ℕ ArrayError). IsDequantizedArray c.args.self r c.args.scales.now c.args.codes.now
-    c.args.values.now c.dequantize_each.new.values c.dequantize_each.result)
-    known c.dequantize_each.ensures
+    c.args.values.now c.dequantize_each.new.values c.dequantize_each.result) known c.dequantize_each.ensures

@@ -8,8 +8,7 @@ use Rattle.apfloat_arrays.proofs.scaled_blocks_lemmas.Scaled.{same_bits}
 use Rattle.apfloat_arrays.proofs.scaled_blocks.dequantizing.Dequantization.dequantize_each.Goals as goal
 
 pub returns-then-not-are_narrow : goal.returns-then-not-are_narrow
-returns-then-not-are_narrow c =
-    (rw c.bits.ensures.value at (c.are_narrow.ensures.no c.if-not-are_narrow.true), refl)
+returns-then-not-are_narrow c = (rw c.bits.ensures.value at (c.are_narrow.ensures.no c.if-not-are_narrow.true), refl)
 
 pub write-requires : goal.write-requires
 write-requires c =

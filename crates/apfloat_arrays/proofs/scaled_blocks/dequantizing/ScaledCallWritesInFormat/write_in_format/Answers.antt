@@ -12,8 +12,7 @@ loop-index-init g c =
     c.args.self.codes.now c.args.bytes.now
 
 pub write_scaled-requires-clause-code : goal.write_scaled-requires-clause-code
-write_scaled-requires-clause-code g c =
-    c.requires.can.1 c.loop-index.index 0 (omega (arith, c.loop-index-test.true))
+write_scaled-requires-clause-code g c = c.requires.can.1 c.loop-index.index 0 (omega (arith, c.loop-index-test.true))
 
 pub write_scaled-requires-clause-bytes : goal.write_scaled-requires-clause-bytes
 write_scaled-requires-clause-bytes g c =

@@ -31,8 +31,7 @@ returns-in-Err c =
     (length c.args.codes.now)) c.width-width.ensures.is in
     subst
     (λ (r : Result ℕ ArrayError). IsQuantizedArray c.args.self r c.args.values.now c.args.scales.now
-    c.args.scales.now c.args.codes.now c.args.codes.now (Err c.in-Err.error))
-    known (refl, refl, refl)
+    c.args.scales.now c.args.codes.now c.args.codes.now (Err c.in-Err.error)) known (refl, refl, refl)
 
 pub returns-in-Ok : goal.returns-in-Ok
 returns-in-Ok c =

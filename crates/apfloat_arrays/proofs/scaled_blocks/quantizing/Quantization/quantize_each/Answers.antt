@@ -13,8 +13,7 @@ use Rattle.apfloat_arrays.proofs.scaled_blocks_lemmas.Made.{made_more, made_none
 use Rattle.apfloat_arrays.proofs.scaled_blocks.quantizing.Quantization.quantize_each.Goals as goal
 
 pub loop-index-init : goal.loop-index-init
-loop-index-init c =
-    (c.requires.scales, made_none c.args.self c.args.values.now c.args.scales.now c.args.codes.now)
+loop-index-init c = (c.requires.scales, made_none c.args.self c.args.values.now c.args.scales.now c.args.codes.now)
 
 pub read-block-requires : goal.read-block-requires
 read-block-requires c =
@@ -25,8 +24,7 @@ read-block-requires c =
       block_within c.loop-index.index c.args.blocks c.args.self.length c.args.width _ (length c.args.values.now)
           c.loop-index-test.true
           (place_size c.args.self.length c.loop-index.index c.args.blocks c.loop-index.codes c.loop-index-test.true
-          size)
-          c.requires.values,
+          size) c.requires.values,
     )
 
 pub loop-index-preserved : goal.loop-index-preserved
@@ -67,7 +65,6 @@ returns c =
       places = subst
           (λ (n : ℕ). AreInPlaces (IsBlockOf q c.args.values.now) q.length n c.loop-index.codes made.blocks)
           last made.places;
-      scales_are =
-          sym (take_all c.loop-index.index c.loop-index.scales (omega (arith, many, last))) ∙ made.scales_are;
+      scales_are = sym (take_all c.loop-index.index c.loop-index.scales (omega (arith, many, last))) ∙ made.scales_are;
       counted = made.counted;
     }

@@ -4,5 +4,4 @@ use Rattle.apfloat_arrays.proofs.scaled_blocks.quantizing.Quantization.quantize_
 
 -- the blocks before the index
 abbrev pub invariant-loop-index : goal.invariant-loop-index
-invariant-loop-index l =
-    (length l.scales ≡ l.blocks) × AreMade l.self l.values l.index l.scales l.codes l.counts
+invariant-loop-index l = (length l.scales ≡ l.blocks) × AreMade l.self l.values l.index l.scales l.codes l.counts

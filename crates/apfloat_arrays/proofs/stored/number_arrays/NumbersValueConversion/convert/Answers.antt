@@ -7,10 +7,8 @@ use Rattle.apfloat_arrays.specs.stored.NumberCodes.{biased_of}
 use Rattle.apfloat_arrays.proofs.stored_lemmas.NumberCodes.{stored_bits}
 use Rattle.apfloat_arrays.proofs.stored.number_arrays.NumbersValueConversion.convert.Goals as goal
 
-not_special : (biased top : ℕ) (number : Bool) → number ≡ true → number ≡ not (eqb biased top)
-    → biased ≡ top → ⊥
-not_special biased top number holds is e =
-    true≢false (sym holds ∙ is ∙ ap not (eq-eqb biased top e))
+not_special : (biased top : ℕ) (number : Bool) → number ≡ true → number ≡ not (eqb biased top) → biased ≡ top → ⊥
+not_special biased top number holds is e = true≢false (sym holds ∙ is ∙ ap not (eq-eqb biased top e))
 
 pub store_number-answer-requires-clause-number : goal.store_number-answer-requires-clause-number
 store_number-answer-requires-clause-number g c =
@@ -28,11 +26,9 @@ returns-then-is_number g c =
     (record {
       is_stored =
           stored_bits c.args.self.overflow c.args.self.target k s c.args.self.plan.round c.bits_in-bits.result code
-          status
-          (not (eqb status 0)) c.requires.format c.requires.word
+          status (not (eqb status 0)) c.requires.format c.requires.word
           (not_special (biased_of k c.bits_in-bits.result) (2 ^ g.S.Semantics.EXP_BITS - 1) c.is_number.result
-          c.if-is_number.true c.is_number.ensures)
-          answer.ensures.below answer.ensures.stored answer.ensures.past;
+          c.if-is_number.true c.is_number.ensures) answer.ensures.below answer.ensures.stored answer.ensures.past;
       fits = subst (λ (bits : ℕ). code < 2 ^ bits) (sym c.requires.format.bits) answer.ensures.below;
       nan_is = sym (c.requires.format.no_nans code);
     })
