@@ -325,6 +325,27 @@ pub fn round_to_integral_here<F: ValueType>(answer: &mut Answer, round: Round, x
     *answer = written(F::from_bits(x).round_to_integral(round));
 }
 
+/// A value rounded to an integral value in the modes as constants. That makes the code of each short enough to be put in
+/// line where the code for all modes is not.
+#[inline(always)]
+fn round_to_integral_by_mode<F: ValueType>(answer: &mut Answer, round: Round, x: u128)
+    requires { F.PRECISION < F.BITS }
+    ensures { let of_type = relations_of F.Float.own F.partial_cmp F.takes_root in
+        IsTypeAnswer of_type round (RoundToIntegral x) answer.new }
+{
+    match round {
+        Round::NearestTiesToEven => {
+            round_to_integral_here::<F>(answer, Round::NearestTiesToEven, x)
+        }
+        Round::TowardPositive => { round_to_integral_here::<F>(answer, Round::TowardPositive, x) }
+        Round::TowardNegative => { round_to_integral_here::<F>(answer, Round::TowardNegative, x) }
+        Round::TowardZero => round_to_integral_here::<F>(answer, Round::TowardZero, x),
+        Round::NearestTiesToAway => {
+            round_to_integral_here::<F>(answer, Round::NearestTiesToAway, x)
+        }
+    }
+}
+
 /// A value rounded to an integral value.
 #[inline(never)]
 pub fn round_to_integral<F: ValueType>(answer: &mut Answer, round: Round, x: u128)
@@ -332,7 +353,12 @@ pub fn round_to_integral<F: ValueType>(answer: &mut Answer, round: Round, x: u12
     ensures { let of_type = relations_of F.Float.own F.partial_cmp F.takes_root in
         IsTypeAnswer of_type round (RoundToIntegral x) answer.new }
 {
-    round_to_integral_here::<F>(answer, round, x)
+    // `x87` alone has so many bits.
+    if F::BITS == 80 {
+        round_to_integral_by_mode::<F>(answer, round, x)
+    } else {
+        round_to_integral_here::<F>(answer, round, x)
+    }
 }
 
 /// A value times a power of two.

@@ -910,7 +910,7 @@ fn integral_exact_in<S: Flagged>(
     }
 }
 
-/// A word rounded to an integral value, with INEXACT. Numbers are found by tests that the plain call makes too.
+/// A word rounded to an integral value, with INEXACT.
 #[inline(never)]
 fn integral_exact_of_word<S: Flagged>(
     answer: &mut Answer,
@@ -922,10 +922,10 @@ fn integral_exact_of_word<S: Flagged>(
     ensures { IsMachineLeftIn (of_format (constants_of S.Flagged)) machine round (IntegralExact x)
         answer.old answer.new result }
 {
-    usual_integral_exact::<S>(answer, machine, round, x as u128)
+    integral_exact_here::<S>(answer, machine, round, x as u128)
 }
 
-/// A value of more than 64 bits rounded to an integral value, with INEXACT: the plain one of a normal number.
+/// A value of more than 64 bits rounded to an integral value, with INEXACT.
 #[inline(never)]
 fn integral_exact_of_value<S: Flagged>(
     answer: &mut Answer,
@@ -937,18 +937,34 @@ fn integral_exact_of_value<S: Flagged>(
     ensures { IsMachineLeftIn (of_format (constants_of S.Flagged)) machine round (IntegralExact x)
         answer.old answer.new result }
 {
+    integral_exact_here::<S>(answer, machine, round, x)
+}
+
+/// A value rounded to an integral value, with INEXACT, in line: the plain one of a normal number, which is found by a
+/// test that the plain call makes too.
+#[inline(always)]
+fn integral_exact_here<S: Flagged>(
+    answer: &mut Answer,
+    machine: Machine,
+    round: Round,
+    x: u128,
+) -> u32
+    requires { S.PRECISION < S.BITS }
+    ensures { IsMachineLeftIn (of_format (constants_of S.Flagged)) machine round (IntegralExact x)
+        answer.old answer.new result }
+{
     if is_normal::<S>(x) {
-        wide_integral_exact::<S>(answer, round, x);
+        normal_integral_exact::<S>(answer, round, x);
         ANSWERED
     } else {
         usual_integral_exact::<S>(answer, machine, round, x)
     }
 }
 
-/// A value of more than 64 bits rounded to an integral value, with INEXACT, as the plain call gives it: in line, unless
-/// the integer bit is explicit, where it is too long.
+/// A value rounded to an integral value, with INEXACT, as the plain call gives it: in line, unless the integer bit is
+/// explicit, where it is too long.
 #[inline(always)]
-fn wide_integral_exact<S: Flagged>(answer: &mut Answer, round: Round, x: u128)
+fn normal_integral_exact<S: Flagged>(answer: &mut Answer, round: Round, x: u128)
     requires { S.PRECISION < S.BITS }
     ensures { IsKindAnswer (of_format (constants_of S.Flagged)) round (PlainIntegral x) answer.new }
 {
@@ -972,23 +988,10 @@ fn usual_integral_exact<S: Flagged>(
         answer.old answer.new result }
 {
     if is_number::<S>(x) {
-        plain_integral_exact::<S>(answer, round, x);
+        answers::round_to_integral::<IeeeFloat<S>>(answer, round, x);
         ANSWERED
     } else {
         integral_exact::<S>(answer, machine, round, x)
-    }
-}
-
-/// A value rounded to an integral value, with INEXACT, as the plain call gives it: in line, if it is a word.
-#[inline(always)]
-fn plain_integral_exact<S: Flagged>(answer: &mut Answer, round: Round, x: u128)
-    requires { S.PRECISION < S.BITS }
-    ensures { IsKindAnswer (of_format (constants_of S.Flagged)) round (PlainIntegral x) answer.new }
-{
-    if S::BITS <= 64 {
-        answers::round_to_integral_here::<IeeeFloat<S>>(answer, round, x)
-    } else {
-        answers::round_to_integral::<IeeeFloat<S>>(answer, round, x)
     }
 }
 
