@@ -16,4 +16,6 @@ mod sums;
 #[cfg(test)]
 mod sweeps;
 #[cfg(test)]
+mod texts;
+#[cfg(test)]
 mod unpacked;

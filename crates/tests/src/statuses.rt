@@ -9,6 +9,68 @@ fn overflowed() -> Status {
     Status::OVERFLOW.union(Status::INEXACT)
 }
 
+#[test]
+fn makes_sets_of_bits(rt: HostRuntime) {
+    let got = [
+        Status::empty().bits(),
+        Status::all().bits(),
+        Status::from_bits_truncate(0x34).bits(),
+        Status::from_bits_retain(0x34).bits(),
+    ];
+    same(&rt, got, [0x00, 0x1f, 0x14, 0x34], "sets");
+    let got = [Status::from_bits(0x14), Status::from_bits(0x34)];
+    same(&rt, got, [Some(overflowed()), None], "from_bits");
+}
+
+#[test]
+fn asks_sets(rt: HostRuntime) {
+    let overflowed = overflowed();
+    let underflowed = Status::UNDERFLOW.union(Status::INEXACT);
+    let got = [
+        (Status::OK.is_empty(), overflowed.is_empty()),
+        (Status::all().is_all(), overflowed.is_all()),
+        (
+            overflowed.contains(Status::INEXACT),
+            overflowed.contains(underflowed),
+        ),
+        (
+            overflowed.intersects(underflowed),
+            overflowed.intersects(Status::UNDERFLOW),
+        ),
+    ];
+    same(&rt, got, [(true, false); 4], "questions");
+}
+
+#[test]
+fn combines_sets(rt: HostRuntime) {
+    let overflowed = overflowed();
+    let underflowed = Status::UNDERFLOW.union(Status::INEXACT);
+    let got = [
+        overflowed.bits(),
+        overflowed.intersection(underflowed).bits(),
+        overflowed.difference(underflowed).bits(),
+        overflowed.symmetric_difference(underflowed).bits(),
+        overflowed.complement().bits(),
+    ];
+    same(&rt, got, [0x14, 0x10, 0x04, 0x0c, 0x0b], "sets");
+}
+
+#[test]
+fn changes_sets(rt: HostRuntime) {
+    let mut status = overflowed();
+    status.insert(Status::UNDERFLOW);
+    let inserted = status.bits();
+    status.remove(Status::INEXACT);
+    let removed = status.bits();
+    status.toggle(overflowed());
+    let toggled = status.bits();
+    status.set(Status::INVALID_OP, true);
+    let set = status.bits();
+    status.set(Status::UNDERFLOW, false);
+    let got = [inserted, removed, toggled, set, status.bits()];
+    same(&rt, got, [0x1c, 0x0c, 0x18, 0x19, 0x11], "changes");
+}
+
 /// The bits of two statuses combined by each operator, and those of the complement of the first.
 fn combined(x: Status, y: Status) -> [u8; 5] {
     [

@@ -9,7 +9,7 @@ use apfloat_rounding::rounding::deliver;
 use apfloat_rounding::shape::Shape;
 
 /// The shape of binary16.
-const HALF: Shape = Shape {
+pub const HALF: Shape = Shape {
     precision: 11,
     min_exp: -14,
     max_exp: 15,

@@ -84,21 +84,3 @@ fn statuses_of_two_answers(rt: HostRuntime) {
         "of the first, of both",
     );
 }
-
-/// Two statuses without a common flag are joined, and then an empty one.
-#[test]
-fn joins_statuses(rt: HostRuntime) {
-    let mut status;
-    let first: u8 = unpack!(status =, Status::INVALID_OP.union(Status::UNDERFLOW).and(1));
-    let of_first = status.bits();
-    let second: u8 = unpack!(status |=, Status::OVERFLOW.union(Status::INEXACT).and(2));
-    let of_two = status.bits();
-    let third: u8 = unpack!(status |=, Status::OK.and(3));
-    let of_three = status.bits();
-    let fourth: u8 = unpack!(status =, Status::DIV_BY_ZERO.and(4));
-    let of_fourth = status.bits();
-    let statuses = [of_first, of_two, of_three, of_fourth];
-    let got = (statuses, [first, second, third, fourth]);
-    let expected = ([0x09, 0x1d, 0x1d, 0x02], [1, 2, 3, 4]);
-    same(&rt, got, expected, "statuses, values");
-}

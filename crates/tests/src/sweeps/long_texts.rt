@@ -6,9 +6,9 @@ use crate::asserts::same;
 use crate::sweeps::tables::{
     AWAY, DOWN, EVEN, INEXACT, OK, OVERFLOW_INEXACT, UNDERFLOW_INEXACT, UP, ZERO,
 };
+use crate::texts::repeated;
 use rustc_apfloat::ieee::{Half, HalfS, Semantics};
 use rustc_apfloat::{Flags, Float, Round};
-use std::alloc::{AllocError, Global};
 use std::process::Abort;
 use std::test::Fail;
 
@@ -48,22 +48,6 @@ static ROWS: [Row; 22] = [
     ("-0x1p-", "9", 100, "", DOWN, 0x8001, UNDERFLOW_INEXACT),
     ("0x1p+", "0", 99, "1", EVEN, 0x4000, OK),
 ];
-
-/// A text with a part that is repeated.
-fn repeated(
-    alloc: Global,
-    start: &str,
-    part: &str,
-    count: u64,
-    end: &str,
-) -> Result<String, AllocError> {
-    let mut text = String::from_str(alloc, start)?;
-    for _ in 0..count {
-        text.push_str(part)?;
-    }
-    text.push_str(end)?;
-    Ok(text)
-}
 
 /// The bits of the value of a text and the bits of the status, or the message of the refusal.
 fn read(text: &str, mode: Round) -> Result<(u128, u8), &'static str> {
