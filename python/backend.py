@@ -95,7 +95,7 @@ def is_current(built, top):
     """Whether a library is there, and no file is newer that it is built of."""
     if not built.is_file():
         return False
-    sources = [top / 'Cargo.toml', top / '.cargo' / 'config.toml', *(top / 'rust').rglob('*.rs'),
+    sources = [top / 'Cargo.toml', *(top / '.cargo').glob('*.toml'), *(top / 'rust').rglob('*.rs'),
                *(top / 'rust').rglob('*.toml'), *(top / 'crates').glob('*/src/**/*.rt')]
     return all(source.stat().st_mtime < built.stat().st_mtime for source in sources)
 
