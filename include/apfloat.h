@@ -1,6 +1,6 @@
 /* Correctly rounded software floating point, C99. Two libraries have these functions, with the same answers: the proved
- * one, and the same text by rustc. C.md, FORMATS.md and MACHINES.md, which the comments here name, are in docs/ beside
- * the source, and in share/doc/apfloat where the library is installed.
+ * one, and the same text by rustc; apfloat_made_by says which it is. C.md, FORMATS.md and MACHINES.md, which the
+ * comments here name, are in docs/ beside the source, and in share/doc/apfloat where the library is installed.
  *
  * A function on values takes them as their bits, with a code for the format and, if it rounds, one for the rounding
  * mode, and writes its result through a pointer. It returns APFLOAT_ANSWERED, or the code of the first error, in the
@@ -163,7 +163,7 @@ typedef enum apfloat_error APFLOAT_CODE {
     APFLOAT_UNKNOWN_MACHINE = 8,
     APFLOAT_WIDE_OPERAND = 9,        /* bits at or above the width of its format are set */
     APFLOAT_LACKING_OPERATION = 10,  /* the machine does not have the operation */
-    APFLOAT_OVERLAPPING_ARRAYS = 11, /* results of a call in place lie partly in an operand; it has no text */
+    APFLOAT_OVERLAPPING_ARRAYS = 11, /* the results of a call in place lie partly in an operand */
     APFLOAT_ERROR_BITS = 0x7fffffff
 } apfloat_error;
 
@@ -323,6 +323,14 @@ apfloat_error apfloat_error_text(apfloat_error error, apfloat_text *text);
 
 /* The version of the library: 1,000,000 times its major number, plus 1,000 times the minor one, plus the patch. */
 uint32_t apfloat_version(void);
+
+/* What made the library: the toolchain that proves it, or rustc, of whose library no proof is claimed. */
+typedef enum apfloat_maker APFLOAT_CODE {
+    APFLOAT_MADE_BY_RT = 1,
+    APFLOAT_MADE_BY_RUSTC = 2,
+    APFLOAT_MAKER_BITS = 0x7fffffff
+} apfloat_maker;
+apfloat_maker apfloat_made_by(void);
 
 /* ---- operations of IEEE 754-2019
  *

@@ -95,7 +95,7 @@ __all__ = [
     'e5m2fnuz',
     'float4_e2m1fn', 'float6_e2m3fn', 'float6_e3m2fn', 'float8_e3m4', 'float8_e4m3', 'float8_e4m3b11fnuz',
     'float8_e4m3fn', 'float8_e4m3fnuz', 'float8_e5m2', 'float8_e5m2fnuz', 'float8_e8m0fnu', 'finfo', 'half',
-    'machine', 'mx', 'quad', 'report', 'single', 'tf32', 'ue4m3', 'x87',
+    'machine', 'made_by', 'mx', 'quad', 'report', 'single', 'tf32', 'ue4m3', 'x87',
 ]
 
 
@@ -248,6 +248,7 @@ def _parameters() -> dict[str, list[Any]]:
         'payload': [code, code, _Halves, answer],
         'shortest': [code, _Halves, ctypes.POINTER(_Text)],
         'error_text': [code, ctypes.POINTER(_Text)],
+        'made_by': [],
         'convert_array': [code, code, code, *array * 2, ctypes.POINTER(_ArrayAnswer)],
         'convert_array_by_table': [code, code, code, *array * 3, ctypes.POINTER(_ArrayAnswer)],
         'map_array': [code, code, code, *array * 4, ctypes.POINTER(_ArrayAnswer)],
@@ -279,6 +280,9 @@ def _library() -> ctypes.CDLL:
 
 
 _functions = _library()
+
+made_by = {1: 'rt', 2: 'rustc'}[_functions.apfloat_made_by()]
+"""What made the library: `rt`, the toolchain that proves it, or `rustc`, of whose library no proof is claimed."""
 
 
 def _error_text(code: int) -> str:

@@ -997,8 +997,8 @@ class ArrayTests(unittest.TestCase):
         texts = ['unknown format', 'unknown rounding mode', 'the format does not have the operation',
                  'an integer cannot have this width', 'the text was refused', 'wrong length of an array',
                  'unknown error code', 'unknown machine', 'an operand is wider than its format',
-                 'the machine does not have the operation', 'code 11']
-        self.assertEqual([str(apfloat.Refused(code)) for code in range(1, 12)], texts)
+                 'the machine does not have the operation', 'arrays overlap', 'code 12']
+        self.assertEqual([str(apfloat.Refused(code)) for code in range(1, 13)], texts)
         again = pickle.loads(pickle.dumps(apfloat.Refused(5)))
         self.assertEqual((str(again), again.code), ('the text was refused', 5))
 
@@ -1296,6 +1296,7 @@ class TensorTests(unittest.TestCase):
                 open(os.path.join(HERE, 'pyproject.toml'), encoding='utf-8') as project:
             self.assertIn(f'#define APFLOAT_VERSION "{apfloat.__version__}"', header.read())
             self.assertIn(f'version = "{apfloat.__version__}"', project.read())
+        self.assertIn(apfloat.made_by, ('rt', 'rustc'))
 
     def test_limits(self):
         for format in FORMATS:

@@ -457,6 +457,9 @@ int main(int count, char **words) {
     if (apfloat_version() != APFLOAT_VERSION_MAJOR * 1000000 + APFLOAT_VERSION_MINOR * 1000 + APFLOAT_VERSION_PATCH) {
         fail("apfloat_version");
     }
+    if (apfloat_made_by() != APFLOAT_MADE_BY_RT && apfloat_made_by() != APFLOAT_MADE_BY_RUSTC) {
+        fail("apfloat_made_by");
+    }
     for (; calls % 1024 || time(NULL) < end; calls++) {
         switch (below(9)) {
         case 0: arrays(); break;

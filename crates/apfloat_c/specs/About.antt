@@ -1,4 +1,4 @@
--- What the library says of itself: a text for each code that an export returns, and its version.
+-- What the library says of itself: a text for each code of an error, its version, and what made it.
 use Rattle.std.specs.Prelude.{◌≡◌, ℕ, ◌==◌, nat_le, Bool, true, false, if◌then◌else◌, List, codes}
 use Rattle.apfloat_c.specs.declared.decimals.DecimalText.{DecimalText}
 use Rattle.apfloat_c.specs.ArrayCalls.{wrong_length}
@@ -11,8 +11,12 @@ use Rattle.coded_calls.specs.MachineCalls.{lacking_operation, unknown_machine, w
 abbrev pub unknown_error : ℕ
 unknown_error = 7
 
+-- the error for arrays of which one is a part of the other, in calls in place; no export returns it
+abbrev pub overlapping_arrays : ℕ
+overlapping_arrays = 11
+
 abbrev pub greatest_code : ℕ
-greatest_code = lacking_operation
+greatest_code = overlapping_arrays
 
 abbrev pub error_text : ℕ → List ℕ
 error_text error =
@@ -26,6 +30,7 @@ error_text error =
     else if error == unknown_machine then codes "unknown machine"
     else if error == wide_operand then codes "an operand is wider than its format"
     else if error == lacking_operation then codes "the machine does not have the operation"
+    else if error == overlapping_arrays then codes "arrays overlap"
     else codes "unknown error code"
 
 -- the code 0 and the text of a code, or the error and the previous contents
@@ -39,3 +44,7 @@ IsErrorText error old new code = IsTold (nat_le error greatest_code) (error_text
 -- 0.1.0
 abbrev pub version : ℕ
 version = 1000
+
+-- the toolchain that proves the library
+abbrev pub made_by : ℕ
+made_by = 1

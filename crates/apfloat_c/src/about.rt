@@ -1,22 +1,29 @@
-//! What the library says of itself: a text for each code that an export returns, and its version.
+//! What the library says of itself: a text for each code of an error, its version, and what made it.
 
 ghost use Rattle.std.specs.Prelude.{◌≡◌, ◌<◌, length};
-ghost use Rattle.apfloat_c.specs.About.{IsErrorText, error_text, version};
+ghost use Rattle.apfloat_c.specs.About.{IsErrorText, error_text, made_by, version};
 ghost use Rattle.apfloat_c.specs.Decimals.{IsText};
 
 use crate::decimals::DecimalText;
 use apfloat_decimals::formatting::CAPACITY;
-use coded_calls::codes::{ANSWERED, LACKING_OPERATION, UNKNOWN_ERROR};
+use coded_calls::codes::{ANSWERED, UNKNOWN_ERROR};
 
 /// The version of the library, as `apfloat_version` returns it.
 const VERSION: u32 = 1_000;
 
-/// A text for a code that an export returned.
+/// The toolchain that proves the library, as `apfloat_made_by` returns it.
+const PROVER: u32 = 1;
+
+/// The code for arrays of which one is a part of the other. No export returns it: `include/apfloat.h` does, in calls in
+/// place.
+const OVERLAPPING_ARRAYS: u32 = 11;
+
+/// A text for a code of an error.
 #[unsafe(no_mangle)]
 pub extern "C" fn apfloat_error_text(error: u32, text: &mut DecimalText) -> u32
     ensures { IsErrorText error text.old text.new result }
 {
-    if error > LACKING_OPERATION {
+    if error > OVERLAPPING_ARRAYS {
         return UNKNOWN_ERROR;
     }
     *text = text_of(error_text(error));
@@ -29,6 +36,14 @@ pub extern "C" fn apfloat_version() -> u32
     ensures { result ≡ version }
 {
     VERSION
+}
+
+/// What made the library. rustc makes one of the same text, without proof, which has an answer of its own.
+#[unsafe(no_mangle)]
+pub extern "C" fn apfloat_made_by() -> u32
+    ensures { result ≡ made_by }
+{
+    PROVER
 }
 
 /// The text for a code; any other number has the text for `UNKNOWN_ERROR`.
@@ -47,6 +62,7 @@ fn error_text(error: u32) -> &'static str
         8 => "unknown machine",
         9 => "an operand is wider than its format",
         10 => "the machine does not have the operation",
+        11 => "arrays overlap",
         _ => "unknown error code",
     }
 }

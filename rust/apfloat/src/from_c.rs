@@ -10,6 +10,16 @@ use core::slice;
 /// `export! { fn name(parameter: type, ..) -> u32 }` makes the function of that name in the module one that C calls by
 /// it. `&[u8]` and `&mut [u8]` are a pointer and a length in C. All else is passed as it is: `&mut Type` is a pointer.
 macro_rules! export {
+    // What made the library is the one answer that is not of the text.
+    (fn apfloat_made_by() -> u32) => {
+        #[allow(unsafe_code)]
+        const _: () = {
+            #[unsafe(no_mangle)]
+            extern "C" fn apfloat_made_by() -> u32 {
+                $crate::from_c::RUSTC
+            }
+        };
+    };
     (fn $name:ident($($parameters:tt)*) -> $returned:ty) => {
         $crate::from_c::export! { $name $returned [] [] $($parameters)*, }
     };
@@ -40,6 +50,9 @@ macro_rules! export {
     };
 }
 pub(crate) use export;
+
+/// `APFLOAT_MADE_BY_RUSTC` of `include/apfloat.h`.
+pub(crate) const RUSTC: u32 = 2;
 
 /// The bytes that C lends.
 ///
