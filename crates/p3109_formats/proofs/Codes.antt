@@ -1,6 +1,7 @@
 -- What the codes of a format of P3109 mean, and where 1 is.
 use Rattle.std.proofs.Common.{◌≡◌, ℕ, zero, suc, ◌+◌, ◌-◌, ◌*◌, ◌/◌, ◌%◌, ◌^◌, ◌<◌}
-use Rattle.std.proofs.Common.{◌≤◌, Bool, true, false, cond, ◌&&◌, eqb, leb, ltb, sym, refl, ap, ◌∙◌, ⊎_elim, arith}
+use Rattle.std.proofs.Common.{◌≤◌, Bool, true, false, cond, ◌&&◌, eqb, leb, ltb}
+use Rattle.std.proofs.Common.{sym, refl, ap, ◌∙◌, ⊎_elim, arith}
 use Rattle.std.proofs.Math.Nat.{add-mul-mod_self_right, mod-eq_of_lt}
 use Rattle.std.proofs.lemmas.Bool.{cases_lt, eq-eqb, eqb-true, false≢true, le-leb, le-ltb, lt-leb, lt-ltb, ne_eqb}
 use Rattle.std.proofs.lemmas.Nat.{div-mul-add, pow-add, pow_pos}
@@ -38,7 +39,8 @@ pub record AreApart (codes last most bad : ℕ) : Type 0 where
   pub last_not_nan : last < bad
   pub most_to : most ≤ last
 
-are_apart : (codes last most bad : ℕ) → last < codes → last < bad → most ≤ last → AreApart codes last most bad
+are_apart : (codes last most bad : ℕ) → last < codes → last < bad → most ≤ last
+    → AreApart codes last most bad
 are_apart codes last most bad below other to = record { last_below = below; last_not_nan = other; most_to = to }
 
 pub apart : (c : Projection) → IsProjection c
@@ -71,7 +73,8 @@ plain_code c index law l =
       no_nan = ne_eqb index (nan_code c) (λ e. omega (arith, e, l, a.last_not_nan));
     }
   where
-    unsigned : (signed : Bool) → leb (unsigned_codes c) index ≡ false → (signed && leb (unsigned_codes c) index) ≡ false
+    unsigned : (signed : Bool) → leb (unsigned_codes c) index ≡ false
+        → (signed && leb (unsigned_codes c) index) ≡ false
     unsigned true e = e
     unsigned false e = refl
 
@@ -123,7 +126,8 @@ coded_number c false index law sign l =
 coded_number c true zero law sign l =
     let a = apart c law in
     let z = zero_point c.precision in
-    number_of_code c false 0 0 (plain_code c 0 law (omega arith)) (omega arith) ∙ rw z refl
+    number_of_code c false 0 0 (plain_code c 0 law (omega arith)) (omega arith)
+    ∙ rw z refl
 coded_number c true (suc index) law sign l =
     let a = apart c law in
     let some : eqb (suc index) 0 ≡ false = ne_eqb (suc index) 0 (λ e. omega (arith, e)) in
@@ -136,7 +140,8 @@ coded_number c true (suc index) law sign l =
 pub coded_infinity : (c : Projection) (negative : Bool) → IsProjection c → (negative ≡ true → c.signed ≡ true)
     → c.extended ≡ true → projected_datum c (coded c negative (last_index c)) ≡ past_value c negative
 coded_infinity c negative law sign extended =
-    let past : last_index c ≡ largest_index c + 1 = ap (λ (e : Bool). largest_index c + cond e 1 0) extended in
+    let past : last_index c ≡ largest_index c + 1 =
+    ap (λ (e : Bool). largest_index c + cond e 1 0) extended in
     by_sign negative sign past ∙ sym (ap (λ (e : Bool). cond e (infinite negative) (nan false 0)) extended)
   where
     by_sign : (b : Bool) → (b ≡ true → c.signed ≡ true) → last_index c ≡ largest_index c + 1

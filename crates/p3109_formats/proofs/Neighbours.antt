@@ -8,7 +8,7 @@ use Rattle.std.specs.declared.cmp.Ordering.{Ordering}
 use Rattle.std.specs.declared.cmp.Ordering.TheVariants.{Less}
 use Rattle.std.specs.Cmp.{int_cmp_is, int_ranks}
 use Rattle.std.specs.Ordering.{MatchOrdering}
-use Rattle.std.proofs.lemmas.Bool.{and_parts, cases_eq, eq-eqb, false≢true, ne_eqb, eqb-false}
+use Rattle.std.proofs.lemmas.Bool.{and_parts, cases_eq, cases_lt, eq-eqb, false≢true, ne_eqb}
 use Rattle.std.proofs.lemmas.Int.{ints}
 use Rattle.std.proofs.lemmas.Nat.{mod_below, pow_pos}
 use Rattle.apfloat_model.specs.arithmetic.Exact.{signed}
@@ -126,9 +126,15 @@ last_at true true negative codes code m four l is sign other = omega (arith, fou
 last_at true false negative codes code m four l is sign other = omega (arith, four, l)
 last_at false extended true codes code m four l is sign other = absurd (false≢true sign)
 last_at false true false codes code m four l is sign other =
-    let no_nan = eqb-false code (codes - 1) other in omega (arith, four, l, is, no_nan)
+    ⊎_elim (λ (k : m < codes - 1). omega (arith, k, four))
+    (λ (k : codes - 1 ≤ m).
+    absurd (false≢true (sym other ∙ eq-eqb code (codes - 1) (omega (arith, k, l, is)))))
+    (cases_lt m (codes - 1))
 last_at false false false codes code m four l is sign other =
-    let no_nan = eqb-false code (codes - 1) other in omega (arith, four, l, is, no_nan)
+    ⊎_elim (λ (k : m < codes - 1). omega (arith, k, four))
+    (λ (k : codes - 1 ≤ m).
+    absurd (false≢true (sym other ∙ eq-eqb code (codes - 1) (omega (arith, k, l, is)))))
+    (cases_lt m (codes - 1))
 
 pub at_most_last : (c : Projection) (code : ℕ) → IsProjection c → code < 2 ^ c.bits → eqb code (nan_code c) ≡ false
     → magnitude_of c code ≤ last_index c
@@ -161,18 +167,24 @@ negative_code c code law l isnt e =
     parts_of_code c code law l ∙ ap (λ (b : Bool). cond b (unsigned_codes c) 0 + magnitude_of c code) e in
     let unknown : nan_code c ≡ unsigned_codes c =
     ap (λ (b : Bool). cond b (unsigned_codes c) (unsigned_codes c - 1)) sign in
-    let known = eqb-false code (nan_code c) isnt in
+    let some : 0 < magnitude_of c code =
+    ⊎_elim
+    (λ (k : magnitude_of c code < 1).
+    absurd (false≢true (sym isnt ∙ eq-eqb code (nan_code c) (omega (arith, is, unknown, k)))))
+    (λ (k : 1 ≤ magnitude_of c code). omega (arith, k))
+    (cases_lt (magnitude_of c code) 1) in
     record {
       signed = sign;
       is = is;
-      some = omega (arith, is, unknown, known);
+      some = some;
       at = ap (λ (b : Bool). signed b (magnitude_of c code)) e;
     }
 
 positive_code : (c : Projection) (code : ℕ) → IsProjection c → code < 2 ^ c.bits → is_negative_code c code ≡ false
     → code ≡ magnitude_of c code
 positive_code c code law l e =
-    parts_of_code c code law l ∙ ap (λ (b : Bool). cond b (unsigned_codes c) 0 + magnitude_of c code) e ∙ omega arith
+    parts_of_code c code law l
+    ∙ ap (λ (b : Bool). cond b (unsigned_codes c) 0 + magnitude_of c code) e ∙ omega arith
 
 -- with a sign, the code past that of a number is one, if the number is not the last
 pub past_fits : (c : Projection) (code : ℕ) → IsProjection c → code < 2 ^ c.bits → is_negative_code c code ≡ true
@@ -222,7 +234,8 @@ above_negative c code law l isnt e =
         let index : magnitude_of c code - 1 ≡ i = omega (arith, m) in
         let next : neg_ℤ (pos i) ≡ rank_of c code +ℤ pos 1 = omega (arith, ints, at, m) in
         let n = negative_code c code law l isnt e in
-        subst (λ (z : ℤ). IsAtRank c (code_above c code) z) next (rw (isnt, e, index) (by_zero i k n.signed))
+        subst (λ (z : ℤ). IsAtRank c (code_above c code) z) next
+        (rw (isnt, e, index) (by_zero i k n.signed))
 
 above_positive : (c : Projection) (code other : ℕ) → IsProjection c → code < 2 ^ c.bits → other < 2 ^ c.bits
     → eqb code (nan_code c) ≡ false → eqb other (nan_code c) ≡ false → rank_of c code <ℤ rank_of c other
@@ -321,7 +334,8 @@ below_it c code other law l k isnt none lesser = by_sign (is_negative_code c cod
 pub next_values : AreNextValues
 next_values c code other law l k = (up, down)
   where
-    up : IsLess c code other → IsLess c code (code_above c code) × (IsLess c other (code_above c code) → ⊥)
+    up : IsLess c code other
+        → IsLess c code (code_above c code) × (IsLess c other (code_above c code) → ⊥)
     up h =
         let isnt = left_known c code other h in
         let none = right_known c code other h in
@@ -333,7 +347,8 @@ next_values c code other law l k = (up, down)
           λ x. let q = lower c other (code_above c code) law k a.bound x in omega (arith, ints, q, at, rank),
         )
 
-    down : IsLess c other code → IsLess c (code_below c code) code × (IsLess c (code_below c code) other → ⊥)
+    down : IsLess c other code
+        → IsLess c (code_below c code) code × (IsLess c (code_below c code) other → ⊥)
     down h =
         let none = left_known c other code h in
         let isnt = right_known c other code h in

@@ -1,9 +1,10 @@
 -- Conversions into the formats of P3109 have one answer.
-use Rattle.std.proofs.Common.{◌≡◌, ℕ, zero, suc, ◌+◌, ◌-◌, ◌*◌, ◌^◌, ◌<◌, ◌≤◌, Bool, true, false, cond, not}
+use Rattle.std.proofs.Common.{◌≡◌, ℕ, zero, suc, ◌+◌, ◌-◌, ◌*◌, ◌^◌, ◌<◌, ◌≤◌, Bool}
+use Rattle.std.proofs.Common.{true, false, cond, not}
 use Rattle.std.proofs.Common.{◌&&◌, eqb, leb, ltb, sym, refl, ap, ◌∙◌, ⊎_elim, arith}
 use Rattle.std.specs.Bool.{MatchBool}
 use Rattle.std.proofs.Math.Nat.{mod-eq_of_lt}
-use Rattle.std.proofs.lemmas.Bool.{cases_eq, eq-eqb, eqb-true, false≢true, ltb-true, ne_eqb, eqb-false}
+use Rattle.std.proofs.lemmas.Bool.{cases_eq, cases_lt, eq-eqb, eqb-true, false≢true, ltb-true, ne_eqb}
 use Rattle.std.proofs.lemmas.Bool.{MatchBool-at_false}
 use Rattle.std.proofs.lemmas.Nat.{mod_below, pow_pos}
 use Rattle.apfloat_model.specs.declared.kinds.Round.{Round}
@@ -38,7 +39,8 @@ pub point_pick_once : (p : ℕ) (mode : ConversionRound) (negative : Bool) (amou
     → IsPointPickBy p mode negative amount parts i → IsPointPickBy p mode negative amount parts j → i ≡ j
 point_pick_once p mode negative amount parts i j some = by_digits (eqb p 1)
   where
-    by_digits : (one : Bool) → MatchBool one (IsCodePickBy p mode negative amount parts i)
+    by_digits : (one : Bool)
+        → MatchBool one (IsCodePickBy p mode negative amount parts i)
         (IsPickBy p mode negative amount parts (point p i))
         → MatchBool one (IsCodePickBy p mode negative amount parts j)
         (IsPickBy p mode negative amount parts (point p j))
@@ -47,7 +49,8 @@ point_pick_once p mode negative amount parts i j some = by_digits (eqb p 1)
         index_pick_once (takes_next mode negative) (point p) amount parts i j
         (λ a b less. points_in_order p a b some less)
         x y
-    by_digits false x y = one_number p i j some (pick_by_once p mode negative amount parts (point p i) (point p j) x y)
+    by_digits false x y =
+        one_number p i j some (pick_by_once p mode negative amount parts (point p i) (point p j) x y)
 
 -- ---- codes
 
@@ -101,7 +104,9 @@ infinity_index c code law l other past =
   where
     last : (code codes m : ℕ) → 4 ≤ codes → m < codes → code ≡ 0 + m → codes - 1 - 1 - 1 < m → (code ≡ codes - 1 → ⊥)
         → m ≡ codes - 1 - 1 - 1 + 1
-    last code codes m four below is past n = omega (arith, four, below, is, past, n)
+    last code codes m four below is past n =
+        ⊎_elim (λ (k : m < codes - 1). omega (arith, k, past, four))
+        (λ (k : codes - 1 ≤ m). absurd (n (omega (arith, k, below, is)))) (cases_lt m (codes - 1))
 
     by_cases : (signed extended : Bool) (codes m : ℕ) (negative : Bool) → 4 ≤ codes → m < codes
         → code ≡ cond negative codes 0 + m → (signed && leb codes code) ≡ negative
@@ -111,9 +116,11 @@ infinity_index c code law l other past =
     by_cases true false codes m negative four below is sign other past = absurd (omega (arith, below, past))
     by_cases false extended codes m true four below is sign other past = absurd (false≢true sign)
     by_cases false true codes m false four below is sign other past =
-        last code codes m four below is past (eqb-false code (codes - 1) other)
+        let no_nan : code ≡ codes - 1 → ⊥ = λ e. absurd (false≢true (sym other ∙ eq-eqb code (codes - 1) e)) in
+        last code codes m four below is past no_nan
     by_cases false false codes m false four below is sign other past =
-        absurd (eqb-false code (codes - 1) other (omega (arith, below, is, past)))
+        let e : code ≡ codes - 1 = omega (arith, below, is, past) in
+        absurd (false≢true (sym other ∙ eq-eqb code (codes - 1) e))
 
 -- no two codes mean one datum
 pub projected_code_once : (c : Projection) (code other : ℕ) → IsProjection c → code < 2 ^ c.bits → other < 2 ^ c.bits
@@ -135,7 +142,8 @@ projected_code_once c code other law l k e =
     same_index : (c : Projection) (code other : ℕ) → IsProjection c → code < 2 ^ c.bits → other < 2 ^ c.bits
         → eqb code (nan_code c) ≡ false → eqb other (nan_code c) ≡ false → (past also : Bool) (negative : Bool)
         → ltb (largest_index c) (magnitude_of c code) ≡ past → ltb (largest_index c) (magnitude_of c other) ≡ also
-        → past ≡ also → quanta_of (datum_by false past negative (point c.precision (magnitude_of c code)))
+        → past ≡ also
+        → quanta_of (datum_by false past negative (point c.precision (magnitude_of c code)))
         ≡ quanta_of (datum_by false also negative (point c.precision (magnitude_of c other)))
         → magnitude_of c code ≡ magnitude_of c other
     same_index c code other law l k isnt none true true negative p a same e =
@@ -160,7 +168,8 @@ projected_code_once c code other law l k e =
         let e' = rw sign at e in
         let index = same_index c code other law l k isnt none past also (is_negative_code c other) refl refl same
         (ap quanta_of e') in
-        parts_of_code c code law l ∙ ap (λ (b : Bool). cond b (unsigned_codes c) 0 + magnitude_of c code) sign
+        parts_of_code c code law l
+        ∙ ap (λ (b : Bool). cond b (unsigned_codes c) 0 + magnitude_of c code) sign
         ∙ ap (λ (n : ℕ). cond (is_negative_code c other) (unsigned_codes c) 0 + n) index
         ∙ sym (parts_of_code c other law k)
 
@@ -200,7 +209,8 @@ projected_by_once c f mode (nan b s) code other status flags loses lost law l k 
 projected_by_once c f mode (infinite b) code other status flags loses lost law l k x y =
     by_sign (b && not c.signed) c.extended x y
   where
-    by_sign : (none extended : Bool) → MatchBool none (IsCodeOf c (nan false 0) 1 true code status loses)
+    by_sign : (none extended : Bool)
+        → MatchBool none (IsCodeOf c (nan false 0) 1 true code status loses)
         (MatchBool extended (IsCodeOf c (infinite b) 0 false code status loses)
         (IsCodeOf c (nan false 0) 16 true code status loses))
         → MatchBool none (IsCodeOf c (nan false 0) 1 true other flags lost)
@@ -216,7 +226,8 @@ projected_by_once c f mode (finite b (suc n)) code other status flags loses lost
     let some : eqb (suc n) 0 ≡ false = ne_eqb (suc n) 0 (λ e. omega (arith, e)) in
     by_sign (b && not c.signed) (MatchBool-at_false _ _ some x) (MatchBool-at_false _ _ some y)
   where
-    by_sign : (none : Bool) → MatchBool none (IsCodeOf c (nan false 0) 1 true code status loses)
+    by_sign : (none : Bool)
+        → MatchBool none (IsCodeOf c (nan false 0) 1 true code status loses)
         (IsProjectedNumberBy c f mode b (suc n) code status loses)
         → MatchBool none (IsCodeOf c (nan false 0) 1 true other flags lost)
         (IsProjectedNumberBy c f mode b (suc n) other flags lost)
@@ -231,7 +242,8 @@ point_pick_of : (p : ℕ) (mode : Round) (negative : Bool) (amount parts index :
     → IsPointPickBy p (Ieee mode) negative amount parts index → IsPointPick p mode negative amount parts index
 point_pick_of p mode negative amount parts index = by_digits (eqb p 1)
   where
-    by_digits : (one : Bool) → MatchBool one (IsCodePickBy p (Ieee mode) negative amount parts index)
+    by_digits : (one : Bool)
+        → MatchBool one (IsCodePickBy p (Ieee mode) negative amount parts index)
         (IsPickBy p (Ieee mode) negative amount parts (point p index))
         → MatchBool one (IsCodePick p mode negative amount parts index)
         (IsPick p mode negative amount parts (point p index))
@@ -242,7 +254,8 @@ point_pick_by : (p : ℕ) (mode : Round) (negative : Bool) (amount parts index :
     → IsPointPick p mode negative amount parts index → IsPointPickBy p (Ieee mode) negative amount parts index
 point_pick_by p mode negative amount parts index = by_digits (eqb p 1)
   where
-    by_digits : (one : Bool) → MatchBool one (IsCodePick p mode negative amount parts index)
+    by_digits : (one : Bool)
+        → MatchBool one (IsCodePick p mode negative amount parts index)
         (IsPick p mode negative amount parts (point p index))
         → MatchBool one (IsCodePickBy p (Ieee mode) negative amount parts index)
         (IsPickBy p (Ieee mode) negative amount parts (point p index))

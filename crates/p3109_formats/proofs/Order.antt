@@ -1,6 +1,7 @@
 -- The order of values of P3109 is that of their codes without a sign, with the sign of the number: an infinity has the
 -- code past that of the largest number.
-use Rattle.std.proofs.Common.{◌≡◌, ℕ, ◌+◌, ◌^◌, ◌<◌, ◌≤◌, Bool, true, false, cond, eqb, ltb, ⊎_elim}
+use Rattle.std.proofs.Common.{◌≡◌, ℕ, ◌+◌, ◌^◌, ◌<◌, ◌≤◌, Bool, true, false, cond, eqb, ltb}
+use Rattle.std.proofs.Common.{⊎_elim}
 use Rattle.std.proofs.Common.{sym, refl, ap, ◌∙◌, arith, pos, neg_ℤ, int_cmp, Some, None}
 use Rattle.std.specs.declared.cmp.Ordering.{Ordering}
 use Rattle.std.specs.declared.cmp.Ordering.TheVariants.{Less, Equal, Greater}
@@ -82,7 +83,8 @@ known_order p most i j false true b d some x y =
     let l = x.number refl in
     let e = y.infinity refl in
     number_infinity b d i j (point p i) (omega (arith, e, l))
-known_order p most i j false false b d some x y = ap (λ (r : Ordering). Some r) (sym (compared_points p i j b d some))
+known_order p most i j false false b d some x y =
+    ap (λ (r : Ordering). Some r) (sym (compared_points p i j b d some))
 
 -- a NaN is unordered, on either side
 pub left_nan : (y : Datum) → compared (nan false 0) y ≡ None

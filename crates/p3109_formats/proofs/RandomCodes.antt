@@ -1,5 +1,6 @@
 -- How many random numbers take a magnitude to the next code.
-use Rattle.std.proofs.Common.{◌≡◌, ℕ, ◌+◌, ◌-◌, ◌*◌, ◌^◌, ◌<◌, ◌≤◌, Bool, true, false, eqb, ltb}
+use Rattle.std.proofs.Common.{◌≡◌, ℕ, ◌+◌, ◌-◌, ◌*◌, ◌^◌, ◌<◌, ◌≤◌, Bool, true, false}
+use Rattle.std.proofs.Common.{eqb, ltb}
 use Rattle.std.proofs.Common.{sym, refl, ap, ◌∙◌, subst, ⊎_elim, arith}
 use Rattle.std.specs.Bool.{MatchBool}
 use Rattle.std.proofs.lemmas.Bool.{cases_lt, le-ltb, lt-ltb}
@@ -30,10 +31,12 @@ random_pick : (p : ℕ) (bits : RandomDigits) (negative : Bool) (amount parts in
     → IsPickBy p (Stochastic bits) negative amount parts (point p index)
 random_pick p bits negative amount parts index one some = by_digits (eqb p 1)
   where
-    by_digits : (single : Bool) → MatchBool single (IsCodePickBy p (Stochastic bits) negative amount parts index)
+    by_digits : (single : Bool)
+        → MatchBool single (IsCodePickBy p (Stochastic bits) negative amount parts index)
         (IsPickBy p (Stochastic bits) negative amount parts (point p index))
         → IsPickBy p (Stochastic bits) negative amount parts (point p index)
-    by_digits true x = code_pick_by p (Stochastic bits) negative amount parts index one some (λ m c by to. refl) x
+    by_digits true x =
+        code_pick_by p (Stochastic bits) negative amount parts index one some (λ m c by to. refl) x
     by_digits false x = x
 
 pub random_codes_counted : AreRandomCodesCounted

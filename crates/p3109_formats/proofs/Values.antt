@@ -1,5 +1,6 @@
 -- What is delivered in a format of P3109, and what its codes become in other formats.
-use Rattle.std.proofs.Common.{◌≡◌, ℕ, ◌-◌, ◌*◌, ◌/◌, ◌^◌, ◌<◌, ◌≤◌, Bool, true, false, cond, not, ◌&&◌, eqb, ltb}
+use Rattle.std.proofs.Common.{◌≡◌, ℕ, ◌-◌, ◌*◌, ◌/◌, ◌^◌, ◌<◌, ◌≤◌, Bool, true, false}
+use Rattle.std.proofs.Common.{cond, not, ◌&&◌, eqb, ltb}
 use Rattle.std.proofs.Common.{sym, refl, ap, ◌∙◌, subst, arith}
 use Rattle.std.specs.Bool.{MatchBool}
 use Rattle.std.proofs.lemmas.Bool.{false≢true, le-ltb, lt-ltb, ne_eqb}
@@ -28,7 +29,8 @@ use Rattle.p3109_formats.proofs.Codes.{four_codes}
 -- ---- in
 
 pub past_projected : (c : Projection) (mode : Round) (negative : Bool) (amount parts index code status : ℕ)
-    → largest_index c < index → projected_datum c code
+    → largest_index c < index
+    → projected_datum c code
     ≡ cond (leads_out mode negative) (past_value c negative) (finite negative (point c.precision (largest_index c)))
     → status ≡ cond (leads_out mode negative) 20 16 → IsProjectedAt c mode negative amount parts index code status
 past_projected c mode negative amount parts index code status l value flags =
@@ -42,7 +44,8 @@ pub within_projected : (c : Projection) (mode : Round) (negative : Bool) (amount
     → IsProjectedAt c mode negative amount parts index code status
 within_projected c mode negative amount parts index code status exact l same value flags =
     let within : ltb (largest_index c) index ≡ false = le-ltb (largest_index c) index l in
-    let told = flags ∙ ap (λ (b : Bool). cond b 0 (cond (ltb index (2 ^ (c.precision - 1))) 24 16)) same in
+    let told = flags
+    ∙ ap (λ (b : Bool). cond b 0 (cond (ltb index (2 ^ (c.precision - 1))) 24 16)) same in
     record { value_is = rw within value; status_is = rw within told }
 
 -- a number that is not zero keeps its sign
@@ -118,7 +121,8 @@ positive_quanta kind (infinite b) is = cc
 positive_quanta kind (nan b s) is = cc
 
 -- what has a code has a sign only if the format has one
-pub signed_if : (negative signed : Bool) → (negative && not signed) ≡ false → negative ≡ true → signed ≡ true
+pub signed_if : (negative signed : Bool) → (negative && not signed) ≡ false → negative ≡ true
+    → signed ≡ true
 signed_if true true e h = refl
 signed_if true false e h = absurd (false≢true (sym e))
 signed_if false signed e h = absurd (false≢true h)
@@ -128,7 +132,8 @@ signed_if false signed e h = absurd (false≢true h)
 -- the NaN of a format with one NaN at the code of -0, whatever its precision
 pub nan_converted : (c : Projection) (g : Format) (mode : Round) (code : ℕ) (value : Datum) (status : ℕ)
     (loses : Bool) → projected_datum c code ≡ nan false 0
-    → value ≡ nan (nan_sign g.nonfinite false) (quiet_significand g 0) → status ≡ ok_bits → loses ≡ false
+    → value ≡ nan (nan_sign g.nonfinite false) (quiet_significand g 0)
+    → status ≡ ok_bits → loses ≡ false
     → IsConversion (projected_format c) g mode (projected_datum c code) value status loses
 nan_converted c g mode code value status loses is v s l =
     let none : 0 * 2 ^ (g.precision - c.precision) / 2 ^ 0 ≡ 0 = omega arith in
@@ -157,7 +162,8 @@ zero_converted c f g mode code value status loses is h =
 pub number_converted : (c : Projection) (g : Format) (mode : Round) (code index : ℕ) (negative : Bool) (value : Datum)
     (status : ℕ) (loses : Bool) → 0 < c.precision → 0 < index
     → projected_datum c code ≡ finite negative (point c.precision index)
-    → IsDelivered g mode negative (point c.precision index * 2 ^ g.scale) (2 ^ (projected_format c).scale) value status
+    → IsDelivered g mode negative (point c.precision index * 2 ^ g.scale) (2 ^ (projected_format c).scale) value
+    status
     → loses ≡ not (eqb status ok_bits)
     → IsConversion (projected_format c) g mode (projected_datum c code) value status loses
 number_converted c g mode code index negative value status loses some p is h l =

@@ -1,6 +1,7 @@
 //! Conversions of the values of a format into a format of IEEE P3109.
 
-ghost use Rattle.std.specs.Prelude.{◌≡◌, ℕ, ◌*◌, ◌^◌, ◌<◌, ◌≤◌, ◌&&◌, eqb, if◌then◌else◌, not, true};
+ghost use Rattle.std.specs.Prelude.{◌≡◌, ℕ, ◌*◌, ◌^◌, ◌<◌, ◌≤◌, ◌&&◌};
+ghost use Rattle.std.specs.Prelude.{eqb, if◌then◌else◌, not, true};
 ghost use Rattle.apfloat_model.specs.formats.Datum.{finite};
 ghost use Rattle.apfloat_model.specs.order.Classes.{quanta_of};
 ghost use Rattle.apfloat_model.specs.rounding.Flags.{Gives, bits_of};

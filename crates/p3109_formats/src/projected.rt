@@ -1,6 +1,7 @@
 //! A value of a format of IEEE P3109.
 
-ghost use Rattle.std.specs.Prelude.{◌≡◌, ◌+◌, ◌%◌, ◌^◌, ◌<◌, ◌≤◌, if◌then◌else◌, eqb, true, false};
+ghost use Rattle.std.specs.Prelude.{◌≡◌, ◌+◌, ◌%◌, ◌^◌, ◌<◌, ◌≤◌, if◌then◌else◌, eqb};
+ghost use Rattle.std.specs.Prelude.{true, false};
 ghost use Rattle.apfloat_model.specs.declared.kinds.NonfiniteBehavior.TheVariants.{NanNegativeZero};
 ghost use Rattle.apfloat_model.specs.arithmetic.Exact.{signed};
 ghost use Rattle.apfloat_model.specs.formats.Datum.{nan};

@@ -35,5 +35,6 @@ returns-else-magnitude-eq0 g c =
       c.magnitude-magnitude.ensures.value,
       c.largest_index.ensures,
       c.if-magnitude-largest_index.false,
-    ))) ∙ normal_category d.precision (magnitude_of d c.args.self) (is_negative_code d c.args.self)
+    )))
+    ∙ normal_category d.precision (magnitude_of d c.args.self) (is_negative_code d c.args.self)
     g.F.Projection.lawful.precision_low (omega (arith, c.magnitude-magnitude.ensures.value, c.if-magnitude-eq0.false)))

@@ -33,7 +33,8 @@ returns-then-is_nan g c =
     nan_converted (projection_of g.F.Projection) f c.args.round c.args.self c.convert_r.result.value
     (bits_of c.convert_r.result.status) _
     (nan_at (projection_of g.F.Projection) c.args.self c.is_nan.ensures c.if-is_nan.true)
-    (h.value_is ∙ ap (λ (n : ℕ). nan (nan_sign f.nonfinite false) (quiet_significand f n)) none) h.status_is h.loses_is
+    (h.value_is ∙ ap (λ (n : ℕ). nan (nan_sign f.nonfinite false) (quiet_significand f n)) none) h.status_is
+    h.loses_is
 
 pub returns-then-magnitude-largest_index : goal.returns-then-magnitude-largest_index
 returns-then-magnitude-largest_index g c =
@@ -47,7 +48,8 @@ returns-then-magnitude-largest_index g c =
       c.magnitude-magnitude.ensures.value,
       c.largest_index.ensures,
       c.if-magnitude-largest_index.true,
-    ))) (rw c.half_infinity.ensures at c.convert_r-then-magnitude-largest_index.ensures.converted)
+    )))
+    (rw c.half_infinity.ensures at c.convert_r-then-magnitude-largest_index.ensures.converted)
 
 pub returns-then-magnitude-eq0 : goal.returns-then-magnitude-eq0
 returns-then-magnitude-eq0 g c =

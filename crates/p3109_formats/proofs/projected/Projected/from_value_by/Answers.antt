@@ -41,4 +41,5 @@ returns-else-lacks_sign-2 g c =
     (sym c.lacks_sign-in-Normal.ensures ∙ c.if-lacks_sign-2.false)
     (subst (λ (n : ℕ). IsProjectedBy d c.args.mode negative (n * 2 ^ (projected_format d).scale) (2 ^ f.scale)
     c.round_positive-answer.result.value (bits_of c.round_positive-answer.result.status)) quanta
-    c.round_positive-answer.ensures) c.ne.ensures
+    c.round_positive-answer.ensures)
+    c.ne.ensures

@@ -10,7 +10,8 @@ returns-then-EXTENDED g c =
     let d = projection_of g.F.Projection in
     ap (λ (code : ℕ). projected_datum d code) c.of_index.ensures
     ∙ ap (λ (index : ℕ). projected_datum d (coded d c.args.negative index)) c.last_index.ensures
-    ∙ coded_infinity d c.args.negative g.F.Projection.lawful c.requires (sym c.EXTENDED.ensures ∙ c.if-EXTENDED.true)
+    ∙ coded_infinity d c.args.negative g.F.Projection.lawful c.requires
+    (sym c.EXTENDED.ensures ∙ c.if-EXTENDED.true)
 
 pub returns-else-EXTENDED : goal.returns-else-EXTENDED
 returns-else-EXTENDED g c =
