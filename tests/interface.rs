@@ -1,7 +1,6 @@
 //! What is of Rust alone: sets of flags, constants, operators, and conditions that panic.
 
 use rustc_apfloat::ieee::*;
-use rustc_apfloat::machines::{Machine as Processor, MachineIn, settled};
 use rustc_apfloat::more::{FloatMore, IeeeMore, PairMore};
 use rustc_apfloat::ppc::{DoubleDouble, FallbackS};
 use rustc_apfloat::{Category, ExpInt, Float, IEK_INF, IEK_NAN, IEK_ZERO, Round, Status, StatusAnd, unpack};
@@ -157,13 +156,4 @@ fn beyond_the_crate() {
     type Machine = IeeeFloat<IeeeFlags<SingleS>>;
     let past = Machine::largest().add_r(Machine::largest(), Round::TowardZero);
     assert_eq!((past.value.is_largest(), past.status), (true, Status::OVERFLOW | Status::INEXACT));
-}
-
-/// On Arm tininess is detected before rounding, so no answer of a format that detects it after is settled for Arm.
-#[test]
-fn another_rule_of_tininess() {
-    assert!(MachineIn::<IeeeFlags<SingleS>>::new(Processor::Arm).is_none());
-    let arm = MachineIn::<IeeeFlags<TinyBefore<SingleS>>>::new(Processor::Arm).unwrap();
-    let infinity = IeeeFloat::INFINITY;
-    assert_eq!(settled(arm, infinity, infinity, infinity - infinity).value.to_bits(), 0x7fc0_0000);
 }

@@ -6,61 +6,25 @@
 //! beside it, which give what the machine gives.
 //!
 //! ```
-//! use rustc_apfloat::ieee::{Single, SingleS};
-//! use rustc_apfloat::machines::{Machine, MachineIn, settled};
+//! use rustc_apfloat::ieee::Single;
+//! use rustc_apfloat::machines::{self, Machine};
 //! use rustc_apfloat::{Float, Status};
 //!
 //! // The NaN of an invalid operation is positive on RISC-V, and negative on x86.
-//! let risc_v = MachineIn::<SingleS>::new(Machine::RiscV).unwrap();
-//! let x86 = MachineIn::<SingleS>::new(Machine::X86).unwrap();
 //! let zero = Single::ZERO;
 //! let answer = zero / zero;
-//! assert_eq!(settled(risc_v, zero, zero, answer).value.to_bits(), 0x7fc0_0000);
-//! assert_eq!(settled(x86, zero, zero, answer).value.to_bits(), 0xffc0_0000);
+//! assert_eq!(machines::settled(Machine::RiscV, zero, zero, answer).value.to_bits(), 0x7fc0_0000);
+//! assert_eq!(machines::settled(Machine::X86, zero, zero, answer).value.to_bits(), 0xffc0_0000);
 //! assert_eq!(answer.status, Status::INVALID_OP);
 //! ```
 
 use crate::StatusAnd;
-use crate::calls::Given;
 use crate::erased::apfloat_machines as library;
 use crate::ieee::{IeeeFloat, Semantics};
-use core::marker::PhantomData;
 
 pub use library::{Flush, FusedOrder, Machine, MinimumRule, NanChoice, WholeOfNan};
 
 same_types! { Flush, Machine, MinimumRule }
-
-/// A machine in a format that detects tininess as the machine does. Answers are settled in no other.
-#[derive(Debug)]
-pub struct MachineIn<S>(Machine, PhantomData<S>);
-
-impl<S: Semantics> MachineIn<S> {
-    /// The machine in the format `S`, if that has no flags of IEEE 754, or the machine's rule of tininess.
-    pub fn new(machine: Machine) -> Option<MachineIn<S>> {
-        if !S::IEEE_FLAGS || S::TINY_BEFORE_ROUNDING == machine.tiny_before_rounding() {
-            Some(MachineIn(machine, PhantomData))
-        } else {
-            None
-        }
-    }
-}
-
-impl<S> Clone for MachineIn<S> {
-    fn clone(&self) -> Self {
-        *self
-    }
-}
-
-impl<S> Copy for MachineIn<S> {}
-
-impl<S> Given for MachineIn<S> {
-    type Library = Machine;
-
-    #[inline]
-    fn given(self) -> Machine {
-        self.0
-    }
-}
 
 library_calls! {
     /// The answer of an operation on two operands, in the machine's order, as the machine gives it: if it is a NaN, the
@@ -70,14 +34,14 @@ library_calls! {
     /// # Panics
     ///
     /// In a format without bits.
-    fn settled<S>(machine: MachineIn<S>, x: IeeeFloat<S>, y: IeeeFloat<S>, answer: StatusAnd<IeeeFloat<S>>)
+    fn settled<S>(machine: Machine, x: IeeeFloat<S>, y: IeeeFloat<S>, answer: StatusAnd<IeeeFloat<S>>)
         -> StatusAnd<IeeeFloat<S>> where S::BITS > S::PRECISION => "a format without bits";
     /// The answer of a square root, or of rounding to an integral value, as the machine gives it, like `settled`.
     ///
     /// # Panics
     ///
     /// In a format without bits.
-    fn settled_unary<S>(machine: MachineIn<S>, x: IeeeFloat<S>, answer: StatusAnd<IeeeFloat<S>>)
+    fn settled_unary<S>(machine: Machine, x: IeeeFloat<S>, answer: StatusAnd<IeeeFloat<S>>)
         -> StatusAnd<IeeeFloat<S>> where S::BITS > S::PRECISION => "a format without bits";
     /// The answer of the fused sum `x * y + z`, as the machine gives it: if it is a NaN, the machine's NaN with its
     /// flags. None if the machine has no fused sums.
@@ -86,10 +50,10 @@ library_calls! {
     ///
     /// In a format without bits.
     fn settled_fused<S>(
-        machine: MachineIn<S>, x: IeeeFloat<S>, y: IeeeFloat<S>, z: IeeeFloat<S>, answer: StatusAnd<IeeeFloat<S>>
+        machine: Machine, x: IeeeFloat<S>, y: IeeeFloat<S>, z: IeeeFloat<S>, answer: StatusAnd<IeeeFloat<S>>
     ) -> Option<StatusAnd<IeeeFloat<S>>> where S::BITS > S::PRECISION => "a format without bits";
     /// The answer of the conversion of `x` to another format, as the machine gives it.
-    fn settled_conversion<S, T>(machine: MachineIn<T>, x: IeeeFloat<S>, answer: StatusAnd<IeeeFloat<T>>)
+    fn settled_conversion<S, T>(machine: Machine, x: IeeeFloat<S>, answer: StatusAnd<IeeeFloat<T>>)
         -> StatusAnd<IeeeFloat<T>>;
     /// The answer of the conversion of `x` to a signed integer of `width` binary digits, as the machine gives it.
     ///
