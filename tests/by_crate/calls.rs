@@ -40,9 +40,13 @@ use crate::lines::{Answered, Call, CallFault, Constant, Formats, OneValueCall, R
 pub fn answer(formats: Formats, request: Request, text: &str) -> Answered {
     match (formats, request.call) {
         (Formats::OnMachine(_) | Formats::BetweenOnMachine(_, _), _) => on_machine::answer(formats, request),
-        (Formats::ToStorage(_, _) | Formats::FromStorage(_, _) | Formats::Storage(_), _) => {
-            storage::answer(formats, request)
-        }
+        (
+            Formats::ToStorage(_, _)
+            | Formats::FromStorage(_, _)
+            | Formats::BetweenStorage(_, _)
+            | Formats::Storage(_),
+            _,
+        ) => storage::answer(formats, request),
         // `Debug` is that of crates.io's crate, and the crate has products in every format.
         (_, Call::OfOneValue(OneValueCall::Debug) | Call::Constant(Constant::Multiplies)) => Err(CallFault::Support),
         (_, Call::Operation(call)) => operations::answer(formats, call, request),

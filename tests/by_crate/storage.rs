@@ -3,8 +3,8 @@
 
 use crate::erased::formats_at_run_time::{InFlaggedFormat, InFormat};
 use crate::lines::{
-    Answered, Call, CallFault, ConversionCall, ExtraField, FormatCall, Formats, OneValueCall, Operand, Request,
-    RowAnswer, TwoValuesCall, ValueField, mask,
+    Answered, Call, CallFault, ConversionCall, ExtraField, FormatCall, Formats, OneValueCall, Operand, OperationCall,
+    OrderCall, Request, RowAnswer, StorageName, TwoValuesCall, ValueField, mask,
 };
 use rustc_apfloat::ieee::{IeeeFloat, Semantics};
 use rustc_apfloat::storage_formats::{E2M1FN, E2M3FN, E3M2FN, E8M0FNU, Float8E3M4, StorageFormat, StoredFloat, UE4M3};
@@ -40,8 +40,33 @@ pub(crate) fn answer(formats: Formats, request: Request) -> Answered {
         Formats::FromStorage(source, target) => {
             target.run(FromStorage { source: source.word, code: bits as u8, round })
         }
+        Formats::BetweenStorage(source, target) => match source.word {
+            "e2m1fn" => between::<E2M1FN>(bits as u8, target, round),
+            "e2m3fn" => between::<E2M3FN>(bits as u8, target, round),
+            "e3m2fn" => between::<E3M2FN>(bits as u8, target, round),
+            _ => Err(CallFault::Support),
+        },
         _ => Err(CallFault::Support),
     }
+}
+
+/// What a conversion of a code of the format `G` returns.
+fn between<G: StorageFormat>(code: u8, target: StorageName, round: Round) -> Answered {
+    let x = StoredFloat::<G>::from_bits(code);
+    match target.word {
+        "e2m1fn" => Ok(into::<G, E2M1FN>(x, target.width, round)),
+        "e2m3fn" => Ok(into::<G, E2M3FN>(x, target.width, round)),
+        "e3m2fn" => Ok(into::<G, E3M2FN>(x, target.width, round)),
+        _ => Err(CallFault::Support),
+    }
+}
+
+/// A value in the format `F`, whose codes have this width.
+fn into<G: StorageFormat, F: StorageFormat>(x: StoredFloat<G>, width: usize, round: Round) -> RowAnswer {
+    let mut loses_info = false;
+    let answer = StoredFloat::<F>::from_stored(x, round, &mut loses_info);
+    let value = answer.map(|x| ValueField::Bits(x.to_bits().into(), width));
+    RowAnswer::flagged(value).with(ExtraField::LosesInfo(loses_info))
 }
 
 /// What an operation on values of the format `F` returns.
@@ -52,7 +77,20 @@ fn operated<F: StorageFormat>(width: usize, request: Request) -> Answered {
         _ => Err(CallFault::Operand),
     };
     let x = value(operands.first)?;
+    let field = |x: StoredFloat<F>| ValueField::Bits(x.to_bits().into(), width);
     let answer = match request.call {
+        Call::OfTwoValues(TwoValuesCall::Minimum) => {
+            return Ok(RowAnswer::told(field(x.minimum(value(operands.second)?))));
+        }
+        Call::OfTwoValues(TwoValuesCall::Maximum) => {
+            return Ok(RowAnswer::told(field(x.maximum(value(operands.second)?))));
+        }
+        Call::OfTwoValues(TwoValuesCall::PartialCmp) => {
+            return Ok(RowAnswer::told(ValueField::Order(Some(x.compare(value(operands.second)?)))));
+        }
+        Call::Operation(OperationCall::Order(OrderCall::TotalCmp)) => {
+            return Ok(RowAnswer::told(ValueField::Order(Some(x.total_cmp(value(operands.second)?)))));
+        }
         Call::OfTwoValues(TwoValuesCall::AddR) => x.add_r(value(operands.second)?, round),
         Call::OfTwoValues(TwoValuesCall::SubR) => x.sub_r(value(operands.second)?, round),
         Call::OfTwoValues(TwoValuesCall::MulR) => x.mul_r(value(operands.second)?, round),
@@ -61,7 +99,7 @@ fn operated<F: StorageFormat>(width: usize, request: Request) -> Answered {
         Call::OfFormat(FormatCall::MulAddR) => x.mul_add_r(value(operands.second)?, value(operands.third)?, round),
         _ => return Err(CallFault::Support),
     };
-    Ok(RowAnswer::flagged(answer.map(|x| ValueField::Bits(x.to_bits().into(), width))))
+    Ok(RowAnswer::flagged(answer.map(field)))
 }
 
 /// Makes a conversion with the type of a storage format that the crate has.

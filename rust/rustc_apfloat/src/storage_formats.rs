@@ -140,6 +140,36 @@ impl<F: StorageFormat> StoredFloat<F> {
         self.0.compare(other.0)
     }
 
+    /// Whether the number is +0 or -0 (IEEE 754-2019 5.7.2).
+    #[inline]
+    pub fn is_zero(self) -> bool {
+        self.0.is_zero()
+    }
+
+    /// The total order (IEEE 754-2019 5.10): that of the numbers, with -0 below +0.
+    #[inline]
+    pub fn total_cmp(self, other: Self) -> Ordering {
+        self.0.total_cmp(other.0)
+    }
+
+    /// The lesser number, and of two zeros -0 if one has that sign (IEEE 754-2019 9.6, minimum and minimumNumber).
+    #[inline]
+    pub fn minimum(self, other: Self) -> Self {
+        Self(self.0.minimum(other.0))
+    }
+
+    /// The greater number, and of two zeros +0 if one has that sign (IEEE 754-2019 9.6, maximum and maximumNumber).
+    #[inline]
+    pub fn maximum(self, other: Self) -> Self {
+        Self(self.0.maximum(other.0))
+    }
+
+    /// A number of another storage format, rounded once (IEEE 754-2019 5.4.2), with the flags of that rounding. Past the
+    /// largest number the result is that number, and `loses_info` is set, as in `from_value`.
+    pub fn from_stored<G: StorageFormat>(x: StoredFloat<G>, round: Round, loses_info: &mut bool) -> StatusAnd<Self> {
+        answered(library::StoredFloat::from_stored(x.0, round, loses_info)).map(StoredFloat)
+    }
+
     /// The square root, rounded once, with the flags of that rounding. A zero is its own root, and the root of a number
     /// below zero is +0, with `INVALID_OP`.
     pub fn sqrt_r(self, round: Round) -> StatusAnd<Self> {
