@@ -1,6 +1,7 @@
 //! What is of Rust alone: sets of flags, constants, operators, and conditions that panic.
 
 use rustc_apfloat::ieee::*;
+use rustc_apfloat::machines::{Contradiction, Machine, settled};
 use rustc_apfloat::more::{FloatMore, IeeeMore, PairMore};
 use rustc_apfloat::ppc::{DoubleDouble, FallbackS};
 use rustc_apfloat::{Category, ExpInt, Float, IEK_INF, IEK_NAN, IEK_ZERO, Round, Status, StatusAnd, unpack};
@@ -153,7 +154,24 @@ fn beyond_the_crate() {
     assert_eq!(DoubleDouble::from_u128(1 << 106).value.sqrt().map(Float::to_bits), Status::OK.and(0x4340 << 48));
 
     // Past the largest value, toward zero: that value, with the flags of a processor.
-    type Machine = IeeeFloat<IeeeFlags<SingleS>>;
-    let past = Machine::largest().add_r(Machine::largest(), Round::TowardZero);
+    type AfterRounding = IeeeFloat<IeeeFlags<SingleS>>;
+    let past = AfterRounding::largest().add_r(AfterRounding::largest(), Round::TowardZero);
     assert_eq!((past.value.is_largest(), past.status), (true, Status::OVERFLOW | Status::INEXACT));
+}
+
+/// On Arm tininess is detected before rounding.
+#[test]
+#[should_panic(expected = "the tininess of another machine")]
+fn another_rule_of_tininess() {
+    type AfterRounding = IeeeFloat<IeeeFlags<SingleS>>;
+    let x = AfterRounding::largest();
+    let _ = settled(Machine::ARM, x, x, x.add_r(x, Round::NearestTiesToEven));
+}
+
+/// A machine that says of NaNs both that they are dropped and that they are kept is refused.
+#[test]
+fn contradictions() {
+    let kept = Machine { drops_quiet_addend: false, ..Machine::RISC_V };
+    assert_eq!(kept.checked(), Err(Contradiction::KeptAddend));
+    assert_eq!(Machine::RISC_V.checked(), Ok(Machine::RISC_V));
 }

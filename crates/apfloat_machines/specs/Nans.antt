@@ -1,5 +1,5 @@
 -- The NaN that a machine delivers (IEEE 754-2019 6.2.3, 7.2).
-use Rattle.std.specs.Prelude.{Bool, true, false, not, ◌&&◌, ◌||◌, if◌then◌else◌}
+use Rattle.std.specs.Prelude.{ℕ, ◌-◌, ◌^◌, Bool, true, false, not, ◌&&◌, ◌||◌, if◌then◌else◌}
 use Rattle.apfloat_model.specs.formats.Format.{Format}
 use Rattle.apfloat_model.specs.formats.Datum.{Datum, finite, infinite, nan}
 use Rattle.apfloat_model.specs.formats.Nan.{is_signaling, quieted, qnan, is_signaling_nan}
@@ -9,13 +9,18 @@ use Rattle.ieee_operations.specs.Extrema.{quieted_datum}
 use Rattle.ieee_operations.specs.TotalOrder.{total_order_mag}
 use Rattle.apfloat_machines.specs.declared.machine.Machine.{Machine}
 use Rattle.apfloat_machines.specs.declared.machine.NanChoice.{NanChoice}
-use Rattle.apfloat_machines.specs.declared.machine.NanChoice.TheVariants.{First, SignalingFirst, Greater, AlwaysDefault}
-use Rattle.apfloat_machines.specs.Machines.{nan_choice, default_is_negative}
+use Rattle.apfloat_machines.specs.declared.machine.NanChoice.TheVariants.{First, SignalingFirst, SignalingLast}
+use Rattle.apfloat_machines.specs.declared.machine.NanChoice.TheVariants.{Greater, AlwaysDefault}
 
--- the quiet NaN without a payload, with the machine's sign
+-- the payload of the default NaN, of which a format keeps what it has room for
+abbrev pub default_payload : Machine → ℕ
+default_payload machine = if machine.default_has_ones then 2 ^ 128 - 1 else 0
+
+-- the quiet NaN with the machine's sign and payload
 abbrev pub default_nan : Format → Machine → Datum
 default_nan f machine =
-    if default_is_negative machine then negated f.nonfinite (qnan f 0) else qnan f 0
+    let positive = qnan f (default_payload machine) in
+    if machine.default_is_negative then negated f.nonfinite positive else positive
 
 -- A NaN that its quiet bit does not make quiet: its integer bit is written, and is not set. The x87 unit does not take
 -- it, nor the bits that are read as it.
@@ -37,6 +42,9 @@ taken First f x y = if is_nan x then x else y
 taken SignalingFirst f x y =
     if is_signaling_nan f x then x
     else (if is_signaling_nan f y then y else (if is_nan x then x else y))
+taken SignalingLast f x y =
+    if is_signaling_nan f y then y
+    else (if is_signaling_nan f x then x else (if is_nan y then y else x))
 taken Greater f x y = if is_nan x && (not (is_nan y) || is_greater f x y) then x else y
 taken AlwaysDefault f x y = if is_nan x then x else y
 
@@ -44,14 +52,15 @@ taken AlwaysDefault f x y = if is_nan x then x else y
 abbrev pub takes_none : NanChoice → Format → Datum → Datum → Bool
 takes_none First f x y = false
 takes_none SignalingFirst f x y = false
+takes_none SignalingLast f x y = false
 takes_none Greater f x y = is_unsupported f x || is_unsupported f y
 takes_none AlwaysDefault f x y = true
 
 -- the NaN that is delivered, if an operand is a NaN
 abbrev pub nan_of : Format → Machine → Datum → Datum → Datum
 nan_of f machine x y =
-    if takes_none (nan_choice machine) f x y then default_nan f machine
-    else quieted_datum f (taken (nan_choice machine) f x y)
+    if takes_none machine.nan_choice f x y then default_nan f machine
+    else quieted_datum f (taken machine.nan_choice f x y)
 
 -- ---- of any two operands of an operation whose result is a NaN
 

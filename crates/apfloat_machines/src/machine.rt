@@ -1,36 +1,51 @@
-//! The machines, and their rules as tables.
+//! Machines, as records of their choices.
 
-ghost use Rattle.std.specs.Prelude.{◌≡◌};
-ghost use Rattle.apfloat_machines.specs.Machines.{nan_choice, default_is_negative};
-ghost use Rattle.apfloat_machines.specs.Machines.{has_fused, fused_order};
-ghost use Rattle.apfloat_machines.specs.Machines.{drops_quiet_addend, drops_signaling_addend};
-ghost use Rattle.apfloat_machines.specs.Machines.{flags_quiet_addend, has_unsigned};
-ghost use Rattle.apfloat_machines.specs.Machines.{signed_of_nan, unsigned_of_nan};
-ghost use Rattle.apfloat_machines.specs.Machines.{has_one_invalid_integer};
-ghost use Rattle.apfloat_machines.specs.Machines.{invalid_integer_is_inexact};
-ghost use Rattle.apfloat_machines.specs.Machines.{flush_of, tiny_before_rounding};
+ghost use Rattle.std.specs.Prelude.{◌≡◌, true};
+ghost use Rattle.std.specs.List.{list_all};
+ghost use Rattle.apfloat_machines.specs.Machines.{checked, is_always_default, is_consistent};
+ghost use Rattle.apfloat_machines.specs.Machines.{machines};
+ghost use Rattle.apfloat_machines.specs.Machines.{x86, x87, arm, arm_default_nan, arm_alternate};
+ghost use Rattle.apfloat_machines.specs.Machines.{arm_alternate_default_nan, risc_v, power, s390x};
+ghost use Rattle.apfloat_machines.specs.Machines.{webassembly, ptx, mips_2008, loongarch, sparc, m68k};
 
 use crate::flushing::Flush;
 
-/// A machine: an instruction set, with the state of its controls where they change a NaN.
+/// A machine: what an instruction set does where IEEE 754 leaves a choice, or where it is not followed. The constants
+/// are the machines of `docs/MACHINES.md`; any other is composed, as `Machine { has_unsigned: false, ..Machine::X86 }`,
+/// and all that is proved of a machine holds for it too.
 #[derive(Clone, Copy, PartialEq, Eq, Debug)]
-pub enum Machine {
-    /// SSE, AVX and AVX-512.
-    X86,
-    /// The x87 unit, whose registers have the format `x87`.
-    X87,
-    /// AArch64 with FPCR.DN and FPCR.AH clear.
-    Arm,
-    /// AArch64 with FPCR.DN set and FPCR.AH clear.
-    ArmDefaultNan,
-    /// AArch64 with FPCR.AH set and FPCR.DN clear.
-    ArmAlternate,
-    /// RISC-V: F, D, Q and Zfh.
-    RiscV,
-    /// POWER: VSX, and the floating-point instructions.
-    Power,
-    /// z/Architecture: binary floating point, and the vector facility.
-    S390x,
+pub struct Machine {
+    /// Which operand is the result if operands are NaNs.
+    pub nan_choice: NanChoice,
+    /// Whether the NaN of an invalid operation, the default NaN, is negative.
+    pub default_is_negative: bool,
+    /// Whether the payload of the default NaN is all ones, instead of 0.
+    pub default_has_ones: bool,
+    /// Whether the machine has fused sums.
+    pub has_fused: bool,
+    /// The order in which the operands of a fused sum are looked at for a NaN.
+    pub fused_order: FusedOrder,
+    /// Whether an infinity times a zero, plus a quiet NaN, is the default NaN.
+    pub drops_quiet_addend: bool,
+    /// Whether an infinity times a zero, plus a signaling NaN, is the default NaN.
+    pub drops_signaling_addend: bool,
+    /// Whether an infinity times a zero, plus a quiet NaN, raises INVALID_OP.
+    pub flags_quiet_addend: bool,
+    /// Whether the machine has conversions to unsigned integers.
+    pub has_unsigned: bool,
+    /// The signed integer that a NaN gives.
+    pub signed_of_nan: WholeOfNan,
+    /// The unsigned integer that a NaN gives.
+    pub unsigned_of_nan: WholeOfNan,
+    /// Whether what is out of range gives the integer that a NaN gives, instead of the nearer end of the range.
+    pub has_one_invalid_integer: bool,
+    /// Whether what is out of range raises INEXACT beside INVALID_OP.
+    pub invalid_integer_is_inexact: bool,
+    /// Whether a result is tiny by its exact magnitude: then the format is `IeeeFlags<TinyBefore<S>>`. Otherwise it is
+    /// tiny as rounded with an unbounded exponent, and the format is `IeeeFlags<S>`.
+    pub tiny_before_rounding: bool,
+    /// The flags of results that are flushed to zero, for `flushed`; none if the machine cannot flush them.
+    pub flush: Option<Flush>,
 }
 
 /// Which operand is the result if operands are NaNs. Each is quieted.
@@ -40,6 +55,8 @@ pub enum NanChoice {
     First,
     /// The first signaling NaN, or else the first NaN.
     SignalingFirst,
+    /// The last signaling NaN, or else the last NaN.
+    SignalingLast,
     /// A quiet NaN before a signaling one, then the one with the greater significand, then the positive one; and the
     /// default if the integer bit of one is not set.
     Greater,
@@ -67,170 +84,262 @@ pub enum WholeOfNan {
     Least,
     /// The greatest of the range.
     Greatest,
+    /// The least of the range if the NaN is negative, and otherwise the greatest.
+    BySign,
+}
+
+/// Why the choices of a machine contradict each other.
+#[derive(Clone, Copy, PartialEq, Eq, Debug)]
+pub enum Contradiction {
+    /// By `nan_choice` the result is always the default NaN, and yet an infinity times a zero, plus a NaN, is said not
+    /// to be.
+    KeptAddend,
 }
 
 impl Machine {
-    /// Which operand is the result if operands are NaNs.
-    #[inline]
-    pub fn nan_choice(self) -> NanChoice
-        ensures { result ≡ nan_choice self }
+    /// SSE, AVX and AVX-512.
+    pub const X86: Machine = Machine {
+        nan_choice: NanChoice::First,
+        default_is_negative: true,
+        default_has_ones: false,
+        has_fused: true,
+        fused_order: FusedOrder::FactorsFirst,
+        drops_quiet_addend: false,
+        drops_signaling_addend: false,
+        flags_quiet_addend: false,
+        has_unsigned: true,
+        signed_of_nan: WholeOfNan::Least,
+        unsigned_of_nan: WholeOfNan::Greatest,
+        has_one_invalid_integer: true,
+        invalid_integer_is_inexact: false,
+        tiny_before_rounding: false,
+        flush: Some(Flush::X86),
+    };
+
+    /// The x87 unit, whose registers have the format `x87`.
+    pub const X87: Machine = Machine {
+        nan_choice: NanChoice::Greater,
+        has_fused: false,
+        has_unsigned: false,
+        flush: None,
+        ..Machine::X86
+    };
+
+    /// AArch64 with FPCR.DN and FPCR.AH clear.
+    pub const ARM: Machine = Machine {
+        nan_choice: NanChoice::SignalingFirst,
+        default_is_negative: false,
+        default_has_ones: false,
+        has_fused: true,
+        fused_order: FusedOrder::AddendFirst,
+        drops_quiet_addend: true,
+        drops_signaling_addend: false,
+        flags_quiet_addend: true,
+        has_unsigned: true,
+        signed_of_nan: WholeOfNan::Zero,
+        unsigned_of_nan: WholeOfNan::Zero,
+        has_one_invalid_integer: false,
+        invalid_integer_is_inexact: false,
+        tiny_before_rounding: true,
+        flush: Some(Flush::Arm),
+    };
+
+    /// AArch64 with FPCR.DN set and FPCR.AH clear.
+    pub const ARM_DEFAULT_NAN: Machine = Machine {
+        nan_choice: NanChoice::AlwaysDefault,
+        drops_signaling_addend: true,
+        ..Machine::ARM
+    };
+
+    /// AArch64 with FPCR.AH set and FPCR.DN clear.
+    pub const ARM_ALTERNATE: Machine = Machine {
+        nan_choice: NanChoice::First,
+        default_is_negative: true,
+        fused_order: FusedOrder::FactorsFirst,
+        drops_quiet_addend: false,
+        flags_quiet_addend: false,
+        tiny_before_rounding: false,
+        flush: Some(Flush::X86),
+        ..Machine::ARM
+    };
+
+    /// AArch64 with FPCR.AH and FPCR.DN set.
+    pub const ARM_ALTERNATE_DEFAULT_NAN: Machine = Machine {
+        nan_choice: NanChoice::AlwaysDefault,
+        drops_quiet_addend: true,
+        drops_signaling_addend: true,
+        ..Machine::ARM_ALTERNATE
+    };
+
+    /// RISC-V: F, D, Q and Zfh.
+    pub const RISC_V: Machine = Machine {
+        nan_choice: NanChoice::AlwaysDefault,
+        default_is_negative: false,
+        default_has_ones: false,
+        has_fused: true,
+        fused_order: FusedOrder::FactorsFirst,
+        drops_quiet_addend: true,
+        drops_signaling_addend: true,
+        flags_quiet_addend: true,
+        has_unsigned: true,
+        signed_of_nan: WholeOfNan::Greatest,
+        unsigned_of_nan: WholeOfNan::Greatest,
+        has_one_invalid_integer: false,
+        invalid_integer_is_inexact: false,
+        tiny_before_rounding: false,
+        flush: None,
+    };
+
+    /// POWER: VSX, and the floating-point instructions.
+    pub const POWER: Machine = Machine {
+        nan_choice: NanChoice::First,
+        default_is_negative: false,
+        default_has_ones: false,
+        has_fused: true,
+        fused_order: FusedOrder::AddendSecond,
+        drops_quiet_addend: false,
+        drops_signaling_addend: false,
+        flags_quiet_addend: true,
+        has_unsigned: true,
+        signed_of_nan: WholeOfNan::Least,
+        unsigned_of_nan: WholeOfNan::Zero,
+        has_one_invalid_integer: false,
+        invalid_integer_is_inexact: false,
+        tiny_before_rounding: true,
+        flush: None,
+    };
+
+    /// z/Architecture: binary floating point, and the vector facility.
+    pub const S390X: Machine = Machine {
+        nan_choice: NanChoice::SignalingFirst,
+        default_is_negative: false,
+        default_has_ones: false,
+        has_fused: true,
+        fused_order: FusedOrder::FactorsFirst,
+        drops_quiet_addend: true,
+        drops_signaling_addend: true,
+        flags_quiet_addend: true,
+        has_unsigned: true,
+        signed_of_nan: WholeOfNan::Least,
+        unsigned_of_nan: WholeOfNan::Zero,
+        has_one_invalid_integer: false,
+        invalid_integer_is_inexact: true,
+        tiny_before_rounding: true,
+        flush: None,
+    };
+
+    /// WebAssembly with canonical NaNs (its deterministic profile). It has no flags.
+    pub const WEBASSEMBLY: Machine = Machine {
+        signed_of_nan: WholeOfNan::Zero,
+        unsigned_of_nan: WholeOfNan::Zero,
+        ..Machine::RISC_V
+    };
+
+    /// PTX in single, half and bfloat. It has no flags.
+    pub const PTX: Machine = Machine {
+        default_has_ones: true,
+        flush: Some(Flush::X86),
+        ..Machine::WEBASSEMBLY
+    };
+
+    /// MIPS with FCSR.NAN2008 set, as from Release 6 on.
+    pub const MIPS_2008: Machine = Machine {
+        nan_choice: NanChoice::SignalingFirst,
+        default_is_negative: false,
+        default_has_ones: false,
+        has_fused: true,
+        fused_order: FusedOrder::AddendFirst,
+        drops_quiet_addend: false,
+        drops_signaling_addend: false,
+        flags_quiet_addend: true,
+        has_unsigned: false,
+        signed_of_nan: WholeOfNan::Zero,
+        unsigned_of_nan: WholeOfNan::Zero,
+        has_one_invalid_integer: false,
+        invalid_integer_is_inexact: false,
+        tiny_before_rounding: false,
+        flush: None,
+    };
+
+    /// LoongArch, with LSX and LASX.
+    pub const LOONGARCH: Machine = Machine {
+        has_unsigned: true,
+        ..Machine::MIPS_2008
+    };
+
+    /// SPARC V9, with fused sums.
+    pub const SPARC: Machine = Machine {
+        nan_choice: NanChoice::SignalingLast,
+        default_is_negative: false,
+        default_has_ones: true,
+        has_fused: true,
+        fused_order: FusedOrder::FactorsFirst,
+        drops_quiet_addend: false,
+        drops_signaling_addend: false,
+        flags_quiet_addend: true,
+        has_unsigned: false,
+        signed_of_nan: WholeOfNan::BySign,
+        unsigned_of_nan: WholeOfNan::BySign,
+        has_one_invalid_integer: false,
+        invalid_integer_is_inexact: false,
+        tiny_before_rounding: true,
+        flush: None,
+    };
+
+    /// The 68881 and its successors, whose registers have the format `x87`.
+    pub const M68K: Machine = Machine {
+        nan_choice: NanChoice::First,
+        has_fused: false,
+        ..Machine::SPARC
+    };
+
+    /// Whether no choice contradicts another.
+    pub fn is_consistent(self) -> bool
+        ensures { result ≡ is_consistent self }
     {
-        match self {
-            Machine::X86 => NanChoice::First,
-            Machine::X87 => NanChoice::Greater,
-            Machine::Arm => NanChoice::SignalingFirst,
-            Machine::ArmDefaultNan => NanChoice::AlwaysDefault,
-            Machine::ArmAlternate => NanChoice::First,
-            Machine::RiscV => NanChoice::AlwaysDefault,
-            Machine::Power => NanChoice::First,
-            Machine::S390x => NanChoice::SignalingFirst,
-        }
+        !is_always_default(self.nan_choice)
+            || (self.drops_quiet_addend && self.drops_signaling_addend)
     }
 
-    /// Whether the NaN of an invalid operation is negative.
-    #[inline]
-    pub fn default_is_negative(self) -> bool
-        ensures { result ≡ default_is_negative self }
+    /// The machine, or why its choices contradict each other.
+    pub fn checked(self) -> Result<Machine, Contradiction>
+        ensures { result ≡ checked self }
     {
-        match self {
-            Machine::X86 | Machine::X87 | Machine::ArmAlternate => true,
-            _ => false,
-        }
-    }
-
-    /// Whether the machine has fused sums.
-    #[inline]
-    pub fn has_fused(self) -> bool
-        ensures { result ≡ has_fused self }
-    {
-        match self {
-            Machine::X87 => false,
-            _ => true,
-        }
-    }
-
-    /// The order in which the operands of a fused sum are looked at for a NaN.
-    #[inline]
-    pub fn fused_order(self) -> FusedOrder
-        ensures { result ≡ fused_order self }
-    {
-        match self {
-            Machine::Arm | Machine::ArmDefaultNan => FusedOrder::AddendFirst,
-            Machine::Power => FusedOrder::AddendSecond,
-            _ => FusedOrder::FactorsFirst,
-        }
-    }
-
-    /// Whether an infinity times a zero, plus a quiet NaN, is the default NaN.
-    #[inline]
-    pub fn drops_quiet_addend(self) -> bool
-        ensures { result ≡ drops_quiet_addend self }
-    {
-        match self {
-            Machine::Arm | Machine::ArmDefaultNan | Machine::RiscV | Machine::S390x => true,
-            _ => false,
-        }
-    }
-
-    /// Whether an infinity times a zero, plus a signaling NaN, is the default NaN.
-    #[inline]
-    pub fn drops_signaling_addend(self) -> bool
-        ensures { result ≡ drops_signaling_addend self }
-    {
-        match self {
-            Machine::ArmDefaultNan | Machine::RiscV | Machine::S390x => true,
-            _ => false,
-        }
-    }
-
-    /// Whether an infinity times a zero, plus a quiet NaN, raises INVALID_OP.
-    #[inline]
-    pub fn flags_quiet_addend(self) -> bool
-        ensures { result ≡ flags_quiet_addend self }
-    {
-        match self {
-            Machine::X86 | Machine::X87 | Machine::ArmAlternate => false,
-            _ => true,
-        }
-    }
-
-    /// Whether the machine has conversions to unsigned integers.
-    #[inline]
-    pub fn has_unsigned(self) -> bool
-        ensures { result ≡ has_unsigned self }
-    {
-        match self {
-            Machine::X87 => false,
-            _ => true,
-        }
-    }
-
-    /// The signed integer that a NaN gives.
-    #[inline]
-    pub fn signed_of_nan(self) -> WholeOfNan
-        ensures { result ≡ signed_of_nan self }
-    {
-        match self {
-            Machine::Arm | Machine::ArmDefaultNan | Machine::ArmAlternate => WholeOfNan::Zero,
-            Machine::RiscV => WholeOfNan::Greatest,
-            _ => WholeOfNan::Least,
-        }
-    }
-
-    /// The unsigned integer that a NaN gives.
-    #[inline]
-    pub fn unsigned_of_nan(self) -> WholeOfNan
-        ensures { result ≡ unsigned_of_nan self }
-    {
-        match self {
-            Machine::X86 | Machine::X87 | Machine::RiscV => WholeOfNan::Greatest,
-            _ => WholeOfNan::Zero,
-        }
-    }
-
-    /// Whether what is out of range gives the integer that a NaN gives, instead of the nearer end of the range.
-    #[inline]
-    pub fn has_one_invalid_integer(self) -> bool
-        ensures { result ≡ has_one_invalid_integer self }
-    {
-        match self {
-            Machine::X86 | Machine::X87 => true,
-            _ => false,
-        }
-    }
-
-    /// Whether what is out of range raises INEXACT beside INVALID_OP.
-    #[inline]
-    pub fn invalid_integer_is_inexact(self) -> bool
-        ensures { result ≡ invalid_integer_is_inexact self }
-    {
-        match self {
-            Machine::S390x => true,
-            _ => false,
-        }
-    }
-
-    /// Whether a result is tiny by its exact magnitude: then the format is `IeeeFlags<TinyBefore<S>>`. Otherwise it is
-    /// tiny as rounded with an unbounded exponent, and the format is `IeeeFlags<S>`.
-    #[inline]
-    pub fn tiny_before_rounding(self) -> bool
-        ensures { result ≡ tiny_before_rounding self }
-    {
-        match self {
-            Machine::Arm | Machine::ArmDefaultNan | Machine::Power | Machine::S390x => true,
-            _ => false,
-        }
-    }
-
-    /// The flags of results that are flushed to zero, for `flushed`; none if the machine cannot flush them.
-    #[inline]
-    pub fn flush(self) -> Option<Flush>
-        ensures { result ≡ flush_of self }
-    {
-        match self {
-            Machine::X86 | Machine::ArmAlternate => Some(Flush::X86),
-            Machine::Arm | Machine::ArmDefaultNan => Some(Flush::Arm),
-            _ => None,
+        if self.is_consistent() {
+            Ok(self)
+        } else {
+            Err(Contradiction::KeptAddend)
         }
     }
 }
+
+/// Whether no operand is ever the result.
+fn is_always_default(choice: NanChoice) -> bool
+    ensures { result ≡ is_always_default choice }
+{
+    match choice {
+        NanChoice::AlwaysDefault => true,
+        _ => false,
+    }
+}
+
+/// The constants are the records of the tables, and none contradicts itself.
+pub fn machines_are_those_of_the_tables()
+    ensures x86 { Machine.X86 ≡ x86 }
+    ensures x87 { Machine.X87 ≡ x87 }
+    ensures arm { Machine.ARM ≡ arm }
+    ensures arm_default_nan { Machine.ARM_DEFAULT_NAN ≡ arm_default_nan }
+    ensures arm_alternate { Machine.ARM_ALTERNATE ≡ arm_alternate }
+    ensures arm_alternate_default_nan { Machine.ARM_ALTERNATE_DEFAULT_NAN
+        ≡ arm_alternate_default_nan }
+    ensures risc_v { Machine.RISC_V ≡ risc_v }
+    ensures power { Machine.POWER ≡ power }
+    ensures s390x { Machine.S390X ≡ s390x }
+    ensures webassembly { Machine.WEBASSEMBLY ≡ webassembly }
+    ensures ptx { Machine.PTX ≡ ptx }
+    ensures mips_2008 { Machine.MIPS_2008 ≡ mips_2008 }
+    ensures loongarch { Machine.LOONGARCH ≡ loongarch }
+    ensures sparc { Machine.SPARC ≡ sparc }
+    ensures m68k { Machine.M68K ≡ m68k }
+    ensures consistent { list_all is_consistent machines ≡ true }
+{}

@@ -8,7 +8,8 @@ ghost use Rattle.apfloat_ieee.specs.FlaggedTypes.{format_of};
 ghost use Rattle.ieee_operations.specs.Extrema.{quieted_datum};
 ghost use Rattle.apfloat_machines.specs.declared.flushing.Flush.{Flush};
 ghost use Rattle.apfloat_machines.specs.FlushedMachines.{AreFlushedAndSettled};
-ghost use Rattle.apfloat_machines.specs.Nans.{default_nan, machine_nan, nan_of, settled};
+ghost use Rattle.apfloat_machines.specs.Nans.{default_nan, default_payload};
+ghost use Rattle.apfloat_machines.specs.Nans.{machine_nan, nan_of, settled};
 ghost use Rattle.apfloat_machines.specs.Nans.{is_greater, is_unsupported, taken, takes_none};
 ghost use Rattle.apfloat_machines.specs.Operations.{AreSettled, AreSettledOfOne};
 
@@ -92,15 +93,26 @@ pub fn machine_nan<S: Flagged>(machine: Machine, x: IeeeFloat<S>, y: IeeeFloat<S
     }
 }
 
-/// The quiet NaN without a payload that an invalid operation delivers, with the machine's sign.
+/// The quiet NaN that an invalid operation delivers, with the machine's sign and payload.
 pub fn default_nan<S: Flagged>(machine: Machine) -> IeeeFloat<S>
     ensures { result ≡ default_nan (format_of S.Flagged) machine }
 {
-    let positive: IeeeFloat<S> = IeeeFloat::qnan(None);
-    if machine.default_is_negative() {
+    let positive: IeeeFloat<S> = IeeeFloat::qnan(Some(default_payload(machine)));
+    if machine.default_is_negative {
         -positive
     } else {
         positive
+    }
+}
+
+/// The payload of that NaN, of which a format keeps what it has room for.
+fn default_payload(machine: Machine) -> u128
+    ensures { result ≡ default_payload machine }
+{
+    if machine.default_has_ones {
+        u128::MAX
+    } else {
+        0
     }
 }
 
@@ -118,10 +130,10 @@ fn nan_of<S: Flagged>(machine: Machine, x: IeeeFloat<S>, y: IeeeFloat<S>) -> Iee
     requires { S.PRECISION < S.BITS }
     ensures { result ≡ nan_of (format_of S.Flagged) machine x y }
 {
-    if takes_none(machine.nan_choice(), x, y) {
+    if takes_none(machine.nan_choice, x, y) {
         default_nan(machine)
     } else {
-        quieted(taken(machine.nan_choice(), x, y))
+        quieted(taken(machine.nan_choice, x, y))
     }
 }
 
@@ -132,6 +144,7 @@ pub(crate) fn takes_none<S: Flagged>(choice: NanChoice, x: IeeeFloat<S>, y: Ieee
     match choice {
         NanChoice::First => false,
         NanChoice::SignalingFirst => false,
+        NanChoice::SignalingLast => false,
         NanChoice::Greater => is_unsupported(x) || is_unsupported(y),
         NanChoice::AlwaysDefault => true,
     }
@@ -153,6 +166,17 @@ pub(crate) fn taken<S: Flagged>(choice: NanChoice, x: IeeeFloat<S>, y: IeeeFloat
                 x
             } else {
                 y
+            }
+        }
+        NanChoice::SignalingLast => {
+            if y.is_signaling() {
+                y
+            } else if x.is_signaling() {
+                x
+            } else if y.is_nan() {
+                y
+            } else {
+                x
             }
         }
         NanChoice::Greater => {

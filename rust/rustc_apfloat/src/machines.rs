@@ -13,7 +13,7 @@
 //! // The NaN of an invalid operation is positive on RISC-V, and negative on x86.
 //! let zero = Single::ZERO;
 //! let answer = zero / zero;
-//! assert_eq!(machines::settled(Machine::RiscV, zero, zero, answer).value.to_bits(), 0x7fc0_0000);
+//! assert_eq!(machines::settled(Machine::RISC_V, zero, zero, answer).value.to_bits(), 0x7fc0_0000);
 //! assert_eq!(machines::settled(Machine::X86, zero, zero, answer).value.to_bits(), 0xffc0_0000);
 //! assert_eq!(answer.status, Status::INVALID_OP);
 //! ```
@@ -22,9 +22,14 @@ use crate::StatusAnd;
 use crate::erased::apfloat_machines as library;
 use crate::ieee::{IeeeFloat, Semantics};
 
-pub use library::{Flush, FusedOrder, Machine, MinimumRule, NanChoice, WholeOfNan};
+pub use library::{Contradiction, Flush, FusedOrder, Machine, MinimumRule, NanChoice, WholeOfNan};
 
 same_types! { Flush, Machine, MinimumRule }
+
+/// Whether the format detects tininess as the machine does, or has no flags of IEEE 754.
+const fn has_rule_of<S: Semantics>(machine: Machine) -> bool {
+    !S::IEEE_FLAGS || S::TINY_BEFORE_ROUNDING == machine.tiny_before_rounding
+}
 
 library_calls! {
     /// The answer of an operation on two operands, in the machine's order, as the machine gives it: if it is a NaN, the
@@ -33,28 +38,35 @@ library_calls! {
     ///
     /// # Panics
     ///
-    /// In a format without bits.
+    /// In a format without bits, and where its flags of IEEE 754 follow another rule of tininess than the machine's.
     fn settled<S>(machine: Machine, x: IeeeFloat<S>, y: IeeeFloat<S>, answer: StatusAnd<IeeeFloat<S>>)
-        -> StatusAnd<IeeeFloat<S>> where S::BITS > S::PRECISION => "a format without bits";
+        -> StatusAnd<IeeeFloat<S>> where S::BITS > S::PRECISION && has_rule_of::<S>(machine)
+        => "a format without bits, or with the tininess of another machine";
     /// The answer of a square root, or of rounding to an integral value, as the machine gives it, like `settled`.
     ///
     /// # Panics
     ///
-    /// In a format without bits.
+    /// As `settled` does.
     fn settled_unary<S>(machine: Machine, x: IeeeFloat<S>, answer: StatusAnd<IeeeFloat<S>>)
-        -> StatusAnd<IeeeFloat<S>> where S::BITS > S::PRECISION => "a format without bits";
+        -> StatusAnd<IeeeFloat<S>> where S::BITS > S::PRECISION && has_rule_of::<S>(machine)
+        => "a format without bits, or with the tininess of another machine";
     /// The answer of the fused sum `x * y + z`, as the machine gives it: if it is a NaN, the machine's NaN with its
     /// flags. None if the machine has no fused sums.
     ///
     /// # Panics
     ///
-    /// In a format without bits.
+    /// As `settled` does.
     fn settled_fused<S>(
         machine: Machine, x: IeeeFloat<S>, y: IeeeFloat<S>, z: IeeeFloat<S>, answer: StatusAnd<IeeeFloat<S>>
-    ) -> Option<StatusAnd<IeeeFloat<S>>> where S::BITS > S::PRECISION => "a format without bits";
+    ) -> Option<StatusAnd<IeeeFloat<S>>> where S::BITS > S::PRECISION && has_rule_of::<S>(machine)
+        => "a format without bits, or with the tininess of another machine";
     /// The answer of the conversion of `x` to another format, as the machine gives it.
+    ///
+    /// # Panics
+    ///
+    /// Where the other format's flags of IEEE 754 follow another rule of tininess than the machine's.
     fn settled_conversion<S, T>(machine: Machine, x: IeeeFloat<S>, answer: StatusAnd<IeeeFloat<T>>)
-        -> StatusAnd<IeeeFloat<T>>;
+        -> StatusAnd<IeeeFloat<T>> where has_rule_of::<T>(machine) => "a format with the tininess of another machine";
     /// The answer of the conversion of `x` to a signed integer of `width` binary digits, as the machine gives it.
     ///
     /// # Panics
@@ -78,7 +90,7 @@ library_calls! {
     /// In a format without bits.
     fn machine_nan<S>(machine: Machine, x: IeeeFloat<S>, y: IeeeFloat<S>) -> IeeeFloat<S>
         where S::BITS > S::PRECISION => "a format without bits";
-    /// The quiet NaN without a payload that an invalid operation delivers, with the machine's sign.
+    /// The quiet NaN that an invalid operation delivers, with the machine's sign and payload.
     fn default_nan<S>(machine: Machine) -> IeeeFloat<S>;
     /// The value negated, except that a NaN keeps its sign.
     fn negated_number<S>(x: IeeeFloat<S>) -> IeeeFloat<S>;

@@ -45,7 +45,7 @@ fn is_half<S: Semantics>() -> bool {
 
 impl Control {
     fn machine(&self) -> Machine {
-        if self.word & DN != 0 { Machine::ArmDefaultNan } else { Machine::Arm }
+        if self.word & DN != 0 { Machine::ARM_DEFAULT_NAN } else { Machine::ARM }
     }
 
     fn round(&self) -> Round {
