@@ -127,16 +127,22 @@ def settled_fused(form, machine, data, result):
     if not nans:
         return default_nan(form, machine), flags
     signaling = any(is_signaling(form, x) for x in nans)
-    flags = INVALID_OP if signaling else OK
-    factors = data[:2]
-    invalid = any(isinstance(x, Infinite) for x in factors) and any(
-        isinstance(x, Finite) and x.quanta == 0 for x in factors
-    )
-    if invalid and machine.flags_quiet:
-        flags = INVALID_OP
-    if invalid and (machine.drops_signaling if signaling else machine.drops_quiet):
+    flags = INVALID_OP if signaling or (is_invalid_product(*data[:2]) and machine.flags_quiet) else OK
+    if drops_addend(form, machine, data):
         return default_nan(form, machine), flags
     return taken(form, machine, [data["ABC".index(name)] for name in machine.order]), flags
+
+
+def is_invalid_product(*factors):
+    """Whether one is an infinity and the other a zero."""
+    zeros = [x for x in factors if isinstance(x, Finite) and x.quanta == 0]
+    return any(isinstance(x, Infinite) for x in factors) and bool(zeros)
+
+
+def drops_addend(form, machine, data):
+    """Whether the default takes the place of a NaN that is added to an infinity times a zero."""
+    drops = machine.drops_signaling if is_signaling(form, data[2]) else machine.drops_quiet
+    return is_invalid_product(*data[:2]) and drops
 
 
 def flushed(form, machine, result):

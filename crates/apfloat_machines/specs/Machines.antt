@@ -1,10 +1,7 @@
 -- What each machine does where IEEE 754-2019 leaves a choice: the records of docs/MACHINES.md.
-use Rattle.std.specs.Prelude.{Bool, true, false, not, ◌&&◌, ◌||◌, Some, None, Result, Ok, Err, if◌then◌else◌}
-use Rattle.std.specs.Prelude.{List, [], ◌∷◌}
+use Rattle.std.specs.Prelude.{Bool, true, false, ◌&&◌, Some, None, List, [], ◌∷◌}
 use Rattle.apfloat_machines.specs.declared.flushing.Flush.TheVariants.{X86 as FlushX86, Arm as FlushArm}
 use Rattle.apfloat_machines.specs.declared.machine.Machine.{Machine}
-use Rattle.apfloat_machines.specs.declared.machine.Contradiction.{Contradiction}
-use Rattle.apfloat_machines.specs.declared.machine.Contradiction.TheVariants.{KeptAddend}
 use Rattle.apfloat_machines.specs.declared.machine.NanChoice.{NanChoice}
 use Rattle.apfloat_machines.specs.declared.machine.NanChoice.TheVariants.{First, SignalingFirst, SignalingLast}
 use Rattle.apfloat_machines.specs.declared.machine.NanChoice.TheVariants.{Greater, AlwaysDefault}
@@ -78,61 +75,31 @@ arm_alternate_default_nan =
 
 abbrev pub risc_v : Machine
 risc_v =
-    record {
-      nan_choice = AlwaysDefault;
-      default_is_negative = false;
-      default_has_ones = false;
-      has_fused = true;
+    record arm_default_nan {
       fused_order = FactorsFirst;
-      drops_quiet_addend = true;
-      drops_signaling_addend = true;
-      flags_quiet_addend = true;
-      has_unsigned = true;
       signed_of_nan = Greatest;
       unsigned_of_nan = Greatest;
-      has_one_invalid_integer = false;
-      invalid_integer_is_inexact = false;
       tiny_before_rounding = false;
       flush = None;
     }
 
 abbrev pub power : Machine
 power =
-    record {
+    record arm {
       nan_choice = First;
-      default_is_negative = false;
-      default_has_ones = false;
-      has_fused = true;
       fused_order = AddendSecond;
       drops_quiet_addend = false;
-      drops_signaling_addend = false;
-      flags_quiet_addend = true;
-      has_unsigned = true;
       signed_of_nan = Least;
-      unsigned_of_nan = Zero;
-      has_one_invalid_integer = false;
-      invalid_integer_is_inexact = false;
-      tiny_before_rounding = true;
       flush = None;
     }
 
 abbrev pub s390x : Machine
 s390x =
-    record {
-      nan_choice = SignalingFirst;
-      default_is_negative = false;
-      default_has_ones = false;
-      has_fused = true;
+    record arm {
       fused_order = FactorsFirst;
-      drops_quiet_addend = true;
       drops_signaling_addend = true;
-      flags_quiet_addend = true;
-      has_unsigned = true;
       signed_of_nan = Least;
-      unsigned_of_nan = Zero;
-      has_one_invalid_integer = false;
       invalid_integer_is_inexact = true;
-      tiny_before_rounding = true;
       flush = None;
     }
 
@@ -143,67 +110,38 @@ abbrev pub ptx : Machine
 ptx = record webassembly { default_has_ones = true; flush = Some FlushX86 }
 
 abbrev pub mips_2008 : Machine
-mips_2008 =
-    record {
-      nan_choice = SignalingFirst;
-      default_is_negative = false;
-      default_has_ones = false;
-      has_fused = true;
-      fused_order = AddendFirst;
-      drops_quiet_addend = false;
-      drops_signaling_addend = false;
-      flags_quiet_addend = true;
-      has_unsigned = false;
-      signed_of_nan = Zero;
-      unsigned_of_nan = Zero;
-      has_one_invalid_integer = false;
-      invalid_integer_is_inexact = false;
-      tiny_before_rounding = false;
-      flush = None;
-    }
+mips_2008 = record arm { drops_quiet_addend = false; has_unsigned = false; tiny_before_rounding = false; flush = None }
 
 abbrev pub loongarch : Machine
 loongarch = record mips_2008 { has_unsigned = true }
 
 abbrev pub sparc : Machine
 sparc =
-    record {
+    record arm {
       nan_choice = SignalingLast;
-      default_is_negative = false;
       default_has_ones = true;
-      has_fused = true;
       fused_order = FactorsFirst;
       drops_quiet_addend = false;
-      drops_signaling_addend = false;
-      flags_quiet_addend = true;
       has_unsigned = false;
       signed_of_nan = BySign;
       unsigned_of_nan = BySign;
-      has_one_invalid_integer = false;
-      invalid_integer_is_inexact = false;
-      tiny_before_rounding = true;
       flush = None;
     }
 
 abbrev pub m68k : Machine
 m68k = record sparc { nan_choice = First; has_fused = false }
 
--- ---- records whose choices contradict each other
-
-abbrev pub is_always_default : NanChoice → Bool
-is_always_default First = false
-is_always_default SignalingFirst = false
-is_always_default SignalingLast = false
-is_always_default Greater = false
-is_always_default AlwaysDefault = true
-
 -- a machine whose result is always the default NaN does not keep a NaN that is added to an infinity times a zero
+abbrev pub is_consistent_by : NanChoice → Bool → Bool
+is_consistent_by AlwaysDefault drops = drops
+is_consistent_by First drops = true
+is_consistent_by SignalingFirst drops = true
+is_consistent_by SignalingLast drops = true
+is_consistent_by Greater drops = true
+
 abbrev pub is_consistent : Machine → Bool
 is_consistent machine =
-    not (is_always_default machine.nan_choice) || (machine.drops_quiet_addend && machine.drops_signaling_addend)
-
-abbrev pub checked : Machine → Result Machine Contradiction
-checked machine = if is_consistent machine then Ok machine else Err KeptAddend
+    is_consistent_by machine.nan_choice (machine.drops_quiet_addend && machine.drops_signaling_addend)
 
 abbrev pub machines : List Machine
 machines =

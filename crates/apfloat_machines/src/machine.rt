@@ -2,8 +2,7 @@
 
 ghost use Rattle.std.specs.Prelude.{◌≡◌, true};
 ghost use Rattle.std.specs.List.{list_all};
-ghost use Rattle.apfloat_machines.specs.Machines.{checked, is_always_default, is_consistent};
-ghost use Rattle.apfloat_machines.specs.Machines.{machines};
+ghost use Rattle.apfloat_machines.specs.Machines.{is_consistent, machines};
 ghost use Rattle.apfloat_machines.specs.Machines.{x86, x87, arm, arm_default_nan, arm_alternate};
 ghost use Rattle.apfloat_machines.specs.Machines.{arm_alternate_default_nan, risc_v, power, s390x};
 ghost use Rattle.apfloat_machines.specs.Machines.{webassembly, ptx, mips_2008, loongarch, sparc, m68k};
@@ -88,14 +87,6 @@ pub enum WholeOfNan {
     BySign,
 }
 
-/// Why the choices of a machine contradict each other.
-#[derive(Clone, Copy, PartialEq, Eq, Debug)]
-pub enum Contradiction {
-    /// By `nan_choice` the result is always the default NaN, and yet an infinity times a zero, plus a NaN, is said not
-    /// to be.
-    KeptAddend,
-}
-
 impl Machine {
     /// SSE, AVX and AVX-512.
     pub const X86: Machine = Machine {
@@ -173,59 +164,32 @@ impl Machine {
 
     /// RISC-V: F, D, Q and Zfh.
     pub const RISC_V: Machine = Machine {
-        nan_choice: NanChoice::AlwaysDefault,
-        default_is_negative: false,
-        default_has_ones: false,
-        has_fused: true,
         fused_order: FusedOrder::FactorsFirst,
-        drops_quiet_addend: true,
-        drops_signaling_addend: true,
-        flags_quiet_addend: true,
-        has_unsigned: true,
         signed_of_nan: WholeOfNan::Greatest,
         unsigned_of_nan: WholeOfNan::Greatest,
-        has_one_invalid_integer: false,
-        invalid_integer_is_inexact: false,
         tiny_before_rounding: false,
         flush: None,
+        ..Machine::ARM_DEFAULT_NAN
     };
 
     /// POWER: VSX, and the floating-point instructions.
     pub const POWER: Machine = Machine {
         nan_choice: NanChoice::First,
-        default_is_negative: false,
-        default_has_ones: false,
-        has_fused: true,
         fused_order: FusedOrder::AddendSecond,
         drops_quiet_addend: false,
-        drops_signaling_addend: false,
-        flags_quiet_addend: true,
-        has_unsigned: true,
         signed_of_nan: WholeOfNan::Least,
-        unsigned_of_nan: WholeOfNan::Zero,
-        has_one_invalid_integer: false,
-        invalid_integer_is_inexact: false,
-        tiny_before_rounding: true,
         flush: None,
+        ..Machine::ARM
     };
 
     /// z/Architecture: binary floating point, and the vector facility.
     pub const S390X: Machine = Machine {
-        nan_choice: NanChoice::SignalingFirst,
-        default_is_negative: false,
-        default_has_ones: false,
-        has_fused: true,
         fused_order: FusedOrder::FactorsFirst,
-        drops_quiet_addend: true,
         drops_signaling_addend: true,
-        flags_quiet_addend: true,
-        has_unsigned: true,
         signed_of_nan: WholeOfNan::Least,
-        unsigned_of_nan: WholeOfNan::Zero,
-        has_one_invalid_integer: false,
         invalid_integer_is_inexact: true,
-        tiny_before_rounding: true,
         flush: None,
+        ..Machine::ARM
     };
 
     /// WebAssembly with canonical NaNs (its deterministic profile). It has no flags.
@@ -244,21 +208,11 @@ impl Machine {
 
     /// MIPS with FCSR.NAN2008 set, as from Release 6 on.
     pub const MIPS_2008: Machine = Machine {
-        nan_choice: NanChoice::SignalingFirst,
-        default_is_negative: false,
-        default_has_ones: false,
-        has_fused: true,
-        fused_order: FusedOrder::AddendFirst,
         drops_quiet_addend: false,
-        drops_signaling_addend: false,
-        flags_quiet_addend: true,
         has_unsigned: false,
-        signed_of_nan: WholeOfNan::Zero,
-        unsigned_of_nan: WholeOfNan::Zero,
-        has_one_invalid_integer: false,
-        invalid_integer_is_inexact: false,
         tiny_before_rounding: false,
         flush: None,
+        ..Machine::ARM
     };
 
     /// LoongArch, with LSX and LASX.
@@ -270,20 +224,14 @@ impl Machine {
     /// SPARC V9, with fused sums.
     pub const SPARC: Machine = Machine {
         nan_choice: NanChoice::SignalingLast,
-        default_is_negative: false,
         default_has_ones: true,
-        has_fused: true,
         fused_order: FusedOrder::FactorsFirst,
         drops_quiet_addend: false,
-        drops_signaling_addend: false,
-        flags_quiet_addend: true,
         has_unsigned: false,
         signed_of_nan: WholeOfNan::BySign,
         unsigned_of_nan: WholeOfNan::BySign,
-        has_one_invalid_integer: false,
-        invalid_integer_is_inexact: false,
-        tiny_before_rounding: true,
         flush: None,
+        ..Machine::ARM
     };
 
     /// The 68881 and its successors, whose registers have the format `x87`.
@@ -293,33 +241,15 @@ impl Machine {
         ..Machine::SPARC
     };
 
-    /// Whether no choice contradicts another.
+    /// Whether no choice contradicts another: a machine whose result is always the default NaN keeps no NaN that is
+    /// added to an infinity times a zero.
     pub fn is_consistent(self) -> bool
         ensures { result ≡ is_consistent self }
     {
-        !is_always_default(self.nan_choice)
-            || (self.drops_quiet_addend && self.drops_signaling_addend)
-    }
-
-    /// The machine, or why its choices contradict each other.
-    pub fn checked(self) -> Result<Machine, Contradiction>
-        ensures { result ≡ checked self }
-    {
-        if self.is_consistent() {
-            Ok(self)
-        } else {
-            Err(Contradiction::KeptAddend)
+        match self.nan_choice {
+            NanChoice::AlwaysDefault => self.drops_quiet_addend && self.drops_signaling_addend,
+            _ => true,
         }
-    }
-}
-
-/// Whether no operand is ever the result.
-fn is_always_default(choice: NanChoice) -> bool
-    ensures { result ≡ is_always_default choice }
-{
-    match choice {
-        NanChoice::AlwaysDefault => true,
-        _ => false,
     }
 }
 

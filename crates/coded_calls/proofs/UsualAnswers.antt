@@ -1,5 +1,5 @@
 -- The plain answer of usual operands is that of every machine.
-use Rattle.std.proofs.Common.{◌≡◌, ℕ, ◌+◌, ◌-◌, ◌*◌, ◌/◌, ◌%◌, ◌^◌, ◌<◌, ◌≤◌, ap, sym, subst, ◌∙◌, arith, Bool, true, false, not, ◌&&◌, eqb, leb, Option, Some, None, Result, Ok, refl, if◌then◌else◌}
+use Rattle.std.proofs.Common.{◌≡◌, ℕ, ◌+◌, ◌-◌, ◌*◌, ◌/◌, ◌%◌, ◌^◌, ◌<◌, ◌≤◌, ap, sym, subst, ◌∙◌, arith, Bool, true, false, not, ◌&&◌, eqb, leb, Option, Some, None, Result, Ok, refl, pos, if◌then◌else◌}
 use Rattle.std.specs.Prelude.{option_and_then}
 use Rattle.std.specs.Bool.{MatchBool}
 use Rattle.std.proofs.lemmas.Bool.{false≢true, true≢false, and_left, and_right, cond-true, le-leb, ne_eqb}
@@ -7,7 +7,7 @@ use Rattle.std.proofs.lemmas.Nat.{mul-lt, pow_pos}
 use Rattle.rustc_apfloat.specs.Classes.{is_finite, is_negative, is_zero}
 use Rattle.rustc_apfloat.specs.Datum.{Datum, finite, infinite, nan}
 use Rattle.rustc_apfloat.specs.FusedSums.{IsFusedSum}
-use Rattle.rustc_apfloat.specs.Flags.{Gives}
+use Rattle.rustc_apfloat.specs.Flags.{Gives, bits_of}
 use Rattle.rustc_apfloat.specs.Lawful.{Constants, format_with, layout_with}
 use Rattle.rustc_apfloat.specs.Layout.{Layout, all_ones, fields_of, trailing_bits, written_datum}
 use Rattle.rustc_apfloat.specs.Format.{Format, smallest_normalized}
@@ -15,7 +15,11 @@ use Rattle.apfloat_model.proofs.bits.EncodedOnce.{fields_with}
 use Rattle.rustc_apfloat.specs.declared.Round.{Round}
 use Rattle.rustc_apfloat.specs.declared.StatusAnd.{StatusAnd}
 use Rattle.apfloat_model.specs.arithmetic.Roots.{IsRoot}
+use Rattle.apfloat_model.specs.formats.Nan.{invalid_bit}
+use Rattle.apfloat_model.specs.rounding.Answer.{IsAnswer as IsGivenDatum}
 use Rattle.apfloat_model.specs.whole_numbers.WholeNumbers.{IsRoundToIntegral}
+use Rattle.apfloat_machines.specs.declared.machine.Machine.{Machine}
+use Rattle.apfloat_machines.specs.Nans.{default_nan}
 use Rattle.apfloat_machines.specs.Operations.{IsMachineFusedSum, IsMachineIntegralExact, IsMachineRoot}
 use Rattle.formats_at_run_time.specs.declared.Arithmetic.{Arithmetic}
 use Rattle.formats_at_run_time.specs.declared.Arithmetic.TheVariants.{Sum, Difference, Product, Quotient}
@@ -35,13 +39,12 @@ use Rattle.coded_calls.specs.declared.machine_call.MachineFormat.{MachineFormat}
 use Rattle.coded_calls.specs.declared.machine_call.MachineOperation.{MachineOperation}
 use Rattle.coded_calls.specs.declared.machine_call.MachineOperation.TheVariants.{OfTwo, FusedSum, SquareRoot}
 use Rattle.coded_calls.specs.declared.machine_call.MachineOperation.TheVariants.{IntegralExact}
-use Rattle.coded_calls.specs.Answers.{IsKindAnswer, IsLeftBy}
+use Rattle.coded_calls.specs.Answers.{IsKindAnswer, IsLeftBy, IsValueWritten}
 use Rattle.coded_calls.specs.KnownCalls.{answered, without}
 use Rattle.coded_calls.specs.MachineCalls.{IsMachineAnswer, IsMachineCallAnswer, IsMachineOfTwo, IsMachineReply}
 use Rattle.coded_calls.specs.MachineCalls.{MachineRequest, are_usual, are_usual_of_three, choices, conversion_call}
-use Rattle.coded_calls.specs.MachineCalls.{divides}
-use Rattle.coded_calls.specs.MachineCalls.{fits, is_divisor, is_number, is_root_of, known_machine_call, lacking_operation}
-use Rattle.coded_calls.specs.MachineCalls.{machine_fault, machine_format, operands_fit}
+use Rattle.coded_calls.specs.MachineCalls.{divides, fits, is_divisor, is_number, is_root_of, known_machine_call}
+use Rattle.coded_calls.specs.MachineCalls.{lacking_operation, machine_fault, machine_format, operands_fit}
 use Rattle.coded_calls.specs.MachineCalls.{operation_fault, operation_fault_in}
 use Rattle.coded_calls.proofs.WrittenAnswers.{answered_if}
 
@@ -63,6 +66,10 @@ not_true false e = refl
 of_valid : (invalid : Bool) (Invalid Valid : Type 0) → invalid ≡ false → Valid → MatchBool invalid Invalid Valid
 of_valid true Invalid Valid e holds = absurd (true≢false e)
 of_valid false Invalid Valid e holds = holds
+
+of_invalid : (invalid : Bool) (Invalid Valid : Type 0) → invalid ≡ true → Invalid → MatchBool invalid Invalid Valid
+of_invalid true Invalid Valid e holds = holds
+of_invalid false Invalid Valid e holds = absurd (false≢true e)
 
 either_way : (test x y : Bool) → x ≡ true → y ≡ true → (if test then x else y) ≡ true
 either_way true x y p q = p
@@ -120,6 +127,20 @@ root_of_finite c machine mode (finite b n) given p q plain =
     of_valid (not (eqb n 0) && b) _ _ (and_right (not (eqb n 0)) b q) plain
 root_of_finite c machine mode (infinite b) given p q plain = absurd (false≢true p)
 root_of_finite c machine mode (nan b s) given p q plain = absurd (false≢true p)
+
+-- a number that is no root's operand is negative
+negative_of : (number negative : Bool) → number ≡ true → (number && not negative) ≡ false → negative ≡ true
+negative_of true true p q = refl
+negative_of true false p q = absurd (true≢false q)
+negative_of false negative p q = absurd (false≢true p)
+
+root_of_negative : (f : Format) (machine : Machine) (mode : Round) (x : Datum) (given : StatusAnd Datum)
+    → is_finite x ≡ true → is_zero x ≡ false → is_negative x ≡ true
+    → Gives (IsGivenDatum (default_nan f machine) invalid_bit) given → Gives (IsMachineRoot f machine mode x) given
+root_of_negative f machine mode (finite b n) given p some q answer =
+    of_invalid (not (eqb n 0) && b) _ _ (two_true (not (eqb n 0)) b (ap not some) q) answer
+root_of_negative f machine mode (infinite b) given p some q answer = absurd (false≢true p)
+root_of_negative f machine mode (nan b s) given p some q answer = absurd (false≢true p)
 
 integral_of_finite : (c : Constants) (machine : CodedMachine) (mode : Round) (x : Datum) (given : StatusAnd Datum)
     → is_finite x ≡ true → Gives (IsRoundToIntegral (format_with c) mode x) given
@@ -269,6 +290,26 @@ usual_root c machine mode x old answer e plain =
         holds = root_of_finite c machine mode (value_of c x) plain.given number.1
             (not_true (is_negative (value_of c x)) both.1) plain.holds;
         is_written = plain.is_written;
+      },
+    )
+
+pub negative_root : (c : Constants) (machine : CodedMachine) (mode : Round) (x : ℕ) (old answer : Answer)
+    (given : StatusAnd Datum) → is_divisor c x ≡ true → is_root_of c x ≡ false
+    → Gives (IsGivenDatum (default_nan (format_with c) (choices machine)) invalid_bit) given
+    → IsValueWritten (in_format c) given (pos 0) answer
+    → IsLeftBy (operation_fault_in c.bits machine (SquareRoot x)) (IsMachineAnswer c machine mode (SquareRoot x))
+    old answer answered
+negative_root c machine mode x old answer given divisor no_root is_nan written =
+    let both = both_true (is_number c x) (not (is_zero (value_of c x))) divisor in
+    let number = fits_and_finite c x both.0 in
+    fitting c.bits machine (SquareRoot x) (IsMachineAnswer c machine mode (SquareRoot x)) old answer answered number.0 (
+      refl,
+      record {
+        given = given;
+        holds = root_of_negative (format_with c) (choices machine) mode (value_of c x) given number.1
+            (not_true (is_zero (value_of c x)) both.1)
+            (negative_of (is_number c x) (is_negative (value_of c x)) both.0 no_root) is_nan;
+        is_written = written;
       },
     )
 

@@ -6,29 +6,68 @@
 //! beside it, which give what the machine gives.
 //!
 //! ```
-//! use rustc_apfloat::ieee::Single;
-//! use rustc_apfloat::machines::{self, Machine};
+//! use rustc_apfloat::ieee::{Single, SingleS};
+//! use rustc_apfloat::machines::{Machine, MachineIn, settled};
 //! use rustc_apfloat::{Float, Status};
 //!
 //! // The NaN of an invalid operation is positive on RISC-V, and negative on x86.
+//! const RISC_V: MachineIn<SingleS> = MachineIn::new(Machine::RISC_V).unwrap();
+//! const X86: MachineIn<SingleS> = MachineIn::new(Machine::X86).unwrap();
 //! let zero = Single::ZERO;
 //! let answer = zero / zero;
-//! assert_eq!(machines::settled(Machine::RISC_V, zero, zero, answer).value.to_bits(), 0x7fc0_0000);
-//! assert_eq!(machines::settled(Machine::X86, zero, zero, answer).value.to_bits(), 0xffc0_0000);
+//! assert_eq!(settled(RISC_V, zero, zero, answer).value.to_bits(), 0x7fc0_0000);
+//! assert_eq!(settled(X86, zero, zero, answer).value.to_bits(), 0xffc0_0000);
 //! assert_eq!(answer.status, Status::INVALID_OP);
 //! ```
 
 use crate::StatusAnd;
+use crate::calls::Given;
 use crate::erased::apfloat_machines as library;
 use crate::ieee::{IeeeFloat, Semantics};
+use core::marker::PhantomData;
 
-pub use library::{Contradiction, Flush, FusedOrder, Machine, MinimumRule, NanChoice, WholeOfNan};
+pub use library::{Flush, FusedOrder, Machine, MinimumRule, NanChoice, WholeOfNan};
 
 same_types! { Flush, Machine, MinimumRule }
 
-/// Whether the format detects tininess as the machine does, or has no flags of IEEE 754.
-const fn has_rule_of<S: Semantics>(machine: Machine) -> bool {
-    !S::IEEE_FLAGS || S::TINY_BEFORE_ROUNDING == machine.tiny_before_rounding
+/// A machine in a format that detects tininess as it does, the only ones of which answers are settled: a constant of
+/// another format does not compile.
+///
+/// ```compile_fail
+/// use rustc_apfloat::ieee::{IeeeFlags, SingleS};
+/// use rustc_apfloat::machines::{Machine, MachineIn};
+///
+/// const AFTER_ROUNDING: MachineIn<IeeeFlags<SingleS>> = MachineIn::new(Machine::ARM).unwrap();
+/// ```
+#[derive(Debug)]
+pub struct MachineIn<S>(Machine, PhantomData<S>);
+
+impl<S: Semantics> MachineIn<S> {
+    /// The machine in the format `S`, if that has no flags of IEEE 754, or the machine's rule of tininess.
+    pub const fn new(machine: Machine) -> Option<MachineIn<S>> {
+        if !S::IEEE_FLAGS || S::TINY_BEFORE_ROUNDING == machine.tiny_before_rounding {
+            Some(MachineIn(machine, PhantomData))
+        } else {
+            None
+        }
+    }
+}
+
+impl<S> Clone for MachineIn<S> {
+    fn clone(&self) -> Self {
+        *self
+    }
+}
+
+impl<S> Copy for MachineIn<S> {}
+
+impl<S> Given for MachineIn<S> {
+    type Library = Machine;
+
+    #[inline]
+    fn given(self) -> Machine {
+        self.0
+    }
 }
 
 library_calls! {
@@ -38,35 +77,28 @@ library_calls! {
     ///
     /// # Panics
     ///
-    /// In a format without bits, and where its flags of IEEE 754 follow another rule of tininess than the machine's.
-    fn settled<S>(machine: Machine, x: IeeeFloat<S>, y: IeeeFloat<S>, answer: StatusAnd<IeeeFloat<S>>)
-        -> StatusAnd<IeeeFloat<S>> where S::BITS > S::PRECISION && has_rule_of::<S>(machine)
-        => "a format without bits, or with the tininess of another machine";
+    /// In a format without bits.
+    fn settled<S>(machine: MachineIn<S>, x: IeeeFloat<S>, y: IeeeFloat<S>, answer: StatusAnd<IeeeFloat<S>>)
+        -> StatusAnd<IeeeFloat<S>> where S::BITS > S::PRECISION => "a format without bits";
     /// The answer of a square root, or of rounding to an integral value, as the machine gives it, like `settled`.
     ///
     /// # Panics
     ///
-    /// As `settled` does.
-    fn settled_unary<S>(machine: Machine, x: IeeeFloat<S>, answer: StatusAnd<IeeeFloat<S>>)
-        -> StatusAnd<IeeeFloat<S>> where S::BITS > S::PRECISION && has_rule_of::<S>(machine)
-        => "a format without bits, or with the tininess of another machine";
+    /// In a format without bits.
+    fn settled_unary<S>(machine: MachineIn<S>, x: IeeeFloat<S>, answer: StatusAnd<IeeeFloat<S>>)
+        -> StatusAnd<IeeeFloat<S>> where S::BITS > S::PRECISION => "a format without bits";
     /// The answer of the fused sum `x * y + z`, as the machine gives it: if it is a NaN, the machine's NaN with its
     /// flags. None if the machine has no fused sums.
     ///
     /// # Panics
     ///
-    /// As `settled` does.
+    /// In a format without bits.
     fn settled_fused<S>(
-        machine: Machine, x: IeeeFloat<S>, y: IeeeFloat<S>, z: IeeeFloat<S>, answer: StatusAnd<IeeeFloat<S>>
-    ) -> Option<StatusAnd<IeeeFloat<S>>> where S::BITS > S::PRECISION && has_rule_of::<S>(machine)
-        => "a format without bits, or with the tininess of another machine";
+        machine: MachineIn<S>, x: IeeeFloat<S>, y: IeeeFloat<S>, z: IeeeFloat<S>, answer: StatusAnd<IeeeFloat<S>>
+    ) -> Option<StatusAnd<IeeeFloat<S>>> where S::BITS > S::PRECISION => "a format without bits";
     /// The answer of the conversion of `x` to another format, as the machine gives it.
-    ///
-    /// # Panics
-    ///
-    /// Where the other format's flags of IEEE 754 follow another rule of tininess than the machine's.
-    fn settled_conversion<S, T>(machine: Machine, x: IeeeFloat<S>, answer: StatusAnd<IeeeFloat<T>>)
-        -> StatusAnd<IeeeFloat<T>> where has_rule_of::<T>(machine) => "a format with the tininess of another machine";
+    fn settled_conversion<S, T>(machine: MachineIn<T>, x: IeeeFloat<S>, answer: StatusAnd<IeeeFloat<T>>)
+        -> StatusAnd<IeeeFloat<T>>;
     /// The answer of the conversion of `x` to a signed integer of `width` binary digits, as the machine gives it.
     ///
     /// # Panics
