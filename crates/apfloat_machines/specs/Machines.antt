@@ -1,5 +1,5 @@
 -- What each machine does where IEEE 754-2019 leaves a choice: the records of docs/MACHINES.md.
-use Rattle.std.specs.Prelude.{Bool, true, false, ◌&&◌, Some, None, List, [], ◌∷◌}
+use Rattle.std.specs.Prelude.{◌-◌, ◌^◌, Bool, true, false, ◌&&◌, Some, None, List, [], ◌∷◌}
 use Rattle.apfloat_machines.specs.declared.flushing.Flush.TheVariants.{X86 as FlushX86, Arm as FlushArm}
 use Rattle.apfloat_machines.specs.declared.machine.Machine.{Machine}
 use Rattle.apfloat_machines.specs.declared.machine.NanChoice.{NanChoice}
@@ -15,7 +15,7 @@ x86 =
     record {
       nan_choice = First;
       default_is_negative = true;
-      default_has_ones = false;
+      default_payload = 0;
       has_fused = true;
       fused_order = FactorsFirst;
       drops_quiet_addend = false;
@@ -38,7 +38,7 @@ arm =
     record {
       nan_choice = SignalingFirst;
       default_is_negative = false;
-      default_has_ones = false;
+      default_payload = 0;
       has_fused = true;
       fused_order = AddendFirst;
       drops_quiet_addend = true;
@@ -107,7 +107,7 @@ abbrev pub webassembly : Machine
 webassembly = record risc_v { signed_of_nan = Zero; unsigned_of_nan = Zero }
 
 abbrev pub ptx : Machine
-ptx = record webassembly { default_has_ones = true; flush = Some FlushX86 }
+ptx = record webassembly { default_payload = 2 ^ 128 - 1; flush = Some FlushX86 }
 
 abbrev pub mips_2008 : Machine
 mips_2008 = record arm { drops_quiet_addend = false; has_unsigned = false; tiny_before_rounding = false; flush = None }
@@ -119,7 +119,7 @@ abbrev pub sparc : Machine
 sparc =
     record arm {
       nan_choice = SignalingLast;
-      default_has_ones = true;
+      default_payload = 2 ^ 128 - 1;
       fused_order = FactorsFirst;
       drops_quiet_addend = false;
       has_unsigned = false;

@@ -1,5 +1,5 @@
 -- The NaN that a machine delivers (IEEE 754-2019 6.2.3, 7.2).
-use Rattle.std.specs.Prelude.{ℕ, ◌-◌, ◌^◌, Bool, true, false, not, ◌&&◌, ◌||◌, if◌then◌else◌}
+use Rattle.std.specs.Prelude.{Bool, true, false, not, ◌&&◌, ◌||◌, if◌then◌else◌}
 use Rattle.apfloat_model.specs.formats.Format.{Format}
 use Rattle.apfloat_model.specs.formats.Datum.{Datum, finite, infinite, nan}
 use Rattle.apfloat_model.specs.formats.Nan.{is_signaling, quieted, qnan, is_signaling_nan}
@@ -12,14 +12,10 @@ use Rattle.apfloat_machines.specs.declared.machine.NanChoice.{NanChoice}
 use Rattle.apfloat_machines.specs.declared.machine.NanChoice.TheVariants.{First, SignalingFirst, SignalingLast}
 use Rattle.apfloat_machines.specs.declared.machine.NanChoice.TheVariants.{Greater, AlwaysDefault}
 
--- the payload of the default NaN, of which a format keeps what it has room for
-abbrev pub default_payload : Machine → ℕ
-default_payload machine = if machine.default_has_ones then 2 ^ 128 - 1 else 0
-
 -- the quiet NaN with the machine's sign and payload
 abbrev pub default_nan : Format → Machine → Datum
 default_nan f machine =
-    let positive = qnan f (default_payload machine) in
+    let positive = qnan f machine.default_payload in
     if machine.default_is_negative then negated f.nonfinite positive else positive
 
 -- A NaN that its quiet bit does not make quiet: its integer bit is written, and is not set. The x87 unit does not take
@@ -36,15 +32,16 @@ is_unsupported f (finite b n) = false
 abbrev pub is_greater : Format → Datum → Datum → Bool
 is_greater f x y = total_order_mag f y x && not (total_order_mag f x y && is_negative x)
 
+abbrev pub signaling_first : Format → Datum → Datum → Datum
+signaling_first f x y =
+    if is_signaling_nan f x then x
+    else (if is_signaling_nan f y then y else (if is_nan x then x else y))
+
 -- the NaN that is taken, as it is
 abbrev pub taken : NanChoice → Format → Datum → Datum → Datum
 taken First f x y = if is_nan x then x else y
-taken SignalingFirst f x y =
-    if is_signaling_nan f x then x
-    else (if is_signaling_nan f y then y else (if is_nan x then x else y))
-taken SignalingLast f x y =
-    if is_signaling_nan f y then y
-    else (if is_signaling_nan f x then x else (if is_nan y then y else x))
+taken SignalingFirst f x y = signaling_first f x y
+taken SignalingLast f x y = signaling_first f y x
 taken Greater f x y = if is_nan x && (not (is_nan y) || is_greater f x y) then x else y
 taken AlwaysDefault f x y = if is_nan x then x else y
 

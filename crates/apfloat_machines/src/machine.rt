@@ -18,8 +18,8 @@ pub struct Machine {
     pub nan_choice: NanChoice,
     /// Whether the NaN of an invalid operation, the default NaN, is negative.
     pub default_is_negative: bool,
-    /// Whether the payload of the default NaN is all ones, instead of 0.
-    pub default_has_ones: bool,
+    /// The payload of the default NaN, of which a format keeps what it has room for.
+    pub default_payload: u128,
     /// Whether the machine has fused sums.
     pub has_fused: bool,
     /// The order in which the operands of a fused sum are looked at for a NaN.
@@ -92,7 +92,7 @@ impl Machine {
     pub const X86: Machine = Machine {
         nan_choice: NanChoice::First,
         default_is_negative: true,
-        default_has_ones: false,
+        default_payload: 0,
         has_fused: true,
         fused_order: FusedOrder::FactorsFirst,
         drops_quiet_addend: false,
@@ -120,7 +120,7 @@ impl Machine {
     pub const ARM: Machine = Machine {
         nan_choice: NanChoice::SignalingFirst,
         default_is_negative: false,
-        default_has_ones: false,
+        default_payload: 0,
         has_fused: true,
         fused_order: FusedOrder::AddendFirst,
         drops_quiet_addend: true,
@@ -201,7 +201,7 @@ impl Machine {
 
     /// PTX in single, half and bfloat. It has no flags.
     pub const PTX: Machine = Machine {
-        default_has_ones: true,
+        default_payload: u128::MAX,
         flush: Some(Flush::X86),
         ..Machine::WEBASSEMBLY
     };
@@ -224,7 +224,7 @@ impl Machine {
     /// SPARC V9, with fused sums.
     pub const SPARC: Machine = Machine {
         nan_choice: NanChoice::SignalingLast,
-        default_has_ones: true,
+        default_payload: u128::MAX,
         fused_order: FusedOrder::FactorsFirst,
         drops_quiet_addend: false,
         has_unsigned: false,

@@ -8,8 +8,7 @@ ghost use Rattle.apfloat_ieee.specs.FlaggedTypes.{format_of};
 ghost use Rattle.ieee_operations.specs.Extrema.{quieted_datum};
 ghost use Rattle.apfloat_machines.specs.declared.flushing.Flush.{Flush};
 ghost use Rattle.apfloat_machines.specs.FlushedMachines.{AreFlushedAndSettled};
-ghost use Rattle.apfloat_machines.specs.Nans.{default_nan, default_payload};
-ghost use Rattle.apfloat_machines.specs.Nans.{machine_nan, nan_of, settled};
+ghost use Rattle.apfloat_machines.specs.Nans.{default_nan, machine_nan, nan_of, settled, signaling_first};
 ghost use Rattle.apfloat_machines.specs.Nans.{is_greater, is_unsupported, taken, takes_none};
 ghost use Rattle.apfloat_machines.specs.Operations.{AreSettled, AreSettledOfOne};
 
@@ -97,22 +96,11 @@ pub fn machine_nan<S: Flagged>(machine: Machine, x: IeeeFloat<S>, y: IeeeFloat<S
 pub fn default_nan<S: Flagged>(machine: Machine) -> IeeeFloat<S>
     ensures { result ≡ default_nan (format_of S.Flagged) machine }
 {
-    let positive: IeeeFloat<S> = IeeeFloat::qnan(Some(default_payload(machine)));
+    let positive: IeeeFloat<S> = IeeeFloat::qnan(Some(machine.default_payload));
     if machine.default_is_negative {
         -positive
     } else {
         positive
-    }
-}
-
-/// The payload of that NaN, of which a format keeps what it has room for.
-fn default_payload(machine: Machine) -> u128
-    ensures { result ≡ default_payload machine }
-{
-    if machine.default_has_ones {
-        u128::MAX
-    } else {
-        0
     }
 }
 
@@ -157,28 +145,8 @@ pub(crate) fn taken<S: Flagged>(choice: NanChoice, x: IeeeFloat<S>, y: IeeeFloat
 {
     match choice {
         NanChoice::First => if x.is_nan() { x } else { y },
-        NanChoice::SignalingFirst => {
-            if x.is_signaling() {
-                x
-            } else if y.is_signaling() {
-                y
-            } else if x.is_nan() {
-                x
-            } else {
-                y
-            }
-        }
-        NanChoice::SignalingLast => {
-            if y.is_signaling() {
-                y
-            } else if x.is_signaling() {
-                x
-            } else if y.is_nan() {
-                y
-            } else {
-                x
-            }
-        }
+        NanChoice::SignalingFirst => signaling_first(x, y),
+        NanChoice::SignalingLast => signaling_first(y, x),
         NanChoice::Greater => {
             if x.is_nan() && (!y.is_nan() || is_greater(x, y)) {
                 x
@@ -187,6 +155,21 @@ pub(crate) fn taken<S: Flagged>(choice: NanChoice, x: IeeeFloat<S>, y: IeeeFloat
             }
         }
         NanChoice::AlwaysDefault => if x.is_nan() { x } else { y },
+    }
+}
+
+/// The first signaling NaN, or else the first NaN.
+fn signaling_first<S: Flagged>(x: IeeeFloat<S>, y: IeeeFloat<S>) -> IeeeFloat<S>
+    ensures { result ≡ signaling_first (format_of S.Flagged) x y }
+{
+    if x.is_signaling() {
+        x
+    } else if y.is_signaling() {
+        y
+    } else if x.is_nan() {
+        x
+    } else {
+        y
     }
 }
 

@@ -152,13 +152,8 @@ fn signed_nan<S: Flagged>(machine: Machine, x: IeeeFloat<S>, width: usize) -> i1
         WholeOfNan::Zero => 0,
         WholeOfNan::Least => least_signed(width),
         WholeOfNan::Greatest => greatest_signed(width),
-        WholeOfNan::BySign => {
-            if x.is_negative() {
-                least_signed(width)
-            } else {
-                greatest_signed(width)
-            }
-        }
+        WholeOfNan::BySign if x.is_negative() => least_signed(width),
+        WholeOfNan::BySign => greatest_signed(width),
     }
 }
 
@@ -172,13 +167,8 @@ fn unsigned_nan<S: Flagged>(machine: Machine, x: IeeeFloat<S>, width: usize) -> 
         WholeOfNan::Zero => 0,
         WholeOfNan::Least => 0,
         WholeOfNan::Greatest => greatest_unsigned(width),
-        WholeOfNan::BySign => {
-            if x.is_negative() {
-                0
-            } else {
-                greatest_unsigned(width)
-            }
-        }
+        WholeOfNan::BySign if x.is_negative() => 0,
+        WholeOfNan::BySign => greatest_unsigned(width),
     }
 }
 

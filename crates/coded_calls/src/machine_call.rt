@@ -8,10 +8,9 @@ ghost use Rattle.formats_at_run_time.specs.ValueKinds.{of_format};
 ghost use Rattle.coded_calls.specs.Answers.{whole};
 ghost use Rattle.coded_calls.specs.declared.machine_call.MachineCall.TheVariants.{Operation};
 ghost use Rattle.coded_calls.specs.declared.machine_call.MachineOperation.TheVariants.{OfTwo};
-ghost use Rattle.coded_calls.specs.MachineCalls.{choices, conversion_call, format_on, is_tiny_before};
-ghost use Rattle.coded_calls.specs.MachineCalls.{machine_call};
-ghost use Rattle.coded_calls.specs.MachineCalls.{machine_coded, machine_format, machine_operation};
-ghost use Rattle.coded_calls.specs.MachineCalls.{of_one, operation_call, rule_coded};
+ghost use Rattle.coded_calls.specs.MachineCalls.{choices, conversion_call, format_on, is_tiny_before, machine_call};
+ghost use Rattle.coded_calls.specs.MachineCalls.{machine_coded, machine_format, machine_operation, of_one};
+ghost use Rattle.coded_calls.specs.MachineCalls.{operation_call, rule_coded};
 
 use crate::codes::{NO_SUCH_OPERATION, UNKNOWN_FORMAT};
 use apfloat_machines::{Machine, MinimumRule};
