@@ -1,11 +1,8 @@
 //! Machines, as records of their choices.
 
-ghost use Rattle.std.specs.Prelude.{◌≡◌, true};
+ghost use Rattle.std.specs.Prelude.{◌≡◌, true, [], ◌∷◌};
 ghost use Rattle.std.specs.List.{list_all};
 ghost use Rattle.apfloat_machines.specs.Machines.{is_consistent, machines};
-ghost use Rattle.apfloat_machines.specs.Machines.{x86, x87, arm, arm_default_nan, arm_alternate};
-ghost use Rattle.apfloat_machines.specs.Machines.{arm_alternate_default_nan, risc_v, power, s390x};
-ghost use Rattle.apfloat_machines.specs.Machines.{webassembly, ptx, mips_2008, loongarch, sparc, m68k};
 
 use crate::flushing::Flush;
 
@@ -255,21 +252,10 @@ impl Machine {
 
 /// The constants are the records of the tables, and none contradicts itself.
 pub fn machines_are_those_of_the_tables()
-    ensures x86 { Machine.X86 ≡ x86 }
-    ensures x87 { Machine.X87 ≡ x87 }
-    ensures arm { Machine.ARM ≡ arm }
-    ensures arm_default_nan { Machine.ARM_DEFAULT_NAN ≡ arm_default_nan }
-    ensures arm_alternate { Machine.ARM_ALTERNATE ≡ arm_alternate }
-    ensures arm_alternate_default_nan { Machine.ARM_ALTERNATE_DEFAULT_NAN
-        ≡ arm_alternate_default_nan }
-    ensures risc_v { Machine.RISC_V ≡ risc_v }
-    ensures power { Machine.POWER ≡ power }
-    ensures s390x { Machine.S390X ≡ s390x }
-    ensures webassembly { Machine.WEBASSEMBLY ≡ webassembly }
-    ensures ptx { Machine.PTX ≡ ptx }
-    ensures mips_2008 { Machine.MIPS_2008 ≡ mips_2008 }
-    ensures loongarch { Machine.LOONGARCH ≡ loongarch }
-    ensures sparc { Machine.SPARC ≡ sparc }
-    ensures m68k { Machine.M68K ≡ m68k }
+    ensures tables { Machine.X86 ∷ Machine.X87 ∷ Machine.ARM ∷ Machine.ARM_DEFAULT_NAN
+        ∷ Machine.ARM_ALTERNATE ∷ Machine.ARM_ALTERNATE_DEFAULT_NAN ∷ Machine.RISC_V
+        ∷ Machine.POWER ∷ Machine.S390X ∷ Machine.WEBASSEMBLY ∷ Machine.PTX
+        ∷ Machine.MIPS_2008 ∷ Machine.LOONGARCH ∷ Machine.SPARC ∷ Machine.M68K ∷ []
+        ≡ machines }
     ensures consistent { list_all is_consistent machines ≡ true }
 {}

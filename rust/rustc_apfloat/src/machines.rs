@@ -30,8 +30,8 @@ pub use library::{Flush, FusedOrder, Machine, MinimumRule, NanChoice, WholeOfNan
 
 same_types! { Flush, Machine, MinimumRule }
 
-/// A machine in a format that detects tininess as it does, the only ones of which answers are settled: a constant of
-/// another format does not compile.
+/// A machine in a format that detects tininess as the machine does. Answers are settled in no other, and a constant of
+/// another does not compile:
 ///
 /// ```compile_fail
 /// use rustc_apfloat::ieee::{IeeeFlags, SingleS};
