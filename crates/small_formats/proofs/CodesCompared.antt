@@ -1,11 +1,12 @@
 -- Codes are in the order of the numbers that they mean.
 use Rattle.std.proofs.Common.{◌≡◌, ℕ, zero, suc, ◌+◌, ◌-◌, ◌<◌, ◌≤◌, Bool, true, false}
-use Rattle.std.proofs.Common.{ap, ◌∙◌, arith, ℤ, pos, neg_ℤ}
+use Rattle.std.proofs.Common.{ap, ◌∙◌, arith, eqb, sym, ℤ, pos, neg_ℤ}
 use Rattle.std.specs.Prelude.{◌<ℤ◌}
 use Rattle.std.specs.declared.cmp.Ordering.{Ordering}
 use Rattle.std.specs.declared.cmp.Ordering.TheVariants.{Less, Equal, Greater}
 use Rattle.std.specs.Ordering.{int_cmp, MatchOrdering}
 use Rattle.std.specs.Cmp.{int_cmp_is, int_ranks}
+use Rattle.std.proofs.lemmas.Bool.{eq-eqb, ne_eqb}
 use Rattle.std.proofs.lemmas.Int.{ints}
 use Rattle.std.proofs.lemmas.Nat.{pow_pos}
 use Rattle.apfloat_model.specs.arithmetic.Exact.{signed}
@@ -34,6 +35,13 @@ not_below_number p (suc i) some =
     let e : i + 1 ≡ suc i = omega arith in
     let next : point p (i + 1) ≡ point p (suc i) = ap (λ (n : ℕ). point p n) e in
     omega (arith, before, step, next)
+
+-- only the first point is 0
+pub zero_code : (p i : ℕ) → 0 < p → eqb i 0 ≡ eqb (point p i) 0
+zero_code p zero some = sym (eq-eqb (point p 0) 0 (zero_point p))
+zero_code p (suc i) some =
+    let least = not_below_number p (suc i) some in
+    ne_eqb (suc i) 0 (λ e. omega (arith, e)) ∙ sym (ne_eqb (point p (suc i)) 0 (λ e. omega (arith, e, least)))
 
 -- what is known of two points
 record AreOrdered (i j a b : ℕ) : Type 0 where

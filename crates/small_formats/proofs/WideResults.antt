@@ -7,7 +7,8 @@ use Rattle.std.specs.Prelude.{ℤ, pos, negsuc, ◌+ℤ◌, ◌*ℤ◌}
 use Rattle.std.proofs.Math.Nat.{eq_of_mul-eq-mul_right, le_of_mul-le-mul_right, lt_of_mul-lt-mul_right, mul-pos}
 use Rattle.std.proofs.Math.Nat.{mul-le-mul_right, pow-le-pow_right}
 use Rattle.std.proofs.lemmas.Bool.{cases_eq, cases_lt, eq-eqb, eqb-true, le-ltb, lt-ltb, ne_eqb, MatchBool-at_false}
-use Rattle.std.proofs.lemmas.Bool.{MatchBool-at_true}
+use Rattle.std.proofs.lemmas.Bool.{false≢true}
+use Rattle.std.specs.Bool.{MatchBool}
 use Rattle.std.proofs.lemmas.Int.{ints}
 use Rattle.std.proofs.lemmas.Nat.{mod_below, pow-add, pow_pos}
 use Rattle.apfloat_model.specs.declared.kinds.NonfiniteBehavior.{NonfiniteBehavior}
@@ -22,17 +23,19 @@ use Rattle.apfloat_model.specs.arithmetic.Products.{IsProduct, product as produc
 use Rattle.apfloat_model.specs.arithmetic.Quotients.{IsQuotient, quotient as quotient_of}
 use Rattle.apfloat_model.specs.arithmetic.Roots.{IsDeliveredRoot, IsRoot, root as root_of}
 use Rattle.apfloat_model.specs.arithmetic.Sums.{IsDifference, IsSum, difference as difference_of, sum as sum_of}
-use Rattle.apfloat_model.specs.formats.Datum.{Datum, finite, infinite}
+use Rattle.apfloat_model.specs.formats.Datum.{Datum, finite, infinite, nan}
 use Rattle.apfloat_model.specs.formats.Format.{Format, largest, nan_base}
 use Rattle.apfloat_model.specs.formats.Nan.{qnan}
-use Rattle.apfloat_model.specs.order.Classes.{category_of, is_negative}
+use Rattle.apfloat_model.specs.order.Classes.{category_of, is_finite, is_negative, quanta_of}
 use Rattle.apfloat_model.specs.order.Predicates.{is_finite_category, is_zero_category}
+use Rattle.apfloat_model.specs.rounding.Answer.{IsAnswer}
 use Rattle.apfloat_model.specs.rounding.Flags.{Gives, bits_of}
 use Rattle.apfloat_model.specs.rounding.Grid.{IsBelow, IsAbove}
 use Rattle.apfloat_model.specs.rounding.Negation.{negated}
 use Rattle.apfloat_model.specs.rounding.Outcome.{Yields, exactly, invalid, rooted, rounded, totalled}
-use Rattle.apfloat_model.specs.rounding.Rounding.{IsDelivered, delivered_value, inexact_bit, leads_out, past_largest}
-use Rattle.apfloat_model.specs.rounding.Rounding.{zero_sign}
+use Rattle.apfloat_model.specs.rounding.Rounding.{IsDelivered, delivered_status, delivered_value, inexact_bit}
+use Rattle.apfloat_model.specs.rounding.Rounding.{leads_out, ok_bits}
+use Rattle.apfloat_model.specs.rounding.Rounding.{past_largest, zero_sign}
 use Rattle.apfloat_model.proofs.Outcomes.{yields_once}
 use Rattle.apfloat_model.proofs.formats.Greatest.{greatest_full}
 use Rattle.apfloat_model.proofs.general.Choices.{not_zero}
@@ -41,6 +44,7 @@ use Rattle.apfloat_model.proofs.arithmetic.RootDeliveries.{root_delivered}
 use Rattle.apfloat_model.proofs.arithmetic.RootSides.{AgreesWithRoot, agreeing, coarser}
 use Rattle.apfloat_model.proofs.rounding.Deliveries.{signed_some}
 use Rattle.apfloat_model.proofs.rounding.FarMagnitudes.{far_above, largest_below, largest_on_grid}
+use Rattle.apfloat_model.proofs.rounding.Picks.{pick_unique}
 use Rattle.apfloat_model.proofs.rounding.Laws.{below_le_above, delivered_once, zero_delivered, zero_on_grid}
 use Rattle.apfloat_model.proofs.whole_numbers.SignedNumbers.{largest_some}
 use Rattle.apfloat_model.proofs.whole_numbers.SignedNumbers.{negated_is}
@@ -49,16 +53,16 @@ use Rattle.round_to_odd.specs.Odd.{IsAnswerMadeOdd, IsToOdd, has_flag, is_odd_be
 use Rattle.round_to_odd.proofs.MadeOdd.{odd_of_truncated}
 use Rattle.round_to_odd.proofs.OddPoints.{AgreesAtEven, moved_on_grid, odd_agrees, wider_grid}
 use Rattle.round_to_odd.proofs.RootFractions.{fraction_delivered, moved_agrees, root_some}
-use Rattle.round_to_odd.proofs.SameDeliveries.{same_delivered}
+use Rattle.round_to_odd.proofs.SameDeliveries.{pick_same, same_delivered}
 use Rattle.round_to_odd.proofs.Sides.{same_sides}
-use Rattle.small_formats.specs.Arithmetic.{IsProjection, IsStored, IsStoredOnce, stored_datum, wide_format, widened}
+use Rattle.small_formats.specs.Arithmetic.{IsStored, IsStoredOnce, stored_datum}
 use Rattle.small_formats.specs.Codes.{datum_of, is_negative_code, largest_index, magnitude_of, point}
 use Rattle.small_formats.specs.Conversions.{IsInto, IsSaturated, IsStoredNumber}
 use Rattle.small_formats.specs.Storage.{StorageConstants, IsLawfulStorage, format_with}
 use Rattle.small_formats.proofs.OneAnswer.{code_once}
 use Rattle.small_formats.proofs.Points.{point_on_grid}
 use Rattle.small_formats.proofs.StoredPicks.{largest_point, not_greater}
-use Rattle.small_formats.proofs.blocks_lemmas.SameFractions.{delivered_across}
+use Rattle.small_formats.proofs.blocks_lemmas.SameFractions.{delivered_across, same_fraction}
 
 -- a format with more digits and exponents, and how many of its quanta a quantum of the storage format is
 pub record IsWider (c : StorageConstants) (f : Format) (times : ℕ) : Type 0 where
@@ -86,6 +90,18 @@ largest_far c f times w =
     let v = pow-add 2 (p + f.span) g.scale ∙ ap (λ (n : ℕ). n * 2 ^ g.scale) (pow-add 2 p f.span) in
     omega (arith, b, d, u, v)
 
+abbrev pub wide_format : Format
+wide_format =
+    record {
+      precision = 53;
+      scale = 2 ^ 20 + 52;
+      span = 2 ^ 21;
+      nonfinite = IEEE754;
+      explicit_integer_bit = false;
+      tiny_before_rounding = false;
+      ieee_flags = false;
+    }
+
 pub wide : (c : StorageConstants) → IsLawfulStorage c
     → IsWider c wide_format (2 ^ (wide_format.scale - (format_with c).scale))
 wide c law =
@@ -109,7 +125,9 @@ wide c law =
 -- a number that is converted exactly
 pub widened_is : (c : StorageConstants) (f : Format) → IsWider c f (2 ^ (f.scale - (format_with c).scale))
     → (code : ℕ) (value : Datum) (status : ℕ) (loses : Bool)
-    → IsExactlyConverted (format_with c) f (datum_of c code) value status loses → value ≡ widened f c code
+    → IsExactlyConverted (format_with c) f (datum_of c code) value status loses
+    → value ≡ finite (is_negative_code c code)
+    (point c.precision (magnitude_of c code) * 2 ^ (f.scale - (format_with c).scale))
 widened_is c f w code value status loses x =
     let g : Format = format_with c in let low = w.law.precision_low in let digits = w.digits in
     let i : ℕ = magnitude_of c code in let m : ℕ = point c.precision i in
@@ -176,32 +194,56 @@ sign_for own other (pos zero) = (λ h. absurd (omega (arith, h)), λ h. refl)
 sign_for own other (pos (suc n)) = (λ h. refl, λ h. absurd (omega (arith, h)))
 sign_for own other (negsuc n) = (λ h. refl, λ h. absurd (omega (arith, h)))
 
--- of a result toward zero in f, which is projected
-module _ (c : StorageConstants) (f : Format) (times : ℕ) (w : IsWider c f times) (mode : Round) (of_zero : Bool)
-    (truncated : StatusAnd Datum) (code status : ℕ) (t : IsProjection f c mode of_zero truncated code status) where
-  -- what is not a zero becomes a code with these flags
-  into : (x : Datum) → is_zero_category (category_of x) ≡ false → t.odd.value ≡ x
-      → IsInto c f mode x code t.flags t.loses
-      × (status ≡ (if is_finite_category (category_of x) then t.flags else bits_of t.odd.status))
-  into x some e =
-      let none = ap (λ (v : Datum). is_zero_category (category_of v)) e ∙ some in (
-        subst (λ (v : Datum). IsInto c f mode v code t.flags t.loses) e (MatchBool-at_false _ _ none t.is),
-        t.status_is none
-            ∙ ap (λ (v : Datum). if is_finite_category (category_of v) then t.flags else bits_of t.odd.status) e,
-      )
+-- what a value that is rounded to odd in f becomes, with its own flags if it is no number
+abbrev pub IsProjection : Format → StorageConstants → Round → Bool → Datum → ℕ → ℕ → ℕ → Type 0
+IsProjection f c mode of_zero x own code status =
+    MatchBool (is_finite x)
+    (MatchBool (eqb (quanta_of x) 0) (IsAnswer (finite of_zero 0) ok_bits (datum_of c code) status)
+    (IsSaturated c mode (is_negative x) (quanta_of x * 2 ^ (format_with c).scale) (2 ^ f.scale) code status))
+    (IsAnswer (stored_datum (format_with c) x) own (datum_of c code) status)
 
-  stored : (negative : Bool) (n x y : ℕ) → 0 < n → t.odd.value ≡ finite negative n
+module _ (f : Format) (c : StorageConstants) (mode : Round) (of_zero : Bool) where
+  pub zero_projected : (x : Datum) (own code status : ℕ) → is_zero_category (category_of x) ≡ true
+      → datum_of c code ≡ finite of_zero 0 → status ≡ ok_bits → IsProjection f c mode of_zero x own code status
+  zero_projected (nan b s) own code status e v h = absurd (false≢true e)
+  zero_projected (infinite b) own code status e v h = absurd (false≢true e)
+  zero_projected (finite b zero) own code status e v h = record { value_is = v; status_is = h }
+  zero_projected (finite b (suc n)) own code status e v h =
+      let off = not_zero (suc n) (omega arith) in let k = rw off at e in absurd (false≢true k)
+
+  -- what is not a zero becomes a code as any value of f does
+  pub value_projected : (x : Datum) (own flags code status : ℕ) (loses : Bool)
+      → is_zero_category (category_of x) ≡ false → IsInto c f mode x code flags loses
+      → status ≡ (if is_finite_category (category_of x) then flags else own)
+      → IsProjection f c mode of_zero x own code status
+  value_projected (nan b s) own flags code status loses some h e = record { value_is = h.value_is; status_is = e }
+  value_projected (infinite b) own flags code status loses some h e =
+      record { value_is = h.value_is; status_is = e }
+  value_projected (finite b zero) own flags code status loses some h e = absurd (false≢true (sym some))
+  value_projected (finite b (suc n)) own flags code status loses some h e =
+      let off = not_zero (suc n) (omega arith) in
+      let y : IsStoredNumber c f mode b (suc n) code flags loses = rw off at h in
+      let told : status ≡ flags = e ∙ rw off refl in
+      rw off
+      (subst (λ (k : ℕ). IsSaturated c mode b (suc n * 2 ^ (format_with c).scale) (2 ^ f.scale) code k) (sym told)
+      y.is_rounded)
+
+-- of a result toward zero in f, which is made odd there and projected
+module _ (c : StorageConstants) (f : Format) (times : ℕ) (w : IsWider c f times) (mode : Round) (of_zero : Bool)
+    (truncated made : StatusAnd Datum) (is_odd : IsAnswerMadeOdd f (is_negative truncated.value) truncated made)
+    (code status : ℕ) (t : IsProjection f c mode of_zero made.value (bits_of made.status) code status) where
+  into : (x : Datum) → made.value ≡ x → IsProjection f c mode of_zero x (bits_of made.status) code status
+  into x e = subst (λ (v : Datum). IsProjection f c mode of_zero v (bits_of made.status) code status) e t
+
+  stored : (negative : Bool) (n x y : ℕ) → 0 < n → made.value ≡ finite negative n
       → ((value : Datum)
       → IsDelivered (format_with c) mode negative (n * 2 ^ (format_with c).scale) (2 ^ f.scale) value status
       → IsDelivered (format_with c) mode negative x y value status)
       → IsStored c mode (rounded negative x y) code status
   stored negative n x y p e same =
-      let some = not_zero n p in let z = into (finite negative n) (rw some refl) e in
-      let y' : IsStoredNumber c f mode negative n code t.flags t.loses = MatchBool-at_false _ _ some z.0 in
-      let told : status ≡ t.flags = z.1 ∙ rw some refl in
+      let h = into (finite negative n) e in
       let s : IsSaturated c mode negative (n * 2 ^ (format_with c).scale) (2 ^ f.scale) code status =
-      subst (λ (k : ℕ). IsSaturated c mode negative (n * 2 ^ (format_with c).scale) (2 ^ f.scale) code k) (sym told)
-      y'.is_rounded in
+      rw (not_zero n p) at h in
       record {
         value = delivered_value (format_with c) mode negative s.pick;
         yields = same (delivered_value (format_with c) mode negative s.pick)
@@ -222,9 +264,9 @@ module _ (c : StorageConstants) (f : Format) (times : ℕ) (w : IsWider c f time
       let fs : ℕ = 2 ^ f.scale in let q : 0 < fs = pow_pos f.scale in
       let pieces : 0 < parts * fs = mul-pos some q in
       let sign = truncated_sign f negative amount parts truncated.value (bits_of truncated.status) w.kind d in
-      let odd : IsToOdd f negative amount parts t.odd.value (bits_of t.odd.status) =
-      odd_of_truncated f negative amount parts truncated t.odd (omega (arith, digits, low)) some d
-      (subst (λ (b : Bool). IsAnswerMadeOdd f b truncated t.odd) sign t.is_odd) in
+      let odd : IsToOdd f negative amount parts made.value (bits_of made.status) =
+      odd_of_truncated f negative amount parts truncated made (omega (arith, digits, low)) some d
+      (subst (λ (b : Bool). IsAnswerMadeOdd f b truncated made) sign is_odd) in
       let o : ℕ = odd_between odd.below odd.above in
       let agrees : AgreesAtEven (f.precision - 1) amount parts o =
       odd_agrees f.precision odd.below odd.above amount parts (omega (arith, digits)) some odd.is_below odd.is_above in
@@ -259,10 +301,10 @@ module _ (c : StorageConstants) (f : Format) (times : ℕ) (w : IsWider c f time
       (cases_lt (largest f) o)
 
   -- an exact zero
-  zero_stored : (sign : Bool) → of_zero ≡ sign → is_zero_category (category_of t.odd.value) ≡ true
+  zero_stored : (sign own : Bool) → of_zero ≡ sign → made.value ≡ finite own 0
       → IsStored c mode (exactly (finite sign 0)) code status
-  zero_stored sign z e =
-      let r = MatchBool-at_true _ _ e t.is in
+  zero_stored sign own z e =
+      let r : IsAnswer (finite of_zero 0) ok_bits (datum_of c code) status = into (finite own 0) e in
       record {
         value = finite sign 0;
         yields = record { value_is = refl; status_is = r.status_is };
@@ -289,8 +331,8 @@ module _ (c : StorageConstants) (f : Format) (times : ℕ) (w : IsWider c f time
       e ∙ ap (λ (n : ℕ). n * 2 ^ (format_with c).scale * y) none ∙ omega arith in
       let nothing : x ≡ 0 = eq_of_mul-eq-mul_right (parts * 2 ^ f.scale) pieces x 0 k in
       let flag = ap (λ (n : ℕ). has_flag n inexact_bit) of_none.1 in
-      let r = zero_stored sign (as_zero none) (ap (λ (v : Datum). is_zero_category (category_of v))
-      (MatchBool-at_false _ _ flag t.is_odd.value_is ∙ of_none.0)) in
+      let r = zero_stored sign (zero_sign f.nonfinite negative) (as_zero none)
+      (MatchBool-at_false _ _ flag is_odd.value_is ∙ of_none.0) in
       record {
         value = finite sign 0;
         yields = subst (IsDelivered (format_with c) mode sign x y (finite sign 0)) (sym r.yields.status_is)
@@ -367,11 +409,12 @@ module _ (c : StorageConstants) (f : Format) (times : ℕ) (w : IsWider c f time
       → IsStored c mode (invalid (format_with c)) code status
   not_a_number v s =
       let flag = ap (λ (n : ℕ). has_flag n inexact_bit) s in
-      let z = into (qnan f 0) refl (MatchBool-at_false _ _ flag t.is_odd.value_is ∙ v) in
+      let r : IsAnswer (finite false 0) (bits_of made.status) (datum_of c code) status =
+      into (qnan f 0) (MatchBool-at_false _ _ flag is_odd.value_is ∙ v) in
       record {
         value = qnan (format_with c) 0;
-        yields = record { value_is = refl; status_is = z.1 ∙ t.is_odd.status_is ∙ s };
-        value_is = z.0.value_is;
+        yields = record { value_is = refl; status_is = r.status_is ∙ is_odd.status_is ∙ s };
+        value_is = r.value_is;
       }
 
   none : (n : ℕ) → n ≡ 0 → eqb (n * times) 0 ≡ true
@@ -395,12 +438,13 @@ module _ (c : StorageConstants) (f : Format) (times : ℕ) (w : IsWider c f time
       let y = rw (none n e, not_zero (m * times) (more m p)) at h in
       let v = y.value_is ∙ ap (λ (k : NonfiniteBehavior). past_largest k (nan_base f) s) w.kind in
       let flag = ap (λ (n : ℕ). has_flag n inexact_bit) y.status_is in
-      let r = into (infinite s) refl (MatchBool-at_false _ _ flag t.is_odd.value_is ∙ v) in
+      let r : IsAnswer (finite s (largest (format_with c))) (bits_of made.status) (datum_of c code) status =
+      into (infinite s) (MatchBool-at_false _ _ flag is_odd.value_is ∙ v) in
       rw (eq-eqb n 0 e, ne_eqb m 0 p)
       (record {
         value = infinite s;
-        yields = record { value_is = refl; status_is = r.1 ∙ t.is_odd.status_is ∙ y.status_is };
-        value_is = r.0.value_is;
+        yields = record { value_is = refl; status_is = r.status_is ∙ is_odd.status_is ∙ y.status_is };
+        value_is = r.value_is;
       }))
       (cases_eq m 0))
       (λ (p : n ≡ 0 → ⊥).
@@ -439,8 +483,7 @@ module _ (c : StorageConstants) (f : Format) (times : ℕ) (w : IsWider c f time
       (λ (e : n ≡ 0).
       let y = rw (none n e) at h in let flag = ap (λ (k : ℕ). has_flag k inexact_bit) y.status_is in
       rw (eq-eqb n 0 e)
-      (zero_stored b z (ap (λ (v : Datum). is_zero_category (category_of v))
-      (MatchBool-at_false _ _ flag t.is_odd.value_is ∙ y.value_is))))
+      (zero_stored b b z (MatchBool-at_false _ _ flag is_odd.value_is ∙ y.value_is)))
       (λ (p : n ≡ 0 → ⊥).
       let y = rw (not_zero (n * times) (more n p)) at h in
       rw (ne_eqb n 0 p) (nonzero b (omega (arith, p)) y))
@@ -456,6 +499,46 @@ module _ (c : StorageConstants) (f : Format) (times : ℕ) (w : IsWider c f time
           ap (λ (i : ℕ). n * times * i) w.scale ∙ omega arith in
           root_once (n * 2 ^ (format_with c).scale) (mul-pos above (pow_pos (format_with c).scale))
           (subst (λ (i : ℕ). Gives (IsDeliveredRoot f TowardZero i 1) truncated) e y)
+
+-- ---- conversions
+
+-- equal fractions are stored alike
+saturated_across : (c : StorageConstants) (mode : Round) (b : Bool) (m n x y code status : ℕ) → 0 < c.precision → 0 < n
+    → 0 < y → m * y ≡ x * n → IsSaturated c mode b x y code status → IsSaturated c mode b m n code status
+saturated_across c mode b m n x y code status some p q e s =
+    let g : Format = format_with c in
+    let pick = pick_same c.precision m n x y (same_fraction (c.precision + 1) 2 m n x y p q e) mode b s.pick some q
+    s.is_pick in
+    let told = delivered_across g mode b m n x y (delivered_value g mode b s.pick) status some p q e
+    (record { pick = s.pick; is_pick = s.is_pick; value_is = refl; status_is = s.status_is }) in
+    record {
+      pick = s.pick;
+      is_pick = pick;
+      value_is = s.value_is;
+      status_is = told.status_is
+          ∙ ap (λ (i : ℕ). delivered_status g mode b m n i)
+          (pick_unique c.precision mode b m n told.pick s.pick told.is_pick pick);
+    }
+
+-- a number in the quanta of f is stored as in its own
+pub into_own : (c d : StorageConstants) (f : Format) (times : ℕ) → IsLawfulStorage c → IsWider d f times
+    → (mode : Round) (b : Bool) (n code status : ℕ) (loses : Bool)
+    → IsInto c f mode (finite b (n * times)) code status loses
+    → IsInto c (format_with d) mode (finite b n) code status loses
+into_own c d f times law w mode b zero code status loses h = rw (eq-eqb (0 * times) 0 (omega arith)) at h
+into_own c d f times law w mode b (suc n) code status loses h =
+    let low = law.precision_low in let above : 0 < suc n * times = mul-pos (omega arith) w.some in
+    let y : IsStoredNumber c f mode b (suc n * times) code status loses = rw (not_zero (suc n * times) above) at h in
+    rw (not_zero (suc n) (omega arith))
+    (record {
+      is_rounded = saturated_across c mode b (suc n * 2 ^ (format_with c).scale) (2 ^ (format_with d).scale)
+          (suc n * times * 2 ^ (format_with c).scale) (2 ^ f.scale) code status (omega (arith, low))
+          (pow_pos (format_with d).scale) (pow_pos f.scale)
+          (ap (λ (i : ℕ). suc n * 2 ^ (format_with c).scale * i) w.scale ∙ omega arith) y.is_rounded;
+      loses_is = y.loses_is;
+    })
+
+-- ---- one answer
 
 pub stored_once : IsStoredOnce
 stored_once c mode outcome code other status flags law l k x y =

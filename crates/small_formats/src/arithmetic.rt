@@ -4,17 +4,26 @@
 //! enough. That result, rounded to odd, tells all that a rounding has to know, and `StoredFloat::from_value` rounds it:
 //! so the exact result is rounded once.
 
-ghost use Rattle.std.specs.Prelude.{◌≡◌, ◌-◌, ◌^◌, false, pos, neg_ℤ, refl};
+ghost use Rattle.std.specs.Prelude.{◌≡◌, ◌+◌, ◌-◌, ◌*◌, ◌^◌, false, eqb, pos, neg_ℤ, refl};
+ghost use Rattle.std.specs.Bool.{MatchBool};
 ghost use Rattle.apfloat_model.specs.declared.kinds.NonfiniteBehavior.TheVariants.{IEEE754};
+ghost use Rattle.apfloat_model.specs.formats.Datum.{finite};
+ghost use Rattle.apfloat_model.specs.order.Classes.{is_finite, is_negative, quanta_of};
+ghost use Rattle.apfloat_model.specs.rounding.Answer.{IsAnswer};
 ghost use Rattle.apfloat_model.proofs.formats.LawTest.{lawful_from_test};
 ghost use Rattle.apfloat_model.specs.arithmetic.FusedSums.{fused_sum};
 ghost use Rattle.apfloat_model.specs.arithmetic.Products.{product};
 ghost use Rattle.apfloat_model.specs.arithmetic.Quotients.{quotient};
 ghost use Rattle.apfloat_model.specs.arithmetic.Roots.{root};
 ghost use Rattle.apfloat_model.specs.arithmetic.Sums.{difference, sum};
-ghost use Rattle.apfloat_model.specs.rounding.Flags.{Gives};
-ghost use Rattle.small_formats.specs.Arithmetic.{IsProjection, IsStored, wide_format, widened};
-ghost use Rattle.small_formats.specs.Codes.{datum_of};
+ghost use Rattle.apfloat_model.specs.rounding.Flags.{Gives, bits_of};
+ghost use Rattle.apfloat_model.specs.rounding.Rounding.{ok_bits};
+ghost use Rattle.apfloat_ieee.specs.FlaggedTypes.{format_of as flagged_format_of};
+ghost use Rattle.apfloat_ieee.specs.Types.{format_of};
+ghost use Rattle.round_to_odd.specs.Odd.{IsAnswerMadeOdd};
+ghost use Rattle.small_formats.specs.Arithmetic.{IsStored, stored_datum};
+ghost use Rattle.small_formats.specs.Codes.{datum_of, is_negative_code, magnitude_of, point};
+ghost use Rattle.small_formats.specs.Conversions.{IsSaturated};
 ghost use Rattle.small_formats.specs.Storage.{format_with};
 ghost use Rattle.small_formats.specs.Types.{constants_of};
 
@@ -23,7 +32,7 @@ use crate::stored::StoredFloat;
 use apfloat_arithmetic::products::product_sign;
 use apfloat_arithmetic::sums::sign_of_zero;
 use apfloat_base::{ExpInt, Float, NonfiniteBehavior, Round, Status, StatusAnd};
-use apfloat_ieee::{IeeeFloat, Semantics};
+use apfloat_ieee::{Flagged, IeeeFloat, Semantics};
 use round_to_odd::to_odd;
 
 /// A format for computing only: 53 digits, and the widest range of exponents that a format may have.
@@ -86,24 +95,38 @@ impl Semantics for WideS {
     ghost lawful = { lawful_from_test _ refl };
 }
 
-/// The number in the wide format.
-fn widened<F: StorageFormat>(x: StoredFloat<F>) -> IeeeFloat<WideS>
-    ensures { result ≡ widened wide_format (constants_of F.StorageFormat) x }
+/// The number in the wide format, whose quantum is 2^-(2^20 + 52).
+pub(crate) fn widened<F: StorageFormat>(x: StoredFloat<F>) -> IeeeFloat<WideS>
+    ensures { let c = constants_of F.StorageFormat in result ≡ finite (is_negative_code c x)
+        (point c.precision (magnitude_of c x) * 2 ^ (2 ^ 20 + 52 - (format_with c).scale)) }
 {
     let mut loses_info = false;
     x.convert_r(Round::TowardZero, &mut loses_info).value
 }
 
-/// The result of an operation, from its result toward zero in the wide format; `of_zero` is the sign of a zero.
-fn projected<F: StorageFormat>(
-    truncated: StatusAnd<IeeeFloat<WideS>>,
+/// A result toward zero, rounded to odd.
+fn made_odd<S: Flagged>(truncated: StatusAnd<IeeeFloat<S>>) -> StatusAnd<IeeeFloat<S>>
+    ensures { IsAnswerMadeOdd (flagged_format_of S.Flagged) (is_negative truncated.value) truncated
+        result }
+{
+    to_odd(truncated, truncated.value.is_negative())
+}
+
+/// What a result that is rounded to odd becomes: a number is rounded, and other values keep their flags; `of_zero` is
+/// the sign of a zero.
+fn projected<S: Semantics, F: StorageFormat>(
+    odd: StatusAnd<IeeeFloat<S>>,
     of_zero: bool,
     round: Round,
 ) -> StatusAnd<StoredFloat<F>>
-    ensures { Gives (IsProjection wide_format (constants_of F.StorageFormat) round of_zero
-        truncated) result }
+    ensures { let c = constants_of F.StorageFormat in let f = format_with c in
+        let x = odd.value in let value = datum_of c result.value in
+        let status = bits_of result.status in MatchBool (is_finite x)
+        (MatchBool (eqb (quanta_of x) 0) (IsAnswer (finite of_zero 0) ok_bits value status)
+        (IsSaturated c round (is_negative x) (quanta_of x * 2 ^ f.scale)
+        (2 ^ (format_of S.Semantics).scale) result.value status))
+        (IsAnswer (stored_datum f x) (bits_of odd.status) value status) }
 {
-    let odd = to_odd(truncated, truncated.value.is_negative());
     if odd.value.is_zero() {
         return Status::OK.and(StoredFloat::with_sign(of_zero, 0));
     }
@@ -125,7 +148,7 @@ impl<F: StorageFormat> StoredFloat<F> {
     {
         let truncated = widened(self).add_r(widened(rhs), Round::TowardZero);
         let of_zero = sign_of_zero(round, self.is_negative(), rhs.is_negative());
-        projected(truncated, of_zero, round)
+        projected(made_odd(truncated), of_zero, round)
     }
 
     /// `self - rhs`, rounded once, as the sum of `self` and the number opposite to `rhs`.
@@ -135,7 +158,7 @@ impl<F: StorageFormat> StoredFloat<F> {
     {
         let truncated = widened(self).sub_r(widened(rhs), Round::TowardZero);
         let of_zero = sign_of_zero(round, self.is_negative(), !rhs.is_negative());
-        projected(truncated, of_zero, round)
+        projected(made_odd(truncated), of_zero, round)
     }
 
     /// `self * rhs`, rounded once, with the flags of that rounding.
@@ -145,7 +168,7 @@ impl<F: StorageFormat> StoredFloat<F> {
     {
         let truncated = widened(self).mul_r(widened(rhs), Round::TowardZero);
         let of_zero = product_sign(self.is_negative(), rhs.is_negative());
-        projected(truncated, of_zero, round)
+        projected(made_odd(truncated), of_zero, round)
     }
 
     /// `self / rhs`, rounded once, with the flags of that rounding. A number divided by zero is the largest number with
@@ -156,7 +179,7 @@ impl<F: StorageFormat> StoredFloat<F> {
     {
         let truncated = widened(self).div_r(widened(rhs), Round::TowardZero);
         let of_zero = product_sign(self.is_negative(), rhs.is_negative());
-        projected(truncated, of_zero, round)
+        projected(made_odd(truncated), of_zero, round)
     }
 
     /// The square root, rounded once, with the flags of that rounding. A zero is its own root, and the root of a number
@@ -165,11 +188,8 @@ impl<F: StorageFormat> StoredFloat<F> {
         ensures { let c = constants_of F.StorageFormat in Gives (IsStored c round
             (root (format_with c) (datum_of c self))) result }
     {
-        projected(
-            widened(self).sqrt_r(Round::TowardZero),
-            self.is_negative(),
-            round,
-        )
+        let truncated = widened(self).sqrt_r(Round::TowardZero);
+        projected(made_odd(truncated), self.is_negative(), round)
     }
 
     /// `self * multiplicand + addend`, rounded once (fusedMultiplyAdd); an exact zero has the sign of a sum.
@@ -182,6 +202,6 @@ impl<F: StorageFormat> StoredFloat<F> {
         let truncated = widened(self).mul_add_r(factor, term, Round::TowardZero);
         let left = product_sign(self.is_negative(), multiplicand.is_negative());
         let of_zero = sign_of_zero(round, left, addend.is_negative());
-        projected(truncated, of_zero, round)
+        projected(made_odd(truncated), of_zero, round)
     }
 }

@@ -6,6 +6,7 @@
 //! too (`float8_e3m4`).
 //!
 //! `arithmetic` has their operations: each is computed in a wider format, rounded to odd there, and rounded once.
+//! `from_stored` converts between them, `extrema` has minima and maxima.
 //!
 //! `from_value_by` has two more modes, to odd and with random digits (`modes`); `from_quotient` rounds the quotient of
 //! two values (`quotients`).
@@ -22,8 +23,10 @@
 pub mod arithmetic;
 pub mod blocks;
 pub mod cuts;
+mod extrema;
 pub mod float8_e3m4;
 mod format;
+mod from_stored;
 mod from_value;
 mod from_value_by;
 pub mod grid_points;

@@ -1,6 +1,6 @@
 -- Blocks have one answer.
 use Rattle.std.proofs.Common.{◌≡◌, ℕ, ◌^◌, ◌<◌, ◌≤◌, Bool, eqb, List, length, sym, refl, ap, ◌∙◌, subst, arith}
-use Rattle.std.proofs.Common.{Ok, Err}
+use Rattle.std.proofs.Common.{Result, Ok, Err}
 use Rattle.std.specs.Prelude.{All, Any, ℤ, pos, ◌-ℤ◌}
 use Rattle.apfloat_model.specs.Determined.{Determines, DeterminesBoth}
 use Rattle.apfloat_model.specs.declared.kinds.Round.{Round}
@@ -15,12 +15,14 @@ use Rattle.apfloat_arithmetic.proofs.other_formats_lemmas.Once.{has_one_product}
 use Rattle.small_formats.specs.Scales.{nan_code, scale_format, scale_of}
 use Rattle.small_formats.specs.declared.blocks.counts.Counts.{Counts}
 use Rattle.small_formats.specs.declared.blocks.elements.ElementFormat.{ElementFormat}
+use Rattle.small_formats.specs.declared.blocks.errors.BlockError.{BlockError}
 use Rattle.small_formats.specs.declared.blocks.errors.BlockError.TheVariants.{Empty, Lengths, CodeTooWide}
 use Rattle.small_formats.specs.declared.blocks.mx.Block.{Block}
 use Rattle.small_formats.specs.blocks.Elements.{IsQuotientBy, element_datum, format_of_element, max_exp}
 use Rattle.small_formats.specs.blocks.Laws.{IsDequantizedOnce, IsQuantizedOnce}
 use Rattle.small_formats.specs.blocks.Magnitudes.{are_finite, greatest_magnitude}
-use Rattle.small_formats.specs.blocks.MxBlocks.{IsBlock, IsBlockOfNan, IsBlockOfNumbers, IsScaled}
+use Rattle.small_formats.specs.blocks.MxBlocks.{IsBlock, IsBlockOfNan, IsBlockOfNumbers, IsDequantized}
+use Rattle.small_formats.specs.blocks.MxBlocks.{IsQuantized, IsScaled}
 use Rattle.small_formats.specs.blocks.MxScales.{IsBlockScale, IsScaleOfNumber, clamped_code}
 use Rattle.small_formats.specs.blocks.Places.{AreCounted}
 use Rattle.small_formats.proofs.blocks_lemmas.ElementsOnce.{quotient_by_once}
@@ -78,26 +80,24 @@ none_some : (n : ℕ) → n ≡ 0 → 0 < n → ⊥
 none_some n e l = omega (arith, e, l)
 
 pub quantized_once : IsQuantizedOnce
-quantized_once element f mode values before after other (Ok block) (Ok reply) x y =
-    let same = block_once element f mode values after other block reply x.2 y.2 in
-    (same.0, ap Ok same.1)
-quantized_once element f mode values before after other (Ok block) (Err Empty) x y =
-    absurd (none_some (length values) y.0 x.0)
-quantized_once element f mode values before after other (Ok block) (Err Lengths) x y = absurd (y.1 x.1)
-quantized_once element f mode values before after other (Ok block) (Err CodeTooWide) x y = absurd y
-quantized_once element f mode values before after other (Err Empty) (Ok reply) x y =
-    absurd (none_some (length values) x.0 y.0)
-quantized_once element f mode values before after other (Err Empty) (Err Empty) x y = (x.1 ∙ sym y.1, refl)
-quantized_once element f mode values before after other (Err Empty) (Err Lengths) x y =
-    absurd (none_some (length values) x.0 y.0)
-quantized_once element f mode values before after other (Err Empty) (Err CodeTooWide) x y = absurd y
-quantized_once element f mode values before after other (Err Lengths) (Ok reply) x y = absurd (x.1 y.1)
-quantized_once element f mode values before after other (Err Lengths) (Err Empty) x y =
-    absurd (none_some (length values) y.0 x.0)
-quantized_once element f mode values before after other (Err Lengths) (Err Lengths) x y =
-    (x.2 ∙ sym y.2, refl)
-quantized_once element f mode values before after other (Err Lengths) (Err CodeTooWide) x y = absurd y
-quantized_once element f mode values before after other (Err CodeTooWide) reply x y = absurd x
+quantized_once element f mode values before after other = once
+  where
+    once : (answer reply : Result Block BlockError) → IsQuantized element f mode values before after answer
+        → IsQuantized element f mode values before other reply → (after ≡ other) × (answer ≡ reply)
+    once (Ok block) (Ok reply) x y =
+        let same = block_once element f mode values after other block reply x.2 y.2 in (same.0, ap Ok same.1)
+    once (Ok block) (Err Empty) x y = absurd (none_some (length values) y.0 x.0)
+    once (Ok block) (Err Lengths) x y = absurd (y.1 x.1)
+    once (Ok block) (Err CodeTooWide) x y = absurd y
+    once (Err Empty) (Ok reply) x y = absurd (none_some (length values) x.0 y.0)
+    once (Err Empty) (Err Empty) x y = (x.1 ∙ sym y.1, refl)
+    once (Err Empty) (Err Lengths) x y = absurd (none_some (length values) x.0 y.0)
+    once (Err Empty) (Err CodeTooWide) x y = absurd y
+    once (Err Lengths) (Ok reply) x y = absurd (x.1 y.1)
+    once (Err Lengths) (Err Empty) x y = absurd (none_some (length values) y.0 x.0)
+    once (Err Lengths) (Err Lengths) x y = (x.2 ∙ sym y.2, refl)
+    once (Err Lengths) (Err CodeTooWide) x y = absurd y
+    once (Err CodeTooWide) reply x y = absurd x
 
 -- ---- out of a block
 
@@ -118,36 +118,26 @@ not_both bits codes few (place, code, within, is, wide) =
     omega (arith, low, wide)
 
 pub dequantized_once : IsDequantizedOnce
-dequantized_once element g mode scale codes before after other (Ok counts) (Ok reply) x y =
-    let same = counted_once (IsScaled element g mode scale) (scaled_once element g mode scale) codes after other counts
-    reply x.3 y.3 in
-    (same.0, ap Ok same.1)
-dequantized_once element g mode scale codes before after other (Ok counts) (Err Empty) x y =
-    absurd (none_some (length codes) y.0 x.0)
-dequantized_once element g mode scale codes before after other (Ok counts) (Err Lengths) x y =
-    absurd (y.1 x.1)
-dequantized_once element g mode scale codes before after other (Ok counts) (Err CodeTooWide) x y =
-    absurd (not_both _ codes x.2 y.2)
-dequantized_once element g mode scale codes before after other (Err Empty) (Ok reply) x y =
-    absurd (none_some (length codes) x.0 y.0)
-dequantized_once element g mode scale codes before after other (Err Empty) (Err Empty) x y = (x.1 ∙ sym y.1, refl)
-dequantized_once element g mode scale codes before after other (Err Empty) (Err Lengths) x y =
-    absurd (none_some (length codes) x.0 y.0)
-dequantized_once element g mode scale codes before after other (Err Empty) (Err CodeTooWide) x y =
-    absurd (none_some (length codes) x.0 y.0)
-dequantized_once element g mode scale codes before after other (Err Lengths) (Ok reply) x y =
-    absurd (x.1 y.1)
-dequantized_once element g mode scale codes before after other (Err Lengths) (Err Empty) x y =
-    absurd (none_some (length codes) y.0 x.0)
-dequantized_once element g mode scale codes before after other (Err Lengths) (Err Lengths) x y =
-    (x.2 ∙ sym y.2, refl)
-dequantized_once element g mode scale codes before after other (Err Lengths) (Err CodeTooWide) x y =
-    absurd (x.1 y.1)
-dequantized_once element g mode scale codes before after other (Err CodeTooWide) (Ok reply) x y =
-    absurd (not_both _ codes y.2 x.2)
-dequantized_once element g mode scale codes before after other (Err CodeTooWide) (Err Empty) x y =
-    absurd (none_some (length codes) y.0 x.0)
-dequantized_once element g mode scale codes before after other (Err CodeTooWide) (Err Lengths) x y =
-    absurd (y.1 x.1)
-dequantized_once element g mode scale codes before after other (Err CodeTooWide) (Err CodeTooWide) x y =
-    (x.3 ∙ sym y.3, refl)
+dequantized_once element g mode scale codes before after other = once
+  where
+    once : (answer reply : Result Counts BlockError) → IsDequantized element g mode scale codes before after answer
+        → IsDequantized element g mode scale codes before other reply → (after ≡ other) × (answer ≡ reply)
+    once (Ok counts) (Ok reply) x y =
+        let same = counted_once (IsScaled element g mode scale) (scaled_once element g mode scale) codes after other
+        counts reply x.3 y.3 in
+        (same.0, ap Ok same.1)
+    once (Ok counts) (Err Empty) x y = absurd (none_some (length codes) y.0 x.0)
+    once (Ok counts) (Err Lengths) x y = absurd (y.1 x.1)
+    once (Ok counts) (Err CodeTooWide) x y = absurd (not_both _ codes x.2 y.2)
+    once (Err Empty) (Ok reply) x y = absurd (none_some (length codes) x.0 y.0)
+    once (Err Empty) (Err Empty) x y = (x.1 ∙ sym y.1, refl)
+    once (Err Empty) (Err Lengths) x y = absurd (none_some (length codes) x.0 y.0)
+    once (Err Empty) (Err CodeTooWide) x y = absurd (none_some (length codes) x.0 y.0)
+    once (Err Lengths) (Ok reply) x y = absurd (x.1 y.1)
+    once (Err Lengths) (Err Empty) x y = absurd (none_some (length codes) y.0 x.0)
+    once (Err Lengths) (Err Lengths) x y = (x.2 ∙ sym y.2, refl)
+    once (Err Lengths) (Err CodeTooWide) x y = absurd (x.1 y.1)
+    once (Err CodeTooWide) (Ok reply) x y = absurd (not_both _ codes y.2 x.2)
+    once (Err CodeTooWide) (Err Empty) x y = absurd (none_some (length codes) y.0 x.0)
+    once (Err CodeTooWide) (Err Lengths) x y = absurd (y.1 x.1)
+    once (Err CodeTooWide) (Err CodeTooWide) x y = (x.3 ∙ sym y.3, refl)

@@ -1,7 +1,6 @@
 use Rattle.apfloat_model.specs.rounding.Flags.{bits_of}
-use Rattle.small_formats.specs.Arithmetic.{wide_format}
 use Rattle.small_formats.specs.Types.{constants_of}
-use Rattle.small_formats.proofs.WideResults.{wide, widened_is}
+use Rattle.small_formats.proofs.WideResults.{wide, wide_format, widened_is}
 use Rattle.small_formats.proofs.arithmetic.widened.Goals as goal
 
 pub returns : goal.returns

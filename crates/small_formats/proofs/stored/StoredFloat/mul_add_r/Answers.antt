@@ -6,8 +6,8 @@ use Rattle.small_formats.proofs.stored.StoredFloat.mul_add_r.Goals as goal
 pub returns : goal.returns
 returns g c =
     let d = constants_of g.F.StorageFormat in
-    fused _ _ _ (wide d g.F.StorageFormat.lawful) c.args.round _ _ _ _
-    c.projected.ensures (is_negative_code d c.args.self) (is_negative_code d c.args.multiplicand)
+    fused _ _ _ (wide d g.F.StorageFormat.lawful) c.args.round _ _ _
+    c.made_odd.ensures _ _ c.projected.ensures (is_negative_code d c.args.self) (is_negative_code d c.args.multiplicand)
     (is_negative_code d c.args.addend) (point d.precision (magnitude_of d c.args.self))
     (point d.precision (magnitude_of d c.args.multiplicand)) (point d.precision (magnitude_of d c.args.addend))
     (rw (c.product_sign-left.ensures, c.is_negative.ensures, c.is_negative-2.ensures, c.is_negative-3.ensures)
