@@ -3,7 +3,7 @@
     python3 evidence/stored_arithmetic.py | diff - tests/rows/stored_arithmetic.tsv
 
 An operation is one of the fractions that the codes mean, and its result is looked up between these numbers, as in
-evidence/storage_formats.py. A root is looked up by its square.
+evidence/storage_formats.py. A root is looked up by its square. A conversion looks up the fraction in another format.
 """
 
 from functools import lru_cache
@@ -100,6 +100,45 @@ def multiply_add(form, mode, a, b, c):
     return signed_result(form, mode, x * y + z, zero_sign(mode, s != t, u))
 
 
+def convert(source, target, mode, a):
+    """A code of one format in another, its flags, and whether information is lost."""
+    negative, size = source.value(a)
+    return target.store(Source, Finite(negative, size), mode)
+
+
+def order(a, b):
+    """The place of an order in a checksum."""
+    return 2 + (a > b) - (a < b)
+
+
+def compare(form, a, b):
+    """The order of two numbers; both zeros are equal."""
+    return (order(number(form, a)[1], number(form, b)[1]),)
+
+
+def ranked(form, code):
+    """A code by its number, -0 below +0."""
+    negative, x = number(form, code)
+    return x, not negative
+
+
+def total_compare(form, a, b):
+    """The order of two numbers with -0 below +0."""
+    return (order(ranked(form, a), ranked(form, b)),)
+
+
+def lesser(form, a, b):
+    """The lesser number, or -0."""
+    return (min(a, b, key=lambda code: ranked(form, code)),)
+
+
+def greater(form, a, b):
+    """The greater number, or +0."""
+    return (max(a, b, key=lambda code: ranked(form, code)),)
+
+
+ORDERS = (("partial_cmp", compare), ("total_cmp", total_compare), ("minimum", lesser), ("maximum", greater))
+
 OPERATIONS = (
     ("add_r", add, (1, 1)),
     ("sub_r", subtract, (1, 1)),
@@ -119,6 +158,13 @@ def lines():
                 codes = product(*(range(0, 1 << form.bits, step) for step in steps))
                 results = (operation(form, mode, *operands) for operands in codes)
                 yield every(call, form.name.lower(), mode, " ".join(map(str, steps)), results)
+        for call, operation in ORDERS:
+            codes = product(range(1 << form.bits), repeat=2)
+            yield every(call, form.name.lower(), None, "1 1", (operation(form, *pair) for pair in codes))
+    for source, target in product(ELEMENTS, repeat=2):
+        for mode in MODES:
+            results = (convert(source, target, mode, code) for code in range(1 << source.bits))
+            yield every("convert_r", f"{source.name}>{target.name}".lower(), mode, "1", results)
 
 
 if __name__ == "__main__":

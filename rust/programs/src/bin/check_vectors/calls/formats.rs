@@ -29,6 +29,7 @@ pub(crate) fn answer(formats: Formats, request: Request, text: &str) -> Answered
         | Formats::ToFewerDigits(_)
         | Formats::ToStorage(_, _)
         | Formats::FromStorage(_, _)
+        | Formats::BetweenStorage(_, _)
         | Formats::Storage(_)
         | Formats::OfFlags => Err(CallFault::Support),
     }

@@ -34,7 +34,9 @@ pub fn answer(formats: Formats, request: Request, text: &str) -> Answered {
     match (formats, request.call) {
         (Formats::OnMachine(_) | Formats::BetweenOnMachine(_, _), _) => on_machine::answer(formats, request),
         (_, Call::Operation(OperationCall::OfBlock(call))) => blocks::answer(formats, call, request, text),
-        (Formats::ToStorage(_, _) | Formats::FromStorage(_, _), _) => storage::answer(formats, request),
+        (Formats::ToStorage(_, _) | Formats::FromStorage(_, _) | Formats::BetweenStorage(_, _), _) => {
+            storage::answer(formats, request)
+        }
         (Formats::Between(source, target), Call::Operation(OperationCall::Saturate(call))) => {
             saturated::answer(source, target, call, request)
         }

@@ -34,6 +34,8 @@ pub enum Formats {
     ToStorage(BuiltInFormat, StorageName),
     /// From a storage format to a built-in format.
     FromStorage(StorageName, FlaggedFormat),
+    /// From one storage format to another.
+    BetweenStorage(StorageName, StorageName),
     /// One storage format.
     Storage(StorageName),
     /// None, for operations on flags.
@@ -82,7 +84,9 @@ impl Formats {
             Formats::Pairs | Formats::FromPairs | Formats::PairsTo(_) => Some(128),
             Formats::One(format) | Formats::Between(format, _) | Formats::PairsFrom(format) => format.width(),
             Formats::BetweenOnMachine(format, _) | Formats::ToStorage(format, _) => RowFormat::plain(format).width(),
-            Formats::FromStorage(format, _) | Formats::Storage(format) => Some(format.width),
+            Formats::FromStorage(format, _) | Formats::BetweenStorage(format, _) | Formats::Storage(format) => {
+                Some(format.width)
+            }
             Formats::OnMachine(target) => target.with_flags().width(),
             Formats::ToFewerDigits(_) => Some(80),
             Formats::ToPairs | Formats::OfFlags => None,
@@ -111,6 +115,10 @@ impl Formats {
             }
             (None, Some(RowFormat::BuiltIn(_, format))) => {
                 StorageName::named(source).map(|source| Formats::FromStorage(source, format))
+            }
+            (None, None) => {
+                let (source, target) = (StorageName::named(source)?, StorageName::named(target)?);
+                Some(Formats::BetweenStorage(source, target))
             }
             _ => None,
         }
