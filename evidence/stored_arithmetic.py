@@ -1,18 +1,23 @@
 """Computes tests/rows/stored_arithmetic.tsv: operations of the storage formats all of whose codes are numbers.
 
     python3 evidence/stored_arithmetic.py | diff - tests/rows/stored_arithmetic.tsv
+    python3 evidence/stored_arithmetic.py calls | diff - tests/c/stored_operations
+
+The second line is for calls of C on codes that a generator draws.
 
 An operation is one of the fractions that the codes mean, and its result is looked up between these numbers, as in
 evidence/storage_formats.py. A root is looked up by its square. A conversion looks up the fraction in another format.
 """
 
+import sys
 from functools import lru_cache
 from itertools import product
 
 from exact.data import Finite
+from exact.drawing import Generator
 from exact.rounding import Mode
-from exact.status import DIV_BY_ZERO, INEXACT, INVALID_OP, OK, UNDERFLOW
-from row_files import MODES, every
+from exact.status import DIV_BY_ZERO, INEXACT, INVALID_OP, OK, UNDERFLOW, names
+from row_files import MODES, every, hexes
 from storage_formats import FORMATS
 
 ELEMENTS = FORMATS[:3]
@@ -167,5 +172,38 @@ def lines():
             yield every("convert_r", f"{source.name}>{target.name}".lower(), mode, "1", results)
 
 
+def row_of(name, kind, mode, given, made, status, more):
+    """A row of a call of C."""
+    return "\t".join((name, kind, mode, given, made, names(status), str(int(more))))
+
+
+def calls():
+    """The rows of calls of C."""
+    yield "# Calls of C on codes of storage formats. Computed by evidence/stored_arithmetic.py."
+    draw = Generator()
+    for form in ELEMENTS:
+        word, last = form.name.lower(), (1 << form.bits) - 1
+        for name, operation, steps in OPERATIONS:
+            for _ in range(20):
+                mode = MODES[draw.between(0, len(MODES) - 1)]
+                codes = [draw.between(0, last) for _ in range(3)]
+                code, status = operation(form, mode, *codes[: len(steps)])
+                given = f"{name.removesuffix('_r')} {hexes(form, *codes)}"
+                yield row_of("storage_operation", word, mode.value, given, hexes(form, code), status, 0)
+        for _ in range(20):
+            codes = [draw.between(0, last) for _ in range(3)]
+            for name, operation in (("least", lesser), ("greatest", greater)):
+                given = f"{name} {hexes(form, *codes)}"
+                yield row_of("storage_operation", word, "even", given, hexes(form, *operation(form, *codes[:2])), OK, 0)
+            place = compare(form, *codes[:2])[0] - 2
+            yield row_of("compare_storage", word, "-", hexes(form, *codes[:2]), "0", OK, place)
+        for target in ELEMENTS:
+            for code in sorted({draw.between(0, last) for _ in range(12)} | {0, last}):
+                mode = MODES[draw.between(0, len(MODES) - 1)]
+                made, status, loses_info = convert(form, target, mode, code)
+                yield row_of("between_storage", f"{word}>{target.name.lower()}", mode.value, hexes(form, code),
+                           hexes(target, made), status, loses_info)
+
+
 if __name__ == "__main__":
-    print("\n".join(lines()))
+    print("\n".join(calls() if sys.argv[1:] == ["calls"] else lines()))

@@ -697,6 +697,26 @@ apfloat_error apfloat_to_storage(apfloat_format format, apfloat_mode mode, apflo
 apfloat_error apfloat_from_storage(apfloat_format format, apfloat_mode mode, apfloat_format to, uint32_t code,
                                    apfloat_answer *answer);
 
+/* ---- storage formats, operations
+ *
+ * These are of APFLOAT_E2M1FN, APFLOAT_E2M3FN and APFLOAT_E3M2FN, all of whose codes are numbers; other storage formats
+ * do not have them (APFLOAT_NO_SUCH_OPERATION). The bits of a code above those of its format are ignored. */
+
+/* An operation on x, y and z, of which it takes the first ones, rounded once: APFLOAT_ADD, APFLOAT_SUB, APFLOAT_MUL,
+ * APFLOAT_DIV, APFLOAT_FMA or APFLOAT_SQRT, and minimum and maximum (IEEE 754-2019 9.6) as APFLOAT_LEAST and
+ * APFLOAT_GREATEST. Past the largest number the result is that number, and so it is in place of an infinity, with
+ * APFLOAT_DIV_BY_ZERO; in place of a NaN it is +0, with APFLOAT_INVALID_OP. */
+apfloat_error apfloat_storage_operation(apfloat_operation operation, apfloat_format format, apfloat_mode mode,
+                                        uint32_t x, uint32_t y, uint32_t z, apfloat_answer *answer);
+
+/* The number of `code` in the storage format `to`, rounded once, as by apfloat_to_storage; `number` is 1 if information
+ * was lost, else 0. */
+apfloat_error apfloat_between_storage(apfloat_format format, apfloat_mode mode, apfloat_format to, uint32_t code,
+                                      apfloat_answer *answer);
+
+/* `number` is the order of two codes, as of apfloat_compare. */
+apfloat_error apfloat_compare_storage(apfloat_format format, uint32_t x, uint32_t y, apfloat_answer *answer);
+
 /* ---- storage formats, to odd and with random digits
  *
  * Two more modes, of these two functions alone (docs/FORMATS.md): a value between two neighbours becomes the one whose

@@ -1,9 +1,13 @@
-/* Calls the library from C for the rows of tests/c/storage, which evidence/storage_calls.py computes, and compares each
- * field of the answer. A row has tabs between its columns:
+/* Calls the library from C for the rows of tests/c/storage and tests/c/stored_operations, which
+ * evidence/storage_calls.py and evidence/stored_arithmetic.py compute, and compares each field of the answer. A row has
+ * tabs between its columns:
  *
  *   to_storage    FORMAT>STORED  MODE  BITS  CODE  FLAGS  whether the code is a NaN's
  *   from_storage  STORED>FORMAT  MODE  CODE  BITS  FLAGS  whether the value is a NaN
  *   to_storage_by  as to_storage; the mode is odd, or random DIGITS NUMBER
+ *   storage_operation  STORED  MODE  OPERATION and three codes  CODE  FLAGS  0
+ *   between_storage  STORED>STORED  MODE  CODE  CODE  FLAGS  whether information is lost
+ *   compare_storage  STORED  -  two codes  0  OK  the order
  *
  * A MODE may be followed by what becomes of an overflow, as in even+finite. Each row of to_storage_by is tried with an
  * array, too. The program prints each row that differs,
@@ -11,7 +15,7 @@
  * crates/apfloat_c:
  *
  *   cc -std=c99 -Wall -Wextra -O2 -Iinclude tests/c/check_storage.c crates/apfloat_c/out/libapfloat_c.a -o check
- *   ./check < tests/c/storage */
+ *   cat tests/c/storage tests/c/stored_operations | ./check */
 #include "apfloat.h"
 #include "rows.h"
 
@@ -123,10 +127,54 @@ static bool is_stored_by(char *columns[]) {
            is_stored_in_array(columns[1], mode, stored_to, digits, random, x, &answer);
 }
 
+static const struct code stored_operations[] = {
+    {"add", APFLOAT_ADD},         {"sub", APFLOAT_SUB},   {"mul", APFLOAT_MUL},     {"div", APFLOAT_DIV},
+    {"mul_add", APFLOAT_FMA},     {"sqrt", APFLOAT_SQRT}, {"least", APFLOAT_LEAST}, {"greatest", APFLOAT_GREATEST}};
+
+static bool is_operated(char *columns[]) {
+    apfloat_answer answer = before;
+    apfloat_halves operands[3];
+    char *word = columns[3];
+    for (size_t i = 0; i < 3; i++) {
+        char *next = i == 0 ? cut(word, ' ') : columns[3], *rest = next ? cut(next, ' ') : NULL;
+        if (!next || !read_integer(next, 16, &operands[i])) return false;
+        columns[3] = rest;
+    }
+    uint32_t code = apfloat_storage_operation(
+        code_of(stored_operations, COUNT(stored_operations), word), code_of(stored, COUNT(stored), columns[1]),
+        mode_of(columns[2]), (uint32_t)operands[0].low, (uint32_t)operands[1].low, (uint32_t)operands[2].low, &answer);
+    return is_answer(code, &answer, columns);
+}
+
+static bool is_between(char *columns[]) {
+    apfloat_answer answer = before;
+    apfloat_halves given;
+    char *to = cut(columns[1], '>');
+    if (!to || !read_integer(columns[3], 16, &given)) return false;
+    uint32_t code = apfloat_between_storage(code_of(stored, COUNT(stored), columns[1]), mode_of(columns[2]),
+                                            code_of(stored, COUNT(stored), to), (uint32_t)given.low, &answer);
+    return is_answer(code, &answer, columns);
+}
+
+static bool is_compared(char *columns[]) {
+    apfloat_answer answer = before;
+    apfloat_halves x, y;
+    char *second = cut(columns[3], ' ');
+    if (!second || !read_integer(columns[3], 16, &x) || !read_integer(second, 16, &y)) return false;
+    uint32_t code = apfloat_compare_storage(code_of(stored, COUNT(stored), columns[1]), (uint32_t)x.low,
+                                            (uint32_t)y.low, &answer);
+    return is_answer(code, &answer, columns);
+}
+
 static const struct call {
     const char *name;
     bool (*agrees)(char *columns[]);
-} calls[] = {{"to_storage", is_stored}, {"from_storage", is_loaded}, {"to_storage_by", is_stored_by}};
+} calls[] = {{"to_storage", is_stored},
+             {"from_storage", is_loaded},
+             {"to_storage_by", is_stored_by},
+             {"storage_operation", is_operated},
+             {"between_storage", is_between},
+             {"compare_storage", is_compared}};
 
 /* The errors, each of which leaves the answer as it was. */
 static unsigned refusals(void) {
@@ -134,6 +182,8 @@ static unsigned refusals(void) {
     apfloat_answer answer = before;
 #define TO(format, mode, to) apfloat_to_storage(format, mode, to, x, &answer)
 #define FROM(format, mode, to) apfloat_from_storage(format, mode, to, 1, &answer)
+#define OPERATE(operation, format, mode) apfloat_storage_operation(operation, format, mode, 1, 2, 3, &answer)
+#define BETWEEN(format, mode, to) apfloat_between_storage(format, mode, to, 1, &answer)
     const uint32_t codes[][2] = {
         {TO(0, 5, 0), APFLOAT_UNKNOWN_FORMAT},
         {TO(APFLOAT_HALF, 5, 0), APFLOAT_UNKNOWN_MODE},
@@ -146,7 +196,20 @@ static unsigned refusals(void) {
         {FROM(APFLOAT_HALF, 0, APFLOAT_SINGLE), APFLOAT_UNKNOWN_FORMAT},
         {FROM(APFLOAT_UE4M3, 5, 0), APFLOAT_UNKNOWN_MODE},
         {FROM(APFLOAT_UE4M3, 0, APFLOAT_E8M0FNU), APFLOAT_UNKNOWN_FORMAT},
-        {FROM(APFLOAT_UE4M3, 0, APFLOAT_DOUBLE_PAIR), APFLOAT_NO_SUCH_OPERATION}};
+        {FROM(APFLOAT_UE4M3, 0, APFLOAT_DOUBLE_PAIR), APFLOAT_NO_SUCH_OPERATION},
+        {OPERATE(0, 0, 5), APFLOAT_UNKNOWN_FORMAT},
+        {OPERATE(0, APFLOAT_HALF, 5), APFLOAT_UNKNOWN_FORMAT},
+        {OPERATE(0, APFLOAT_E3M4, 5), APFLOAT_UNKNOWN_MODE},
+        {OPERATE(APFLOAT_ADD, APFLOAT_E2M1FN, APFLOAT_SATURATE), APFLOAT_UNKNOWN_MODE},
+        {OPERATE(APFLOAT_ADD, APFLOAT_E3M4, 0), APFLOAT_NO_SUCH_OPERATION},
+        {OPERATE(APFLOAT_REM, APFLOAT_E2M1FN, 0), APFLOAT_NO_SUCH_OPERATION},
+        {BETWEEN(0, 5, 0), APFLOAT_UNKNOWN_FORMAT},
+        {BETWEEN(APFLOAT_E3M4, 5, 0), APFLOAT_UNKNOWN_MODE},
+        {BETWEEN(APFLOAT_E3M4, 0, APFLOAT_HALF), APFLOAT_UNKNOWN_FORMAT},
+        {BETWEEN(APFLOAT_E3M4, 0, APFLOAT_E2M1FN), APFLOAT_NO_SUCH_OPERATION},
+        {BETWEEN(APFLOAT_E2M1FN, 0, APFLOAT_UE4M3), APFLOAT_NO_SUCH_OPERATION},
+        {apfloat_compare_storage(APFLOAT_HALF, 1, 2, &answer), APFLOAT_UNKNOWN_FORMAT},
+        {apfloat_compare_storage(APFLOAT_E8M0FNU, 1, 2, &answer), APFLOAT_NO_SUCH_OPERATION}};
     unsigned count = 0;
     for (size_t i = 0; i < COUNT(codes); i++) count += codes[i][0] == codes[i][1];
     return memcmp(&answer, &before, sizeof answer) == 0 ? count : 0;

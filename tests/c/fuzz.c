@@ -152,8 +152,9 @@ static size_t width_of(uint32_t of) {
 
 static void values(void) {
     uint32_t f = format(), m = mode();
+    const uint32_t stored = below(8) ? 32 + below(3) : format(), word = (uint32_t)random_word();
     apfloat_halves x = bits(), y = bits(), z = bits();
-    switch (below(50)) {
+    switch (below(53)) {
     case 0: ONE(apfloat_add, f, m, x, y); break;
     case 1: ONE(apfloat_sub, f, m, x, y); break;
     case 2: ONE(apfloat_mul, f, m, x, y); break;
@@ -222,6 +223,9 @@ static void values(void) {
         }
         break;
     }
+    case 48: ONE(apfloat_storage_operation, code(17), stored, m, word, (uint32_t)x.low, (uint32_t)y.low); break;
+    case 49: ONE(apfloat_between_storage, stored, m, below(8) ? 32 + below(3) : format(), word); break;
+    case 50: ONE(apfloat_compare_storage, stored, word, (uint32_t)x.low); break;
     default: ONE(apfloat_machine, code(10), code(17), f, m, below(2) ? format() : code(130), x, y, z);
     }
 }

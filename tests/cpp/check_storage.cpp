@@ -1,9 +1,9 @@
-// Makes the calls of tests/c/storage from C++ (tests/c/check_storage.c has what its columns say), and compares their
-// results. Prints each row that differs, and then how many agree. By hand, at the top of the repository, after `rt lib`
-// in crates/apfloat_c:
+// Makes the calls of tests/c/storage and tests/c/stored_operations from C++ (tests/c/check_storage.c has what their
+// columns say), and compares their results. Prints each row that differs, and then how many agree. By hand, at the top
+// of the repository, after `rt lib` in crates/apfloat_c:
 //
 //   c++ -std=c++17 -Iinclude tests/cpp/check_storage.cpp crates/apfloat_c/out/libapfloat_c.a -o check_storage
-//   ./check_storage < tests/c/storage
+//   cat tests/c/storage tests/c/stored_operations | ./check_storage
 #include "rows.hpp"
 
 #include <iostream>
@@ -26,7 +26,7 @@ bool with_storage(std::string_view word, Function function) {
 }
 
 struct row {
-    std::string call, format, target, mode, operand, result, status;
+    std::string call, format, target, mode, operand, result, status, more;
 
     apfloat_halves given() const { return rows::integer_of(operand, 16).value(); }
     bool is(apfloat_halves bits, flags raised) const {
@@ -100,8 +100,59 @@ bool is_loaded(const row &r) {
     return r.is(made.value.halves(), made.status);
 }
 
+// The number that a code in hexadecimal digits is.
+template <class F>
+stored<F> code_of(const std::string &digits) {
+    return stored<F>::from_bits(static_cast<std::uint8_t>(std::stoul(digits, nullptr, 16)));
+}
+
+template <class F>
+bool is_operated(const row &r) {
+    const auto words = rows::split(r.operand, ' ');
+    if (r.call == "compare_storage")
+        return std::to_string(int(compare(code_of<F>(words.at(0)), code_of<F>(words.at(1))))) == r.more;
+    const auto x = code_of<F>(words.at(1)), y = code_of<F>(words.at(2)), z = code_of<F>(words.at(3));
+    const auto &name = words[0];
+    if (name == "least") return r.is(halves(minimum(x, y)), {});
+    if (name == "greatest") return r.is(halves(maximum(x, y)), {});
+    const auto mode = r.round();
+    const auto made = name == "add"    ? add(x, y, mode)
+                      : name == "sub"  ? sub(x, y, mode)
+                      : name == "mul"  ? mul(x, y, mode)
+                      : name == "div"  ? div(x, y, mode)
+                      : name == "sqrt" ? sqrt(x, mode)
+                                       : fma(x, y, z, mode);
+    return r.is(halves(made.value), made.status);
+}
+
+template <class F>
+constexpr bool has_operations = std::is_same_v<F, e2m1fn> || std::is_same_v<F, e2m3fn> || std::is_same_v<F, e3m2fn>;
+
+bool agrees_between_storage(const row &r) {
+    bool found = false;
+    with_storage(r.format, [&](auto source) {
+        using S = typename decltype(source)::format;
+        if constexpr (has_operations<S>) {
+            if (r.call != "between_storage") {
+                found = is_operated<S>(r);
+                return;
+            }
+            with_storage(r.target, [&](auto target) {
+                using T = typename decltype(target)::format;
+                if constexpr (has_operations<T>) {
+                    const auto made = between_storage<T>(code_of<S>(r.operand), r.round());
+                    found = r.is(halves(made.value), made.status);
+                }
+            });
+        }
+    });
+    return found;
+}
+
 bool agrees(const row &r) {
     bool found = false;
+    if (r.call == "storage_operation" || r.call == "between_storage" || r.call == "compare_storage")
+        return agrees_between_storage(r);
     const bool goes_out = r.call == "from_storage";
     rows::with_format(goes_out ? r.target : r.format, [&](auto built_in) {
         using F = typename decltype(built_in)::format;
@@ -139,7 +190,8 @@ int main() {
         if (line.empty() || line[0] == '#') continue;
         const auto columns = rows::split(line, '\t');
         const auto kind = rows::split(columns.at(1), '>');
-        const row r = {columns[0], kind.at(0), kind.at(1), columns.at(2), columns.at(3), columns.at(4), columns.at(5)};
+        const row r = {columns[0],    kind.at(0),    kind.back(),   columns.at(2),
+                       columns.at(3), columns.at(4), columns.at(5), columns.at(6)};
         if (agrees(r)) agreeing++;
         else all = false, std::cout << line << '\n';
     }

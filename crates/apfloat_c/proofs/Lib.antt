@@ -19,4 +19,5 @@ pub mod AugmentedOnce
 pub mod StorageModes
 pub mod StorageOnce
 pub mod StorageModesOnce
+pub mod StoredOperations
 pub mod ExactSums

@@ -12,4 +12,5 @@ pub mod Pairs
 pub mod Augmented
 pub mod StorageValues
 pub mod StorageModes
+pub mod StoredOperations
 pub mod Reductions

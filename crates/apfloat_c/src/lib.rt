@@ -28,3 +28,4 @@ mod reductions;
 mod storage_modes;
 mod storage_one_answer;
 mod storage_values;
+mod stored_operations;
