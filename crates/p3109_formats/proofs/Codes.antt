@@ -11,7 +11,8 @@ use Rattle.apfloat_model.specs.rounding.Rounding.{signed_quanta}
 use Rattle.apfloat_model.proofs.general.Powers.{twice_half}
 use Rattle.small_formats.specs.Codes.{point}
 use Rattle.p3109_formats.specs.Laws.{IsOneInTheMiddle}
-use Rattle.p3109_formats.specs.Projections.{IsProjection, Projection, bias, coded, exponent_bits, is_negative_code}
+use Rattle.p3109_formats.specs.declared.descriptor.Descriptor.{Descriptor}
+use Rattle.p3109_formats.specs.Projections.{IsProjection, bias, coded, exponent_bits, is_negative_code}
 use Rattle.p3109_formats.specs.Projections.{largest_index, last_index, magnitude_of, nan_code, past_value}
 use Rattle.p3109_formats.specs.Projections.{projected_datum, sign_bits, unsigned_codes}
 use Rattle.small_formats.proofs.CodesCompared.{not_below_number, zero_point}
@@ -20,7 +21,7 @@ use Rattle.small_formats.proofs.Points.{high_point}
 -- ---- how many codes there are
 
 -- at least four without a sign
-pub four_codes : (c : Projection) → IsProjection c → 4 ≤ unsigned_codes c
+pub four_codes : (c : Descriptor) → IsProjection c → 4 ≤ unsigned_codes c
 four_codes c law =
     let two : sign_bits c + 2 ≤ c.bits = width c.signed law.bits_low in
     let e : c.bits - sign_bits c ≡ c.bits - sign_bits c - 2 + 2 = omega (arith, two) in
@@ -43,7 +44,7 @@ are_apart : (codes last most bad : ℕ) → last < codes → last < bad → most
     → AreApart codes last most bad
 are_apart codes last most bad below other to = record { last_below = below; last_not_nan = other; most_to = to }
 
-pub apart : (c : Projection) → IsProjection c
+pub apart : (c : Descriptor) → IsProjection c
     → AreApart (unsigned_codes c) (last_index c) (largest_index c) (nan_code c)
 apart c law = by_cases c.signed c.extended (unsigned_codes c) (four_codes c law)
   where
@@ -58,12 +59,12 @@ apart c law = by_cases c.signed c.extended (unsigned_codes c) (four_codes c law)
 -- ---- the code of a point
 
 -- what is known of the code of a point that is not past the infinity
-pub record IsCodedBy (c : Projection) (negative : Bool) (index code : ℕ) : Type 0 where
+pub record IsCodedBy (c : Descriptor) (negative : Bool) (index code : ℕ) : Type 0 where
   pub sign : is_negative_code c code ≡ negative
   pub rest : magnitude_of c code ≡ index
   pub no_nan : eqb code (nan_code c) ≡ false
 
-pub plain_code : (c : Projection) (index : ℕ) → IsProjection c → index ≤ last_index c → IsCodedBy c false index index
+pub plain_code : (c : Descriptor) (index : ℕ) → IsProjection c → index ≤ last_index c → IsCodedBy c false index index
 plain_code c index law l =
     let a = apart c law in
     let below : index < unsigned_codes c = omega (arith, l, a.last_below) in
@@ -78,7 +79,7 @@ plain_code c index law l =
     unsigned true e = e
     unsigned false e = refl
 
-pub minus_code : (c : Projection) (index : ℕ) → IsProjection c → c.signed ≡ true → 0 < index → index ≤ last_index c
+pub minus_code : (c : Descriptor) (index : ℕ) → IsProjection c → c.signed ≡ true → 0 < index → index ≤ last_index c
     → IsCodedBy c true index (unsigned_codes c + index)
 minus_code c index law signed some l =
     let a = apart c law in
@@ -93,25 +94,25 @@ minus_code c index law signed some l =
     }
 
 -- the index of a point
-pub number_of_code : (c : Projection) (negative : Bool) (index code : ℕ) → IsCodedBy c negative index code
+pub number_of_code : (c : Descriptor) (negative : Bool) (index code : ℕ) → IsCodedBy c negative index code
     → index ≤ largest_index c → projected_datum c code ≡ finite negative (point c.precision index)
 number_of_code c negative index code is l =
     let within : ltb (largest_index c) (magnitude_of c code) ≡ false =
     ap (λ (n : ℕ). ltb (largest_index c) n) is.rest ∙ le-ltb (largest_index c) index l in
     rw (is.no_nan, within, is.sign, is.rest) refl
 
-pub infinity_of_code : (c : Projection) (negative : Bool) (index code : ℕ) → IsCodedBy c negative index code
+pub infinity_of_code : (c : Descriptor) (negative : Bool) (index code : ℕ) → IsCodedBy c negative index code
     → largest_index c < index → projected_datum c code ≡ infinite negative
 infinity_of_code c negative index code is l =
     let past : ltb (largest_index c) (magnitude_of c code) ≡ true =
     ap (λ (n : ℕ). ltb (largest_index c) n) is.rest ∙ lt-ltb (largest_index c) index l in
     rw (is.no_nan, past, is.sign) refl
 
-pub nan_of_code : (c : Projection) → projected_datum c (nan_code c) ≡ nan false 0
+pub nan_of_code : (c : Descriptor) → projected_datum c (nan_code c) ≡ nan false 0
 nan_of_code c = let same : eqb (nan_code c) (nan_code c) ≡ true = eq-eqb (nan_code c) (nan_code c) refl in rw same refl
 
 -- what the code of a number with this sign means; a zero has no sign
-pub coded_number : (c : Projection) (negative : Bool) (index : ℕ) → IsProjection c
+pub coded_number : (c : Descriptor) (negative : Bool) (index : ℕ) → IsProjection c
     → (negative ≡ true → c.signed ≡ true) → index ≤ largest_index c
     → projected_datum c (coded c negative index) ≡ signed_quanta NanNegativeZero negative (point c.precision index)
 coded_number c false index law sign l =
@@ -137,7 +138,7 @@ coded_number c true (suc index) law sign l =
     let code = minus_code c (suc index) law (sign refl) (omega arith) (omega (arith, l, a.most_to)) in
     rw (some, off) (number_of_code c true (suc index) (unsigned_codes c + suc index) code l)
 
-pub coded_infinity : (c : Projection) (negative : Bool) → IsProjection c → (negative ≡ true → c.signed ≡ true)
+pub coded_infinity : (c : Descriptor) (negative : Bool) → IsProjection c → (negative ≡ true → c.signed ≡ true)
     → c.extended ≡ true → projected_datum c (coded c negative (last_index c)) ≡ past_value c negative
 coded_infinity c negative law sign extended =
     let past : last_index c ≡ largest_index c + 1 =
@@ -155,18 +156,18 @@ coded_infinity c negative law sign extended =
         (minus_code c (last_index c) law (s refl) (omega (arith, past)) (omega arith)) (omega (arith, past)))
 
 -- a code that is neither the NaN nor past the largest number
-pub number_at : (c : Projection) (code : ℕ) {test negative : Bool} → test ≡ eqb code (nan_code c) → test ≡ false
+pub number_at : (c : Descriptor) (code : ℕ) {test negative : Bool} → test ≡ eqb code (nan_code c) → test ≡ false
     → negative ≡ is_negative_code c code → magnitude_of c code ≤ largest_index c
     → projected_datum c code ≡ finite negative (point c.precision (magnitude_of c code))
 number_at c code is isnt sign l =
     number_of_code c _ (magnitude_of c code) code
     (record { sign = sym sign; rest = refl; no_nan = sym is ∙ isnt }) l
 
-pub nan_at : (c : Projection) (code : ℕ) {test : Bool} → test ≡ eqb code (nan_code c) → test ≡ true
+pub nan_at : (c : Descriptor) (code : ℕ) {test : Bool} → test ≡ eqb code (nan_code c) → test ≡ true
     → projected_datum c code ≡ nan false 0
 nan_at c code is known = let same : eqb code (nan_code c) ≡ true = sym is ∙ known in rw same refl
 
-pub infinity_at : (c : Projection) (code : ℕ) {test negative : Bool} → test ≡ eqb code (nan_code c) → test ≡ false
+pub infinity_at : (c : Descriptor) (code : ℕ) {test negative : Bool} → test ≡ eqb code (nan_code c) → test ≡ false
     → negative ≡ is_negative_code c code → largest_index c < magnitude_of c code
     → projected_datum c code ≡ infinite negative
 infinity_at c code is isnt sign l =
@@ -189,7 +190,7 @@ split_code true codes code some l none other =
 split_code false codes code some l none other = sym (mod-eq_of_lt l) ∙ none
 
 -- how many codes there are, with a sign twice as many
-pub all_codes : (c : Projection) → IsProjection c → 2 ^ c.bits ≡ cond c.signed (2 * unsigned_codes c) (unsigned_codes c)
+pub all_codes : (c : Descriptor) → IsProjection c → 2 ^ c.bits ≡ cond c.signed (2 * unsigned_codes c) (unsigned_codes c)
 all_codes c law = by_sign c.signed
   where
     by_sign : (signed : Bool)
@@ -203,12 +204,12 @@ below_all : (signed : Bool) (codes i : ℕ) → i < codes → i < cond signed (2
 below_all true codes i l = omega (arith, l)
 below_all false codes i l = l
 
-pub plain_fits : (c : Projection) (index : ℕ) → IsProjection c → index ≤ last_index c → index < 2 ^ c.bits
+pub plain_fits : (c : Descriptor) (index : ℕ) → IsProjection c → index ≤ last_index c → index < 2 ^ c.bits
 plain_fits c index law l =
     let a = apart c law in
     rw (all_codes c law) (below_all c.signed (unsigned_codes c) index (omega (arith, l, a.last_below)))
 
-pub minus_fits : (c : Projection) (index : ℕ) → IsProjection c → c.signed ≡ true → index ≤ last_index c
+pub minus_fits : (c : Descriptor) (index : ℕ) → IsProjection c → c.signed ≡ true → index ≤ last_index c
     → unsigned_codes c + index < 2 ^ c.bits
 minus_fits c index law signed l =
     let a = apart c law in
@@ -216,21 +217,21 @@ minus_fits c index law signed l =
     all_codes c law ∙ ap (λ (b : Bool). cond b (2 * unsigned_codes c) (unsigned_codes c)) signed in
     omega (arith, all, l, a.last_below)
 
-pub nan_fits : (c : Projection) → IsProjection c → nan_code c < 2 ^ c.bits
+pub nan_fits : (c : Descriptor) → IsProjection c → nan_code c < 2 ^ c.bits
 nan_fits c law = rw (all_codes c law) (by_sign c.signed (unsigned_codes c) (four_codes c law))
   where
     by_sign : (signed : Bool) (codes : ℕ) → 4 ≤ codes → cond signed codes (codes - 1) < cond signed (2 * codes) codes
     by_sign true codes l = omega (arith, l)
     by_sign false codes l = omega (arith, l)
 
-no_sign : (c : Projection) (code : ℕ) → IsProjection c → code < 2 ^ c.bits → eqb code (nan_code c) ≡ false
+no_sign : (c : Descriptor) (code : ℕ) → IsProjection c → code < 2 ^ c.bits → eqb code (nan_code c) ≡ false
     → magnitude_of c code ≡ 0 → code ≡ 0
 no_sign c code law l other none =
     let some = four_codes c law in
     split_code c.signed (unsigned_codes c) code (omega (arith, some)) (rw (all_codes c law) at l) none other
 
 -- The magnitude 0 with a sign is the NaN, so the zero has none.
-pub zero_at : (c : Projection) (code : ℕ) {test : Bool} → IsProjection c → code < 2 ^ c.bits
+pub zero_at : (c : Descriptor) (code : ℕ) {test : Bool} → IsProjection c → code < 2 ^ c.bits
     → test ≡ eqb code (nan_code c) → test ≡ false → magnitude_of c code ≡ 0 → projected_datum c code ≡ finite false 0
 zero_at c code law l is isnt none =
     let nought : code ≡ 0 = no_sign c code law l (sym is ∙ isnt) none in

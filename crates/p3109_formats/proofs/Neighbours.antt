@@ -15,7 +15,8 @@ use Rattle.apfloat_model.specs.arithmetic.Exact.{signed}
 use Rattle.apfloat_model.specs.formats.Datum.{Datum}
 use Rattle.apfloat_model.specs.order.Order.{compared}
 use Rattle.p3109_formats.specs.Laws.{AreNextValues, IsLess}
-use Rattle.p3109_formats.specs.Projections.{IsProjection, Projection, code_above, code_below, coded, is_negative_code}
+use Rattle.p3109_formats.specs.declared.descriptor.Descriptor.{Descriptor}
+use Rattle.p3109_formats.specs.Projections.{IsProjection, code_above, code_below, coded, is_negative_code}
 use Rattle.p3109_formats.specs.Projections.{largest_index, last_index, magnitude_of, nan_code, projected_datum}
 use Rattle.p3109_formats.specs.Projections.{sign_bits, unsigned_codes}
 use Rattle.p3109_formats.proofs.Codes.{IsCodedBy, all_codes, apart, four_codes, minus_code, nan_at, plain_code}
@@ -24,12 +25,12 @@ use Rattle.p3109_formats.proofs.Order.{at_most_past, known_order, left_nan, righ
 use Rattle.p3109_formats.proofs.Values.{largest_some}
 
 -- the code below the sign, with the sign
-abbrev pub rank_of : Projection → ℕ → ℤ
+abbrev pub rank_of : Descriptor → ℕ → ℤ
 rank_of c code = signed (is_negative_code c code) (magnitude_of c code)
 
 -- ---- less is of lower rank
 
-pub by_ranks : (c : Projection) (x y : ℕ) → IsProjection c → x < 2 ^ c.bits → y < 2 ^ c.bits
+pub by_ranks : (c : Descriptor) (x y : ℕ) → IsProjection c → x < 2 ^ c.bits → y < 2 ^ c.bits
     → eqb x (nan_code c) ≡ false → eqb y (nan_code c) ≡ false
     → compared (projected_datum c x) (projected_datum c y) ≡ Some (int_cmp (rank_of c x) (rank_of c y))
 by_ranks c x y law k l a b =
@@ -41,7 +42,7 @@ by_ranks c x y law k l a b =
 no_order : (r : Ordering) → None ≡ Some r → ⊥
 no_order r e = cc
 
-left_known : (c : Projection) (x y : ℕ) → IsLess c x y → eqb x (nan_code c) ≡ false
+left_known : (c : Descriptor) (x y : ℕ) → IsLess c x y → eqb x (nan_code c) ≡ false
 left_known c x y h =
     ⊎_elim
     (λ (e : x ≡ nan_code c).
@@ -51,7 +52,7 @@ left_known c x y h =
     (λ (n : x ≡ nan_code c → ⊥). ne_eqb x (nan_code c) n)
     (cases_eq x (nan_code c))
 
-right_known : (c : Projection) (x y : ℕ) → IsLess c x y → eqb y (nan_code c) ≡ false
+right_known : (c : Descriptor) (x y : ℕ) → IsLess c x y → eqb y (nan_code c) ≡ false
 right_known c x y h =
     ⊎_elim
     (λ (e : y ≡ nan_code c).
@@ -67,7 +68,7 @@ one_order r s e = cc
 below : (x y : ℤ) → int_cmp x y ≡ Less → x <ℤ y
 below x y e = subst (λ (r : Ordering). MatchOrdering r (x <ℤ y) (x ≡ y) (y <ℤ x)) e (int_ranks x y)
 
-lower : (c : Projection) (x y : ℕ) → IsProjection c → x < 2 ^ c.bits → y < 2 ^ c.bits → IsLess c x y
+lower : (c : Descriptor) (x y : ℕ) → IsProjection c → x < 2 ^ c.bits → y < 2 ^ c.bits → IsLess c x y
     → rank_of c x <ℤ rank_of c y
 lower c x y law k l h =
     below (rank_of c x) (rank_of c y)
@@ -75,21 +76,21 @@ lower c x y law k l h =
 
 -- ---- codes by their ranks
 
-record IsAtRank (c : Projection) (code : ℕ) (rank : ℤ) : Type 0 where
+record IsAtRank (c : Descriptor) (code : ℕ) (rank : ℤ) : Type 0 where
   bound : code < 2 ^ c.bits
   known : eqb code (nan_code c) ≡ false
   at : rank_of c code ≡ rank
 
-less : (c : Projection) (x y : ℕ) (i j : ℤ) → IsProjection c → IsAtRank c x i → IsAtRank c y j → i <ℤ j → IsLess c x y
+less : (c : Descriptor) (x y : ℕ) (i j : ℤ) → IsProjection c → IsAtRank c x i → IsAtRank c y j → i <ℤ j → IsLess c x y
 less c x y i j law a b l =
     by_ranks c x y law a.bound b.bound a.known b.known
     ∙ ap (λ (r : Ordering). Some r) (rw (a.at, b.at) (sym (int_cmp_is i j Less l)))
 
-itself : (c : Projection) (code : ℕ) → code < 2 ^ c.bits → eqb code (nan_code c) ≡ false
+itself : (c : Descriptor) (code : ℕ) → code < 2 ^ c.bits → eqb code (nan_code c) ≡ false
     → IsAtRank c code (rank_of c code)
 itself c code l isnt = record { bound = l; known = isnt; at = refl }
 
-at_rank : (c : Projection) (negative : Bool) (index code : ℕ) → code < 2 ^ c.bits → IsCodedBy c negative index code
+at_rank : (c : Descriptor) (negative : Bool) (index code : ℕ) → code < 2 ^ c.bits → IsCodedBy c negative index code
     → IsAtRank c code (signed negative index)
 at_rank c negative index code l x = record {
   bound = l;
@@ -97,7 +98,7 @@ at_rank c negative index code l x = record {
   at = ap (λ (b : Bool). signed b (magnitude_of c code)) x.sign ∙ ap (λ (n : ℕ). signed negative n) x.rest;
 }
 
-plain_rank : (c : Projection) (index : ℕ) → IsProjection c → index ≤ last_index c → IsAtRank c index (pos index)
+plain_rank : (c : Descriptor) (index : ℕ) → IsProjection c → index ≤ last_index c → IsAtRank c index (pos index)
 plain_rank c index law l =
     let a = apart c law in
     at_rank c false index index
@@ -108,7 +109,7 @@ plain_rank c index law l =
     below_all true codes i l = omega (arith, l)
     below_all false codes i l = l
 
-minus_rank : (c : Projection) (index : ℕ) → IsProjection c → c.signed ≡ true → 0 < index → index ≤ last_index c
+minus_rank : (c : Descriptor) (index : ℕ) → IsProjection c → c.signed ≡ true → 0 < index → index ≤ last_index c
     → IsAtRank c (unsigned_codes c + index) (neg_ℤ (pos index))
 minus_rank c index law signed some l =
     let a = apart c law in
@@ -136,7 +137,7 @@ last_at false false false codes code m four l is sign other =
     absurd (false≢true (sym other ∙ eq-eqb code (codes - 1) (omega (arith, k, l, is)))))
     (cases_lt m (codes - 1))
 
-pub at_most_last : (c : Projection) (code : ℕ) → IsProjection c → code < 2 ^ c.bits → eqb code (nan_code c) ≡ false
+pub at_most_last : (c : Descriptor) (code : ℕ) → IsProjection c → code < 2 ^ c.bits → eqb code (nan_code c) ≡ false
     → magnitude_of c code ≤ last_index c
 at_most_last c code law l isnt =
     last_at c.signed c.extended (is_negative_code c code) (unsigned_codes c) code (magnitude_of c code)
@@ -153,13 +154,13 @@ signed_low true m last l = omega (arith, ints, l)
 signed_low false m last l = omega (arith, ints, l)
 
 -- a negative code has a sign, and is not that of zero, which would be the NaN
-pub record IsNegative (c : Projection) (code : ℕ) : Type 0 where
+pub record IsNegative (c : Descriptor) (code : ℕ) : Type 0 where
   pub signed : c.signed ≡ true
   pub is : code ≡ unsigned_codes c + magnitude_of c code
   pub some : 0 < magnitude_of c code
   pub at : rank_of c code ≡ neg_ℤ (pos (magnitude_of c code))
 
-pub negative_code : (c : Projection) (code : ℕ) → IsProjection c → code < 2 ^ c.bits → eqb code (nan_code c) ≡ false
+pub negative_code : (c : Descriptor) (code : ℕ) → IsProjection c → code < 2 ^ c.bits → eqb code (nan_code c) ≡ false
     → is_negative_code c code ≡ true → IsNegative c code
 negative_code c code law l isnt e =
     let sign : c.signed ≡ true = (and_parts _ _ e).0 in
@@ -180,14 +181,14 @@ negative_code c code law l isnt e =
       at = ap (λ (b : Bool). signed b (magnitude_of c code)) e;
     }
 
-positive_code : (c : Projection) (code : ℕ) → IsProjection c → code < 2 ^ c.bits → is_negative_code c code ≡ false
+positive_code : (c : Descriptor) (code : ℕ) → IsProjection c → code < 2 ^ c.bits → is_negative_code c code ≡ false
     → code ≡ magnitude_of c code
 positive_code c code law l e =
     parts_of_code c code law l
     ∙ ap (λ (b : Bool). cond b (unsigned_codes c) 0 + magnitude_of c code) e ∙ omega arith
 
 -- with a sign, the code past that of a number is one, if the number is not the last
-pub past_fits : (c : Projection) (code : ℕ) → IsProjection c → code < 2 ^ c.bits → is_negative_code c code ≡ true
+pub past_fits : (c : Descriptor) (code : ℕ) → IsProjection c → code < 2 ^ c.bits → is_negative_code c code ≡ true
     → (magnitude_of c code ≡ last_index c → ⊥) → code + 1 < 2 ^ c.bits
 past_fits c code law l e other =
     let sign : c.signed ≡ true = (and_parts _ _ e).0 in
@@ -215,7 +216,7 @@ past_fits c code law l e other =
 
 -- the code above that of a negative number has the next rank
 
-above_negative : (c : Projection) (code : ℕ) → IsProjection c → code < 2 ^ c.bits → eqb code (nan_code c) ≡ false
+above_negative : (c : Descriptor) (code : ℕ) → IsProjection c → code < 2 ^ c.bits → eqb code (nan_code c) ≡ false
     → is_negative_code c code ≡ true → IsAtRank c (code_above c code) (rank_of c code +ℤ pos 1)
 above_negative c code law l isnt e =
     let n = negative_code c code law l isnt e in
@@ -237,7 +238,7 @@ above_negative c code law l isnt e =
         subst (λ (z : ℤ). IsAtRank c (code_above c code) z) next
         (rw (isnt, e, index) (by_zero i k n.signed))
 
-above_positive : (c : Projection) (code other : ℕ) → IsProjection c → code < 2 ^ c.bits → other < 2 ^ c.bits
+above_positive : (c : Descriptor) (code other : ℕ) → IsProjection c → code < 2 ^ c.bits → other < 2 ^ c.bits
     → eqb code (nan_code c) ≡ false → eqb other (nan_code c) ≡ false → rank_of c code <ℤ rank_of c other
     → is_negative_code c code ≡ false → IsAtRank c (code_above c code) (rank_of c code +ℤ pos 1)
 above_positive c code other law l k isnt none lesser e =
@@ -255,7 +256,7 @@ above_positive c code other law l k isnt none lesser e =
     stays true h = h
     stays false h = h
 
-above : (c : Projection) (code other : ℕ) → IsProjection c → code < 2 ^ c.bits → other < 2 ^ c.bits
+above : (c : Descriptor) (code other : ℕ) → IsProjection c → code < 2 ^ c.bits → other < 2 ^ c.bits
     → eqb code (nan_code c) ≡ false → eqb other (nan_code c) ≡ false → rank_of c code <ℤ rank_of c other
     → IsAtRank c (code_above c code) (rank_of c code +ℤ pos 1)
 above c code other law l k isnt none lesser = by_sign (is_negative_code c code) refl
@@ -266,7 +267,7 @@ above c code other law l k isnt none lesser = by_sign (is_negative_code c code) 
 
 -- ---- down
 
-below_negative : (c : Projection) (code other : ℕ) → IsProjection c → code < 2 ^ c.bits → other < 2 ^ c.bits
+below_negative : (c : Descriptor) (code other : ℕ) → IsProjection c → code < 2 ^ c.bits → other < 2 ^ c.bits
     → eqb code (nan_code c) ≡ false → eqb other (nan_code c) ≡ false → rank_of c other <ℤ rank_of c code
     → is_negative_code c code ≡ true → IsAtRank c (code_below c code) (rank_of c code -ℤ pos 1)
 below_negative c code other law l k isnt none lesser e =
@@ -285,10 +286,10 @@ below_negative c code other law l k isnt none lesser e =
     (minus_rank c (m + 1) law n.signed (omega arith) (omega (arith, room)))))
 
 -- without a sign no rank is below zero
-sign_of : (c : Projection) (code : ℕ) → c.signed ≡ false → is_negative_code c code ≡ false
+sign_of : (c : Descriptor) (code : ℕ) → c.signed ≡ false → is_negative_code c code ≡ false
 sign_of c code e = ap (λ (b : Bool). b && leb (unsigned_codes c) code) e
 
-below_positive : (c : Projection) (code other : ℕ) → IsProjection c → code < 2 ^ c.bits
+below_positive : (c : Descriptor) (code other : ℕ) → IsProjection c → code < 2 ^ c.bits
     → eqb code (nan_code c) ≡ false → rank_of c other <ℤ rank_of c code
     → is_negative_code c code ≡ false → IsAtRank c (code_below c code) (rank_of c code -ℤ pos 1)
 below_positive c code other law l isnt lesser e =
@@ -320,7 +321,7 @@ below_positive c code other law l isnt lesser e =
         ap (λ (b : Bool). signed b (magnitude_of c other)) (sign_of c other s) in
         absurd (omega (arith, ints, h, r))
 
-below_it : (c : Projection) (code other : ℕ) → IsProjection c → code < 2 ^ c.bits → other < 2 ^ c.bits
+below_it : (c : Descriptor) (code other : ℕ) → IsProjection c → code < 2 ^ c.bits → other < 2 ^ c.bits
     → eqb code (nan_code c) ≡ false → eqb other (nan_code c) ≡ false → rank_of c other <ℤ rank_of c code
     → IsAtRank c (code_below c code) (rank_of c code -ℤ pos 1)
 below_it c code other law l k isnt none lesser = by_sign (is_negative_code c code) refl

@@ -22,7 +22,8 @@ use Rattle.p3109_formats.specs.Laws.{AreCodePicksPicks, IsProjectedOnce}
 use Rattle.p3109_formats.specs.ModeLaws.{AreProjectionsOfModes, IsProjectedByOnce}
 use Rattle.p3109_formats.specs.ModeConversions.{IsIntoProjectionBy, IsProjectedNumberBy}
 use Rattle.p3109_formats.specs.Projections.{IsCodeOf, IsCodePick, IsIntoProjection, IsPointPick, IsProjectedNumber}
-use Rattle.p3109_formats.specs.Projections.{IsProjection, Projection, is_negative_code, largest_index, magnitude_of}
+use Rattle.p3109_formats.specs.declared.descriptor.Descriptor.{Descriptor}
+use Rattle.p3109_formats.specs.Projections.{IsProjection, is_negative_code, largest_index, magnitude_of}
 use Rattle.p3109_formats.specs.Projections.{nan_code, projected_datum, projected_format, projected_status}
 use Rattle.p3109_formats.specs.Projections.{projected_value, sign_bits, unsigned_codes}
 use Rattle.small_formats.proofs.CodePicks.{code_picks_by}
@@ -72,7 +73,7 @@ sign_is true negative n = refl
 sign_is false negative n = refl
 
 -- a code below the sign and its sign; without a sign, the code itself
-pub parts_of_code : (c : Projection) (code : ℕ) → IsProjection c → code < 2 ^ c.bits
+pub parts_of_code : (c : Descriptor) (code : ℕ) → IsProjection c → code < 2 ^ c.bits
     → code ≡ cond (is_negative_code c code) (unsigned_codes c) 0 + magnitude_of c code
 parts_of_code c code law l = by_sign c.signed refl
   where
@@ -95,7 +96,7 @@ parts_of_code c code law l = by_sign c.signed refl
         ∙ ap (λ (s : Bool). cond (s && leb (unsigned_codes c) code) (unsigned_codes c) 0 + magnitude_of c code) (sym e)
 
 -- a code that is no NaN and past the largest number is the infinity
-pub infinity_index : (c : Projection) (code : ℕ) → IsProjection c → code < 2 ^ c.bits → eqb code (nan_code c) ≡ false
+pub infinity_index : (c : Descriptor) (code : ℕ) → IsProjection c → code < 2 ^ c.bits → eqb code (nan_code c) ≡ false
     → largest_index c < magnitude_of c code → magnitude_of c code ≡ largest_index c + 1
 infinity_index c code law l other past =
     let below = mod_below code (unsigned_codes c) (pow_pos (c.bits - sign_bits c)) in
@@ -123,7 +124,7 @@ infinity_index c code law l other past =
         absurd (false≢true (sym other ∙ eq-eqb code (codes - 1) e))
 
 -- no two codes mean one datum
-pub projected_code_once : (c : Projection) (code other : ℕ) → IsProjection c → code < 2 ^ c.bits → other < 2 ^ c.bits
+pub projected_code_once : (c : Descriptor) (code other : ℕ) → IsProjection c → code < 2 ^ c.bits → other < 2 ^ c.bits
     → projected_datum c code ≡ projected_datum c other → code ≡ other
 projected_code_once c code other law l k e =
     let m : ℕ = magnitude_of c code in
@@ -139,7 +140,7 @@ projected_code_once c code other law l k e =
     both_known c code other law l k off (sym nans ∙ off) (rw (off, sym nans ∙ off) at e))
     (cases_eq code (nan_code c))
   where
-    same_index : (c : Projection) (code other : ℕ) → IsProjection c → code < 2 ^ c.bits → other < 2 ^ c.bits
+    same_index : (c : Descriptor) (code other : ℕ) → IsProjection c → code < 2 ^ c.bits → other < 2 ^ c.bits
         → eqb code (nan_code c) ≡ false → eqb other (nan_code c) ≡ false → (past also : Bool) (negative : Bool)
         → ltb (largest_index c) (magnitude_of c code) ≡ past → ltb (largest_index c) (magnitude_of c other) ≡ also
         → past ≡ also
@@ -153,7 +154,7 @@ projected_code_once c code other law l k e =
     same_index c code other law l k isnt none false false negative p a same e =
         one_number c.precision (magnitude_of c code) (magnitude_of c other) law.precision_low e
 
-    both_known : (c : Projection) (code other : ℕ) → IsProjection c → code < 2 ^ c.bits → other < 2 ^ c.bits
+    both_known : (c : Descriptor) (code other : ℕ) → IsProjection c → code < 2 ^ c.bits → other < 2 ^ c.bits
         → eqb code (nan_code c) ≡ false → eqb other (nan_code c) ≡ false
         → datum_by false (ltb (largest_index c) (magnitude_of c code)) (is_negative_code c code)
         (point c.precision (magnitude_of c code))
@@ -175,7 +176,7 @@ projected_code_once c code other law l k e =
 
 -- ---- conversions
 
-given_once : (c : Projection) (given : Datum) (bits : ℕ) (lossy : Bool) (code other status flags : ℕ)
+given_once : (c : Descriptor) (given : Datum) (bits : ℕ) (lossy : Bool) (code other status flags : ℕ)
     (loses lost : Bool) → IsProjection c → code < 2 ^ c.bits → other < 2 ^ c.bits
     → IsCodeOf c given bits lossy code status loses → IsCodeOf c given bits lossy other flags lost
     → AreSame code status loses other flags lost
@@ -185,7 +186,7 @@ given_once c given bits lossy code other status flags loses lost law l k x y = (
   x.loses_is ∙ sym y.loses_is,
 )
 
-number_once : (c : Projection) (f : Format) (mode : ConversionRound) (b : Bool) (n code other status flags : ℕ)
+number_once : (c : Descriptor) (f : Format) (mode : ConversionRound) (b : Bool) (n code other status flags : ℕ)
     (loses lost : Bool) → IsProjection c → code < 2 ^ c.bits → other < 2 ^ c.bits
     → IsProjectedNumberBy c f mode b n code status loses → IsProjectedNumberBy c f mode b n other flags lost
     → AreSame code status loses other flags lost
@@ -288,7 +289,7 @@ projections_of_modes c f mode (finite b n) code status loses x =
       loses_is = y.loses_is;
     }) x
 
-modes_of_projection : (c : Projection) (f : Format) (mode : Round) (x : Datum) (code status : ℕ) (loses : Bool)
+modes_of_projection : (c : Descriptor) (f : Format) (mode : Round) (x : Datum) (code status : ℕ) (loses : Bool)
     → IsIntoProjection c f mode x code status loses → IsIntoProjectionBy c f (Ieee mode) x code status loses
 modes_of_projection c f mode (nan b s) code status loses x = x
 modes_of_projection c f mode (infinite b) code status loses x = x

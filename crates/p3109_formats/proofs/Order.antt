@@ -12,7 +12,8 @@ use Rattle.apfloat_model.specs.arithmetic.Exact.{signed}
 use Rattle.apfloat_model.specs.formats.Datum.{Datum, finite, infinite, nan}
 use Rattle.apfloat_model.specs.order.Order.{compared}
 use Rattle.small_formats.specs.Codes.{point}
-use Rattle.p3109_formats.specs.Projections.{IsProjection, Projection, largest_index, magnitude_of, nan_code}
+use Rattle.p3109_formats.specs.declared.descriptor.Descriptor.{Descriptor}
+use Rattle.p3109_formats.specs.Projections.{IsProjection, largest_index, magnitude_of, nan_code}
 use Rattle.small_formats.proofs.CodesCompared.{compared_points}
 use Rattle.p3109_formats.proofs.OneAnswer.{datum_by, infinity_index}
 
@@ -21,7 +22,7 @@ pub record IsAt (most index : ℕ) (past : Bool) : Type 0 where
   pub number : past ≡ false → index ≤ most
   pub infinity : past ≡ true → index ≡ most + 1
 
-pub at_most_past : (c : Projection) (code : ℕ) → IsProjection c → code < 2 ^ c.bits → eqb code (nan_code c) ≡ false
+pub at_most_past : (c : Descriptor) (code : ℕ) → IsProjection c → code < 2 ^ c.bits → eqb code (nan_code c) ≡ false
     → IsAt (largest_index c) (magnitude_of c code) (ltb (largest_index c) (magnitude_of c code))
 at_most_past c code law l other = record {
   number = λ e.

@@ -21,14 +21,15 @@ use Rattle.small_formats.specs.Codes.{point}
 use Rattle.small_formats.specs.declared.ConversionRound.{ConversionRound}
 use Rattle.p3109_formats.specs.Picks.{IsProjectedAt}
 use Rattle.p3109_formats.specs.ModeConversions.{IsIntoProjectionBy, IsProjectedBy, IsProjectedNumberBy}
-use Rattle.p3109_formats.specs.Projections.{IsCodeOf, IsProjection, IsWithoutCode, Projection, largest_index}
+use Rattle.p3109_formats.specs.declared.descriptor.Descriptor.{Descriptor}
+use Rattle.p3109_formats.specs.Projections.{IsCodeOf, IsProjection, IsWithoutCode, largest_index}
 use Rattle.p3109_formats.specs.Projections.{past_value, projected_datum, projected_format}
 use Rattle.small_formats.proofs.CodesCompared.{not_below_number}
 use Rattle.p3109_formats.proofs.Codes.{four_codes}
 
 -- ---- in
 
-pub past_projected : (c : Projection) (mode : Round) (negative : Bool) (amount parts index code status : ℕ)
+pub past_projected : (c : Descriptor) (mode : Round) (negative : Bool) (amount parts index code status : ℕ)
     → largest_index c < index
     → projected_datum c code
     ≡ cond (leads_out mode negative) (past_value c negative) (finite negative (point c.precision (largest_index c)))
@@ -37,7 +38,7 @@ past_projected c mode negative amount parts index code status l value flags =
     let past : ltb (largest_index c) index ≡ true = lt-ltb (largest_index c) index l in
     record { value_is = rw past value; status_is = rw past flags }
 
-pub within_projected : (c : Projection) (mode : Round) (negative : Bool) (amount parts index code status : ℕ)
+pub within_projected : (c : Descriptor) (mode : Round) (negative : Bool) (amount parts index code status : ℕ)
     (exact : Bool) → index ≤ largest_index c → exact ≡ eqb (point c.precision index * parts) amount
     → projected_datum c code ≡ signed_quanta NanNegativeZero negative (point c.precision index)
     → status ≡ cond exact 0 (cond (ltb index (2 ^ (c.precision - 1))) 24 16)
@@ -63,7 +64,7 @@ normal_category p index negative some l =
     let off : eqb (point p index) 0 ≡ false = ne_eqb (point p index) 0 (λ e. omega (arith, e, l, least)) in
     rw off refl
 
-pub largest_some : (c : Projection) → IsProjection c → 0 < largest_index c
+pub largest_some : (c : Descriptor) → IsProjection c → 0 < largest_index c
 largest_some c law = by_cases c.signed c.extended (four_codes c law)
   where
     by_cases : (signed extended : Bool) {n : ℕ} → 4 ≤ n → 0 < n - 1 - cond signed 0 1 - cond extended 1 0
@@ -73,7 +74,7 @@ largest_some c law = by_cases c.signed c.extended (four_codes c law)
     by_cases false false l = omega (arith, l)
 
 -- what each category becomes in a projection: a NaN becomes the NaN
-pub nan_into : (c : Projection) (f : Format) (mode : ConversionRound) (x : Datum) (code status : ℕ) (loses : Bool)
+pub nan_into : (c : Descriptor) (f : Format) (mode : ConversionRound) (x : Datum) (code status : ℕ) (loses : Bool)
     → category_of x ≡ NaN → projected_datum c code ≡ nan false 0
     → status ≡ invalid_if (is_signaling_nan f x) → loses ≡ not (eqb (payload_mask f) 0)
     → IsIntoProjectionBy c f mode x code status loses
@@ -82,7 +83,7 @@ nan_into c f mode (nan b s) code status loses is value flags lost =
 nan_into c f mode (finite b n) code status loses is value flags lost = absurd (no_nan (eqb n 0) is)
 nan_into c f mode (infinite b) code status loses is value flags lost = cc
 
-number_by : (c : Projection) (f : Format) (mode : ConversionRound) (b none unsigned : Bool) (n code status : ℕ)
+number_by : (c : Descriptor) (f : Format) (mode : ConversionRound) (b none unsigned : Bool) (n code status : ℕ)
     (loses : Bool) → cond none Zero Normal ≡ Normal → unsigned ≡ false
     → IsProjectedNumberBy c f mode b n code status loses
     → MatchBool none (IsCodeOf c (finite false 0) (cond b inexact_bit ok_bits) b code status loses)
@@ -91,7 +92,7 @@ number_by c f mode b true unsigned n code status loses is known h = cc
 number_by c f mode b false true n code status loses is known h = absurd (false≢true (sym known))
 number_by c f mode b false false n code status loses is known h = h
 
-pub number_into : (c : Projection) (f : Format) (mode : ConversionRound) (x : Datum) (code status : ℕ)
+pub number_into : (c : Descriptor) (f : Format) (mode : ConversionRound) (x : Datum) (code status : ℕ)
     (loses negative : Bool) → category_of x ≡ Normal → negative ≡ is_negative x
     → (negative && not c.signed) ≡ false
     → IsProjectedBy c mode negative (quanta_of x * 2 ^ (projected_format c).scale) (2 ^ f.scale) code status
@@ -130,7 +131,7 @@ signed_if false signed e h = absurd (false≢true h)
 -- ---- out
 
 -- the NaN of a format with one NaN at the code of -0, whatever its precision
-pub nan_converted : (c : Projection) (g : Format) (mode : Round) (code : ℕ) (value : Datum) (status : ℕ)
+pub nan_converted : (c : Descriptor) (g : Format) (mode : Round) (code : ℕ) (value : Datum) (status : ℕ)
     (loses : Bool) → projected_datum c code ≡ nan false 0
     → value ≡ nan (nan_sign g.nonfinite false) (quiet_significand g 0)
     → status ≡ ok_bits → loses ≡ false
@@ -145,21 +146,21 @@ nan_converted c g mode code value status loses is v s l =
     })
 
 -- what the conversion of another format's infinity or zero is does not depend on that format
-pub infinity_converted : (c : Projection) (f g : Format) (mode : Round) (code : ℕ) (negative : Bool) (value : Datum)
+pub infinity_converted : (c : Descriptor) (f g : Format) (mode : Round) (code : ℕ) (negative : Bool) (value : Datum)
     (status : ℕ) (loses : Bool) → projected_datum c code ≡ infinite negative
     → IsConversion f g mode (infinite negative) value status loses
     → IsConversion (projected_format c) g mode (projected_datum c code) value status loses
 infinity_converted c f g mode code negative value status loses is h =
     subst (λ (x : Datum). IsConversion (projected_format c) g mode x value status loses) (sym is) h
 
-pub zero_converted : (c : Projection) (f g : Format) (mode : Round) (code : ℕ) (value : Datum) (status : ℕ)
+pub zero_converted : (c : Descriptor) (f g : Format) (mode : Round) (code : ℕ) (value : Datum) (status : ℕ)
     (loses : Bool) → projected_datum c code ≡ finite false 0
     → IsConversion f g mode (finite false 0) value status loses
     → IsConversion (projected_format c) g mode (projected_datum c code) value status loses
 zero_converted c f g mode code value status loses is h =
     subst (λ (x : Datum). IsConversion (projected_format c) g mode x value status loses) (sym is) h
 
-pub number_converted : (c : Projection) (g : Format) (mode : Round) (code index : ℕ) (negative : Bool) (value : Datum)
+pub number_converted : (c : Descriptor) (g : Format) (mode : Round) (code index : ℕ) (negative : Bool) (value : Datum)
     (status : ℕ) (loses : Bool) → 0 < c.precision → 0 < index
     → projected_datum c code ≡ finite negative (point c.precision index)
     → IsDelivered g mode negative (point c.precision index * 2 ^ g.scale) (2 ^ (projected_format c).scale) value

@@ -11,12 +11,13 @@ use Rattle.small_formats.specs.ModeLaws.{AreAllRandom, count_below}
 use Rattle.small_formats.specs.Modes.{IsPickBy, parts_above}
 use Rattle.small_formats.specs.PicksBy.{IsCodePickBy, IsPointPickBy}
 use Rattle.p3109_formats.specs.ModeConversions.{IsIntoProjectionBy}
-use Rattle.p3109_formats.specs.Projections.{IsIntoProjection, IsProjection, Projection}
+use Rattle.p3109_formats.specs.declared.descriptor.Descriptor.{Descriptor}
+use Rattle.p3109_formats.specs.Projections.{IsIntoProjection, IsProjection}
 
 -- as `IsProjectedOnce`
 abbrev pub IsProjectedByOnce : Type 0
 IsProjectedByOnce =
-    (c : Projection) (f : Format) (mode : ConversionRound) (x : Datum) (code other status flags : ℕ)
+    (c : Descriptor) (f : Format) (mode : ConversionRound) (x : Datum) (code other status flags : ℕ)
     (loses lost : Bool) → IsProjection c → code < 2 ^ c.bits → other < 2 ^ c.bits
     → IsIntoProjectionBy c f mode x code status loses → IsIntoProjectionBy c f mode x other flags lost
     → (code ≡ other) × (status ≡ flags) × (loses ≡ lost)
@@ -31,7 +32,7 @@ AreCodePicksPicksBy =
 -- conversions by the five modes are those of `Projections`
 abbrev pub AreProjectionsOfModes : Type 0
 AreProjectionsOfModes =
-    (c : Projection) (f : Format) (mode : Round) (x : Datum) (code status : ℕ) (loses : Bool)
+    (c : Descriptor) (f : Format) (mode : Round) (x : Datum) (code status : ℕ) (loses : Bool)
     → IsIntoProjectionBy c f (Ieee mode) x code status loses → IsIntoProjection c f mode x code status loses
 
 -- as `AreRandomNumbersCounted`, between the points with the numbers `low` and `low + 1`

@@ -12,23 +12,17 @@ use Rattle.apfloat_model.specs.rounding.Rounding.{IsPick, inexact_bit, leads_out
 use Rattle.apfloat_model.specs.rounding.Rounding.{takes_above, underflow_bit}
 use Rattle.small_formats.specs.Codes.{point}
 use Rattle.small_formats.specs.IndexPicks.{IsIndexPick}
+use Rattle.p3109_formats.specs.declared.descriptor.Descriptor.{Descriptor}
 
--- named as in the types of these formats
-pub record Projection : Type 0 where
-  pub bits : ℕ
-  pub precision : ℕ
-  pub signed : Bool
-  pub extended : Bool
-
-abbrev pub projection_with : ℕ → ℕ → Bool → Bool → Projection
+abbrev pub projection_with : ℕ → ℕ → Bool → Bool → Descriptor
 projection_with bits precision signed extended =
     record { bits = bits; precision = precision; signed = signed; extended = extended }
 
-abbrev pub sign_bits : Projection → ℕ
+abbrev pub sign_bits : Descriptor → ℕ
 sign_bits c = if c.signed then 1 else 0
 
 -- The law. The exponent has at least one bit.
-pub record IsProjection (c : Projection) : Type 0 where
+pub record IsProjection (c : Descriptor) : Type 0 where
   pub bits_low : 3 ≤ c.bits
   pub bits_high : c.bits ≤ 15
   pub precision_low : 1 ≤ c.precision
@@ -37,32 +31,32 @@ pub record IsProjection (c : Projection) : Type 0 where
 -- ---- codes
 
 -- Half of the exponents are below 1, whose code is in the middle of the codes without a sign.
-abbrev pub exponent_bits : Projection → ℕ
+abbrev pub exponent_bits : Descriptor → ℕ
 exponent_bits c = c.bits + 1 - c.precision - sign_bits c
 
-abbrev pub bias : Projection → ℕ
+abbrev pub bias : Descriptor → ℕ
 bias c = 2 ^ (exponent_bits c - 1)
 
-abbrev pub unsigned_codes : Projection → ℕ
+abbrev pub unsigned_codes : Descriptor → ℕ
 unsigned_codes c = 2 ^ (c.bits - sign_bits c)
 
 -- the NaN is the code that would be -0; without a sign, it is the last code
-abbrev pub nan_code : Projection → ℕ
+abbrev pub nan_code : Descriptor → ℕ
 nan_code c = if c.signed then unsigned_codes c else unsigned_codes c - 1
 
 -- the number of the largest point: the last code below the sign and the NaN, or the one before the infinity there
-abbrev pub largest_index : Projection → ℕ
+abbrev pub largest_index : Descriptor → ℕ
 largest_index c = unsigned_codes c - 1 - (if c.signed then 0 else 1) - (if c.extended then 1 else 0)
 
 -- a sign, and the code below it
-abbrev pub is_negative_code : Projection → ℕ → Bool
+abbrev pub is_negative_code : Descriptor → ℕ → Bool
 is_negative_code c code = c.signed && leb (unsigned_codes c) code
 
-abbrev pub magnitude_of : Projection → ℕ → ℕ
+abbrev pub magnitude_of : Descriptor → ℕ → ℕ
 magnitude_of c code = code % unsigned_codes c
 
 -- what the code means; the significand of the NaN is 0
-abbrev pub projected_datum : Projection → ℕ → Datum
+abbrev pub projected_datum : Descriptor → ℕ → Datum
 projected_datum c code =
     if eqb code (nan_code c) then nan false 0
     else (if ltb (largest_index c) (magnitude_of c code) then infinite (is_negative_code c code)
@@ -70,7 +64,7 @@ projected_datum c code =
 
 -- The numbers of the format as those of a format of the model: the quantum and the digits. Only conversions out of the
 -- format use it, and these read neither its greatest exponent nor whether it has infinities.
-abbrev pub projected_format : Projection → Format
+abbrev pub projected_format : Descriptor → Format
 projected_format c =
     record {
       precision = c.precision;
@@ -96,24 +90,24 @@ IsPointPick precision mode negative amount parts index =
     (IsPick precision mode negative amount parts (point precision index))
 
 -- the infinity of that sign, or the NaN in its place
-abbrev pub past_value : Projection → Bool → Datum
+abbrev pub past_value : Descriptor → Bool → Datum
 past_value c negative = if c.extended then infinite negative else nan false 0
 
-abbrev pub projected_value : Projection → Round → Bool → ℕ → Datum
+abbrev pub projected_value : Descriptor → Round → Bool → ℕ → Datum
 projected_value c mode negative index =
     if ltb (largest_index c) index
     then (if leads_out mode negative then past_value c negative
     else finite negative (point c.precision (largest_index c)))
     else signed_quanta NanNegativeZero negative (point c.precision index)
 
-abbrev pub projected_status : Projection → Round → Bool → ℕ → ℕ → ℕ → ℕ
+abbrev pub projected_status : Descriptor → Round → Bool → ℕ → ℕ → ℕ → ℕ
 projected_status c mode negative amount parts index =
     if ltb (largest_index c) index
     then (if leads_out mode negative then overflow_bit + inexact_bit else inexact_bit)
     else (if eqb (point c.precision index * parts) amount then ok_bits
     else (if ltb index (2 ^ (c.precision - 1)) then underflow_bit + inexact_bit else inexact_bit))
 
-pub record IsProjected (c : Projection) (mode : Round) (negative : Bool) (amount parts code status : ℕ)
+pub record IsProjected (c : Descriptor) (mode : Round) (negative : Bool) (amount parts code status : ℕ)
     : Type 0 where
   pub index : ℕ
   pub is_pick : IsPointPick c.precision mode negative amount parts index
@@ -122,28 +116,28 @@ pub record IsProjected (c : Projection) (mode : Round) (negative : Bool) (amount
 
 -- ---- any value
 
-pub record IsProjectedNumber (c : Projection) (f : Format) (mode : Round) (negative : Bool)
+pub record IsProjectedNumber (c : Descriptor) (f : Format) (mode : Round) (negative : Bool)
     (quanta code status : ℕ) (loses_info : Bool) : Type 0 where
   pub is_rounded : IsProjected c mode negative (quanta * 2 ^ (projected_format c).scale) (2 ^ f.scale) code status
   pub loses_is : loses_info ≡ not (eqb status ok_bits)
 
-pub record IsCodeOf (c : Projection) (given : Datum) (flags : ℕ) (loses : Bool) (code status : ℕ)
+pub record IsCodeOf (c : Descriptor) (given : Datum) (flags : ℕ) (loses : Bool) (code status : ℕ)
     (loses_info : Bool) : Type 0 where
   pub value_is : projected_datum c code ≡ given
   pub status_is : status ≡ flags
   pub loses_is : loses_info ≡ loses
 
 -- what is below zero has no code without a sign
-abbrev pub IsWithoutCode : Projection → ℕ → ℕ → Bool → Type 0
+abbrev pub IsWithoutCode : Descriptor → ℕ → ℕ → Bool → Type 0
 IsWithoutCode c code status loses_info = IsCodeOf c (nan false 0) invalid_bit true code status loses_info
 
-abbrev pub IsInfinityOf : Projection → Bool → ℕ → ℕ → Bool → Type 0
+abbrev pub IsInfinityOf : Descriptor → Bool → ℕ → ℕ → Bool → Type 0
 IsInfinityOf c negative code status loses_info =
     MatchBool c.extended (IsCodeOf c (infinite negative) ok_bits false code status loses_info)
     (IsCodeOf c (nan false 0) inexact_bit true code status loses_info)
 
 -- A value of the format f becomes this code. -0 becomes the only zero. A NaN loses its payload.
-abbrev pub IsIntoProjection : Projection → Format → Round → Datum → ℕ → ℕ → Bool → Type 0
+abbrev pub IsIntoProjection : Descriptor → Format → Round → Datum → ℕ → ℕ → Bool → Type 0
 IsIntoProjection c f mode (nan b s) code status loses_info =
     IsCodeOf c (nan false 0) (invalid_if (is_signaling f s)) (not (eqb (payload_mask f) 0)) code status loses_info
 IsIntoProjection c f mode (infinite b) code status loses_info =
@@ -157,23 +151,23 @@ IsIntoProjection c f mode (finite b n) code status loses_info =
 -- ---- neighbours
 
 -- the number of the last point, or of the infinity past it
-abbrev pub last_index : Projection → ℕ
+abbrev pub last_index : Descriptor → ℕ
 last_index c = largest_index c + (if c.extended then 1 else 0)
 
 -- the code of a point with a sign; a zero has none
-abbrev pub coded : Projection → Bool → ℕ → ℕ
+abbrev pub coded : Descriptor → Bool → ℕ → ℕ
 coded c negative index = if negative && not (eqb index 0) then unsigned_codes c + index else index
 
 -- The code of the least value that is greater (IEEE 754-2019 5.3.1, nextUp). Past the largest number is the infinity,
 -- or the NaN in its place; an infinity there and the NaN stay.
-abbrev pub code_above : Projection → ℕ → ℕ
+abbrev pub code_above : Descriptor → ℕ → ℕ
 code_above c code =
     if eqb code (nan_code c) then code
     else (if is_negative_code c code then coded c true (magnitude_of c code - 1)
     else (if c.extended && eqb code (last_index c) then code else code + 1))
 
 -- The code of the greatest value that is less (nextDown). Without a sign there is nothing below zero but the NaN.
-abbrev pub code_below : Projection → ℕ → ℕ
+abbrev pub code_below : Descriptor → ℕ → ℕ
 code_below c code =
     if eqb code (nan_code c) then code
     else (if is_negative_code c code

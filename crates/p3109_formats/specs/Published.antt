@@ -1,7 +1,8 @@
 -- The named formats, as IEEE P3109 describes them.
 use Rattle.std.specs.Prelude.{◌≡◌, ℕ, ◌*◌, ◌^◌, Bool, true, false}
 use Rattle.small_formats.specs.Codes.{point}
-use Rattle.p3109_formats.specs.Projections.{Projection, bias, largest_index, nan_code, projected_format}
+use Rattle.p3109_formats.specs.declared.descriptor.Descriptor.{Descriptor}
+use Rattle.p3109_formats.specs.Projections.{bias, largest_index, nan_code, projected_format}
 
 -- The smallest positive number is 2 ^ -scale. Of the largest one and of the NaN the codes are given too.
 pub record PublishedProjection : Type 0 where
@@ -53,7 +54,7 @@ binary8p1uf =
       nan_code = 255;
     }
 
-pub record IsPublishedProjection (p : PublishedProjection) (c : Projection) : Type 0 where
+pub record IsPublishedProjection (p : PublishedProjection) (c : Descriptor) : Type 0 where
   pub bits_are : c.bits ≡ p.bits
   pub precision_is : c.precision ≡ p.precision
   pub signed_is : c.signed ≡ p.signed

@@ -12,11 +12,12 @@ ghost use Rattle.small_formats.specs.Codes.{point};
 ghost use Rattle.p3109_formats.specs.Picks.{IsProjectedAt};
 ghost use Rattle.p3109_formats.specs.ModeConversions.{IsIntoProjectionBy, IsProjectedBy};
 ghost use Rattle.p3109_formats.specs.Types.{projection_of};
-ghost use Rattle.p3109_formats.specs.Projections.{IsInfinityOf, IsIntoProjection, IsWithoutCode};
+ghost use Rattle.p3109_formats.specs.Projections.{IsInfinityOf, IsIntoProjection, IsProjection, IsWithoutCode};
 ghost use Rattle.p3109_formats.specs.Projections.{exponent_bits, largest_index, past_value};
 ghost use Rattle.p3109_formats.specs.Projections.{projected_datum, projected_format};
 
-use crate::projected::{Projected, largest_index};
+use crate::descriptor::Descriptor;
+use crate::projected::Projected;
 use crate::projection::Projection;
 use apfloat_base::{Category, Flags, Float, Round, Status, StatusAnd};
 use apfloat_ieee::{IeeeFloat, Semantics};
@@ -27,112 +28,165 @@ use small_formats::picks::{Picked, ieee_mode, pick_value};
 use small_formats::statuses::{status_of_nan, status_past, status_within};
 
 /// The bits of the exponent.
-fn exponent_bits<F: Projection>() -> u32
-    ensures value { result ≡ exponent_bits (projection_of F.Projection) }
+fn exponent_bits(format: Descriptor) -> u32
+    requires { IsProjection format }
+    ensures value { result ≡ exponent_bits format }
     ensures some { 1 ≤ result }
     ensures few { result ≤ 15 }
 {
-    if F::SIGNED {
-        (F::BITS - F::PRECISION) as u32
+    if format.signed {
+        format.bits - format.precision
     } else {
-        (F::BITS + 1 - F::PRECISION) as u32
+        format.bits + 1 - format.precision
     }
 }
 
 /// The negated exponent of the quantum.
-pub(crate) fn scale<F: Projection>() -> u32
-    ensures value { result ≡ (projected_format (projection_of F.Projection)).scale }
+pub(crate) fn scale(format: Descriptor) -> u32
+    requires { IsProjection format }
+    ensures value { result ≡ (projected_format format).scale }
     ensures within { result ≤ 2 ^ 15 }
 {
-    F::PRECISION as u32 + power_of_two(exponent_bits::<F>() - 1) as u32 - 2
+    format.precision + power_of_two(exponent_bits(format) - 1) as u32 - 2
 }
 
-/// The value that takes the place of a pick past the largest number.
-fn past_value<F: Projection>(mode: Round, negative: bool) -> Projected<F>
-    requires { negative ≡ true → F.SIGNED ≡ true }
-    ensures { let c = projection_of F.Projection in projected_datum c result
-        ≡ (if leads_out mode negative then past_value c negative
-        else finite negative (point c.precision (largest_index c))) }
+/// The code that takes the place of a pick past the largest number.
+fn past_value(format: Descriptor, mode: Round, negative: bool) -> u16
+    requires lawful { IsProjection format }
+    requires sign { negative ≡ true → format.signed ≡ true }
+    ensures datum { projected_datum format result
+        ≡ (if leads_out mode negative then past_value format negative
+        else finite negative (point format.precision (largest_index format))) }
+    ensures below { result < 2 ^ format.bits }
 {
     if leads_past(mode, negative) {
-        return Projected::past(negative);
+        return format.past(negative);
     }
-    Projected::number(negative, largest_index::<F>())
+    format.number(negative, format.largest_index())
 }
 
 /// What is delivered past the largest number.
-fn past<F: Projection>(mode: Round, negative: bool) -> StatusAnd<Projected<F>>
-    requires { negative ≡ true → F.SIGNED ≡ true }
-    ensures { (amount parts index : ℕ) → largest_index (projection_of F.Projection) < index
-        → Gives (IsProjectedAt (projection_of F.Projection) mode negative amount parts index)
-        result }
+fn past(format: Descriptor, mode: Round, negative: bool) -> StatusAnd<u16>
+    requires lawful { IsProjection format }
+    requires sign { negative ≡ true → format.signed ≡ true }
+    ensures delivered { (amount parts index : ℕ) → largest_index format < index
+        → Gives (IsProjectedAt format mode negative amount parts index) result }
+    ensures below { result.value < 2 ^ format.bits }
 {
-    status_past(mode, negative).and(past_value(mode, negative))
+    status_past(mode, negative).and(past_value(format, mode, negative))
 }
 
-/// The value that is delivered for a pick.
-fn deliver_pick<F: Projection>(
-    picked: Picked,
-    mode: Round,
-    negative: bool,
-) -> StatusAnd<Projected<F>>
-    requires { negative ≡ true → F.SIGNED ≡ true }
-    ensures { (amount parts : ℕ)
-        → picked.exact ≡ eqb (point F.PRECISION picked.index * parts) amount
-        → Gives (IsProjectedAt (projection_of F.Projection) mode negative amount parts
-        picked.index) result }
+/// The code that is delivered for a pick.
+fn deliver_pick(format: Descriptor, picked: Picked, mode: Round, negative: bool) -> StatusAnd<u16>
+    requires lawful { IsProjection format }
+    requires sign { negative ≡ true → format.signed ≡ true }
+    ensures delivered { (amount parts : ℕ)
+        → picked.exact ≡ eqb (point format.precision picked.index * parts) amount
+        → Gives (IsProjectedAt format mode negative amount parts picked.index) result }
+    ensures below { result.value < 2 ^ format.bits }
 {
-    if picked.index > u128::from(largest_index::<F>()) {
-        return past(mode, negative);
+    if picked.index > u128::from(format.largest_index()) {
+        return past(format, mode, negative);
     }
-    let status = status_within(F::PRECISION as u32, picked);
-    status.and(Projected::number(negative, picked.index as u16))
+    let status = status_within(format.precision, picked);
+    status.and(format.number(negative, picked.index as u16))
 }
 
 /// A positive value, rounded once as a value with that sign.
-fn round_positive<S: Semantics, F: Projection>(
+fn round_positive<S: Semantics>(
+    format: Descriptor,
     x: IeeeFloat<S>,
     mode: ConversionRound,
     negative: bool,
-) -> StatusAnd<Projected<F>>
+) -> StatusAnd<u16>
+    requires lawful { IsProjection format }
     requires positive { IsPositive (format_of S.Semantics) x }
-    requires sign { negative ≡ true → F.SIGNED ≡ true }
-    ensures { let c = projection_of F.Projection in Gives (IsProjectedBy c mode negative
-        (quanta_of x * 2 ^ (projected_format c).scale) (2 ^ (format_of S.Semantics).scale)) result }
+    requires sign { negative ≡ true → format.signed ≡ true }
+    ensures rounded { Gives (IsProjectedBy format mode negative
+        (quanta_of x * 2 ^ (projected_format format).scale) (2 ^ (format_of S.Semantics).scale)) result }
+    ensures below { result.value < 2 ^ format.bits }
 {
-    let picked = pick_value(x, F::PRECISION as u32, scale::<F>(), mode, negative);
-    deliver_pick(picked, ieee_mode(mode), negative)
+    let picked = pick_value(x, format.precision, scale(format), mode, negative);
+    deliver_pick(format, picked, ieee_mode(mode), negative)
 }
 
 /// The infinity of that sign.
-fn infinity<F: Projection>(negative: bool, loses_info: &mut bool) -> StatusAnd<Projected<F>>
-    requires { negative ≡ true → F.SIGNED ≡ true }
-    ensures { IsInfinityOf (projection_of F.Projection) negative result.value
-        (bits_of result.status) loses_info.new }
+fn infinity(format: Descriptor, negative: bool, loses_info: &mut bool) -> StatusAnd<u16>
+    requires lawful { IsProjection format }
+    requires sign { negative ≡ true → format.signed ≡ true }
+    ensures is { IsInfinityOf format negative result.value (bits_of result.status) loses_info.new }
+    ensures below { result.value < 2 ^ format.bits }
 {
-    *loses_info = !F::EXTENDED;
-    let status = if F::EXTENDED {
+    *loses_info = !format.extended;
+    let status = if format.extended {
         Status::OK
     } else {
         Status::INEXACT
     };
-    status.and(Projected::past(negative))
+    status.and(format.past(negative))
 }
 
 /// Whether nothing of that sign has a code.
-fn lacks_sign<F: Projection>(negative: bool) -> bool
-    ensures { result ≡ (negative && not F.SIGNED) }
+fn lacks_sign(format: Descriptor, negative: bool) -> bool
+    ensures { result ≡ (negative && not format.signed) }
 {
-    negative && !F::SIGNED
+    negative && !format.signed
 }
 
 /// What is below zero, in a format without a sign.
-fn without_code<F: Projection>(loses_info: &mut bool) -> StatusAnd<Projected<F>>
-    ensures { IsWithoutCode (projection_of F.Projection) result.value (bits_of result.status)
-        loses_info.new }
+fn without_code(format: Descriptor, loses_info: &mut bool) -> StatusAnd<u16>
+    requires { IsProjection format }
+    ensures is { IsWithoutCode format result.value (bits_of result.status) loses_info.new }
+    ensures below { result.value < 2 ^ format.bits }
 {
     *loses_info = true;
-    Status::INVALID_OP.and(Projected::nan())
+    Status::INVALID_OP.and(format.nan())
+}
+
+impl Descriptor {
+    /// `Projected::from_value_by`, as a code of the format.
+    pub fn from_value_by<S: Semantics>(
+        self,
+        x: IeeeFloat<S>,
+        mode: ConversionRound,
+        loses_info: &mut bool,
+    ) -> StatusAnd<u16>
+        requires { IsProjection self }
+        ensures into { IsIntoProjectionBy self (format_of S.Semantics) mode x result.value
+            (bits_of result.status) loses_info.new }
+        ensures below { result.value < 2 ^ self.bits }
+    {
+        let negative = x.is_negative();
+        match x.category() {
+            Category::NaN => {
+                *loses_info = S::NAN_PAYLOAD_MASK != 0;
+                status_of_nan(x).and(self.nan())
+            }
+            Category::Infinity => {
+                if lacks_sign(self, negative) {
+                    return without_code(self, loses_info);
+                }
+                infinity(self, negative, loses_info)
+            }
+            Category::Zero => {
+                *loses_info = negative;
+                let status = if negative {
+                    Status::INEXACT
+                } else {
+                    Status::OK
+                };
+                status.and(self.number(false, 0))
+            }
+            Category::Normal => {
+                if lacks_sign(self, negative) {
+                    return without_code(self, loses_info);
+                }
+                let answer = round_positive(self, x.abs(), mode, negative);
+                *loses_info = answer.status != Status::OK;
+                answer
+            }
+        }
+    }
 }
 
 impl<F: Projection> Projected<F> {
@@ -168,35 +222,7 @@ impl<F: Projection> Projected<F> {
         ensures { IsIntoProjectionBy (projection_of F.Projection) (format_of S.Semantics) mode x
             result.value (bits_of result.status) loses_info.new }
     {
-        let negative = x.is_negative();
-        match x.category() {
-            Category::NaN => {
-                *loses_info = S::NAN_PAYLOAD_MASK != 0;
-                status_of_nan(x).and(Self::nan())
-            }
-            Category::Infinity => {
-                if lacks_sign::<F>(negative) {
-                    return without_code(loses_info);
-                }
-                infinity(negative, loses_info)
-            }
-            Category::Zero => {
-                *loses_info = negative;
-                let status = if negative {
-                    Status::INEXACT
-                } else {
-                    Status::OK
-                };
-                status.and(Self::number(false, 0))
-            }
-            Category::Normal => {
-                if lacks_sign::<F>(negative) {
-                    return without_code(loses_info);
-                }
-                let answer = round_positive(x.abs(), mode, negative);
-                *loses_info = answer.status != Status::OK;
-                answer
-            }
-        }
+        let answer = Descriptor::of::<F>().from_value_by(x, mode, loses_info);
+        answer.status.and(Self::of_code(answer.value))
     }
 }

@@ -2,12 +2,14 @@
 //! format, into which they are converted.
 //!
 //! A format is a type with four constants (`projection`), and `Projected<F>` a value of it: its code, its order and its
-//! neighbours (`projected`). `from_value` and `to_value` convert. A number is rounded by the picks of `small_formats`,
-//! and nothing is rounded here.
+//! neighbours (`projected`). A `Descriptor` has the constants as a value, for formats chosen at run time.
+//! `from_value` and `to_value` convert. A number is rounded by the picks of `small_formats`, and nothing is rounded
+//! here.
 //!
 //! `published` states what P3109 says of the named ones.
 #![tactic(auto)]
 
+mod descriptor;
 mod from_value;
 mod projected;
 mod projection;
@@ -15,6 +17,7 @@ mod published;
 mod theorems;
 mod to_value;
 
+pub use descriptor::Descriptor;
 pub use projected::Projected;
 pub use projection::{Binary8P1UF, Binary8P3, Binary8P4, Binary8P5, Projection};
 pub use published::projections_are_those_of_p3109;

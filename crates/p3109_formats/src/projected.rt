@@ -2,21 +2,19 @@
 
 ghost use Rattle.std.specs.Prelude.{◌≡◌, ◌+◌, ◌%◌, ◌^◌, ◌<◌, ◌≤◌, if◌then◌else◌, eqb};
 ghost use Rattle.std.specs.Prelude.{true, false};
-ghost use Rattle.apfloat_model.specs.declared.kinds.NonfiniteBehavior.TheVariants.{NanNegativeZero};
 ghost use Rattle.apfloat_model.specs.arithmetic.Exact.{signed};
 ghost use Rattle.apfloat_model.specs.formats.Datum.{nan};
 ghost use Rattle.apfloat_model.specs.order.Classes.{category_of};
 ghost use Rattle.apfloat_model.specs.order.Order.{compared};
-ghost use Rattle.apfloat_model.specs.rounding.Rounding.{signed_quanta};
-ghost use Rattle.small_formats.specs.Codes.{point};
 ghost use Rattle.p3109_formats.specs.Types.{projection_of};
 ghost use Rattle.p3109_formats.specs.Projections.{code_above, code_below, coded, is_negative_code, largest_index};
-ghost use Rattle.p3109_formats.specs.Projections.{last_index, magnitude_of, nan_code, past_value, projected_datum};
+ghost use Rattle.p3109_formats.specs.Projections.{last_index, magnitude_of, nan_code, projected_datum};
 ghost use Rattle.p3109_formats.specs.Projections.{unsigned_codes};
 
+use crate::descriptor::Descriptor;
 use crate::projection::Projection;
 use apfloat_base::Category;
-use apfloat_words::{low_digits, power_of_two};
+use apfloat_words::low_digits;
 use std::cmp::Ordering;
 use std::marker::{Model, PhantomData};
 
@@ -41,44 +39,18 @@ impl<F: Projection> Model for Projected<F> {
     ghost inverse_ok = { λ x h. refl };
 }
 
-/// How many codes have no sign.
-pub(crate) fn unsigned_codes<F: Projection>() -> u16
-    ensures { result ≡ unsigned_codes (projection_of F.Projection) }
-{
-    let bits = if F::SIGNED { F::BITS - 1 } else { F::BITS };
-    power_of_two(bits as u32) as u16
-}
-
-/// The code of the NaN.
-fn nan_code<F: Projection>() -> u16
-    ensures value { result ≡ nan_code (projection_of F.Projection) }
-    ensures below { result < 2 ^ F.BITS }
-{
-    if F::SIGNED {
-        unsigned_codes::<F>()
-    } else {
-        unsigned_codes::<F>() - 1
-    }
-}
-
 /// The number of the largest point.
-pub(crate) fn largest_index<F: Projection>() -> u16
+fn largest_index<F: Projection>() -> u16
     ensures { result ≡ largest_index (projection_of F.Projection) }
 {
-    let codes = unsigned_codes::<F>();
-    let last = if F::SIGNED { codes - 1 } else { codes - 2 };
-    if F::EXTENDED { last - 1 } else { last }
+    Descriptor::of::<F>().largest_index()
 }
 
 /// The number of the largest point, or of the infinity past it.
 fn last_index<F: Projection>() -> u16
     ensures { result ≡ last_index (projection_of F.Projection) }
 {
-    if F::EXTENDED {
-        largest_index::<F>() + 1
-    } else {
-        largest_index::<F>()
-    }
+    Descriptor::of::<F>().last_index()
 }
 
 impl<F: Projection> Projected<F> {
@@ -98,7 +70,7 @@ impl<F: Projection> Projected<F> {
     }
 
     /// The value with that code.
-    fn of_code(code: u16) -> Self
+    pub(crate) fn of_code(code: u16) -> Self
         requires { code < 2 ^ F.BITS }
         ensures { result ≡ code }
     {
@@ -113,7 +85,7 @@ impl<F: Projection> Projected<F> {
         ensures code { result ≡ nan_code (projection_of F.Projection) }
         ensures datum { projected_datum (projection_of F.Projection) result ≡ nan false 0 }
     {
-        Self::of_code(nan_code::<F>())
+        Self::of_code(Descriptor::of::<F>().nan())
     }
 
     /// The code of a point with a sign.
@@ -122,34 +94,7 @@ impl<F: Projection> Projected<F> {
         requires index { index ≤ last_index (projection_of F.Projection) }
         ensures { result ≡ coded (projection_of F.Projection) negative index }
     {
-        if negative && index != 0 {
-            Self::of_code(unsigned_codes::<F>() + index)
-        } else {
-            Self::of_code(index)
-        }
-    }
-
-    /// The number at that point. A zero has no sign.
-    pub(crate) fn number(negative: bool, index: u16) -> Self
-        requires sign { negative ≡ true → F.SIGNED ≡ true }
-        requires index { index ≤ largest_index (projection_of F.Projection) }
-        ensures { projected_datum (projection_of F.Projection) result
-            ≡ signed_quanta NanNegativeZero negative (point F.PRECISION index) }
-    {
-        Self::of_index(negative, index)
-    }
-
-    /// The infinity of that sign, or the NaN in its place.
-    pub(crate) fn past(negative: bool) -> Self
-        requires { negative ≡ true → F.SIGNED ≡ true }
-        ensures { projected_datum (projection_of F.Projection) result
-            ≡ past_value (projection_of F.Projection) negative }
-    {
-        if F::EXTENDED {
-            Self::of_index(negative, last_index::<F>())
-        } else {
-            Self::nan()
-        }
+        Self::of_code(Descriptor::of::<F>().of_index(negative, index))
     }
 
     /// The category (IEEE 754-2019 5.7.2).
@@ -173,23 +118,23 @@ impl<F: Projection> Projected<F> {
     pub fn is_nan(self) -> bool
         ensures { result ≡ eqb self (nan_code (projection_of F.Projection)) }
     {
-        self.code == nan_code::<F>()
+        Descriptor::of::<F>().is_nan(self.code)
     }
 
     /// Whether the code has a sign. In a format with a sign the NaN has one, since its code is that of -0.
     pub fn is_negative(self) -> bool
         ensures { result ≡ is_negative_code (projection_of F.Projection) self }
     {
-        F::SIGNED && self.code >= unsigned_codes::<F>()
+        Descriptor::of::<F>().is_negative(self.code)
     }
 
     /// The code below the sign.
-    pub(crate) fn magnitude(self) -> u16
+    fn magnitude(self) -> u16
         ensures value { result ≡ magnitude_of (projection_of F.Projection) self }
         ensures below { result < unsigned_codes (projection_of F.Projection) }
         ensures fits { self < 2 ^ F.BITS }
     {
-        self.code % unsigned_codes::<F>()
+        Descriptor::of::<F>().magnitude(self.code)
     }
 
     /// The code below the sign, with the sign.

@@ -1,16 +1,15 @@
 use Rattle.std.proofs.Common.{◌*◌, ◌^◌}
 use Rattle.apfloat_model.specs.order.Classes.{quanta_of}
 use Rattle.apfloat_ieee.specs.Types.{format_of}
-use Rattle.p3109_formats.specs.Types.{projection_of}
 use Rattle.p3109_formats.specs.Projections.{projected_format}
 use Rattle.p3109_formats.proofs.from_value.round_positive.Goals as goal
 
-pub returns : goal.returns
-returns g c =
-    let amount = quanta_of c.args.x * 2 ^ (projected_format (projection_of g.F.Projection)).scale in
-    let picked = rw (c.scale.ensures.value, c.PRECISION.ensures) at c.pick_value-picked.ensures in
-    let delivered = (rw c.ieee_mode.ensures at c.deliver_pick.ensures) amount (2 ^ (format_of g.S.Semantics).scale)
-    picked.exact_is in
+pub returns-clause-rounded : goal.returns-clause-rounded
+returns-clause-rounded g c =
+    let amount = quanta_of c.args.x * 2 ^ (projected_format c.args.format).scale in
+    let picked = rw c.scale.ensures.value at c.pick_value-picked.ensures in
+    let delivered = (rw c.ieee_mode.ensures at c.deliver_pick.ensures.delivered) amount
+    (2 ^ (format_of g.S.Semantics).scale) picked.exact_is in
     record {
       index = c.pick_value-picked.result.index;
       is_pick = picked.is_pick;

@@ -3,24 +3,23 @@ use Rattle.apfloat_model.specs.formats.Datum.{nan}
 use Rattle.apfloat_model.specs.formats.Nan.{nan_sign, quiet_significand}
 use Rattle.apfloat_model.specs.rounding.Flags.{bits_of}
 use Rattle.apfloat_ieee.specs.FlaggedTypes.{format_of}
-use Rattle.p3109_formats.specs.Types.{projection_of}
 use Rattle.p3109_formats.specs.Projections.{magnitude_of, projected_format}
 use Rattle.p3109_formats.proofs.Codes.{infinity_at, nan_at, number_at, zero_at}
 use Rattle.p3109_formats.proofs.Values.{infinity_converted, nan_converted, number_converted, zero_converted}
-use Rattle.p3109_formats.proofs.projected.Projected.convert_r.Goals as goal
+use Rattle.p3109_formats.proofs.descriptor.Descriptor.convert_r.Goals as goal
 
 pub returns : goal.returns
 returns g c =
-    let d = projection_of g.F.Projection in
+    let d = c.args.self in
     let f = format_of g.T.Flagged in
-    let low = g.F.Projection.lawful.precision_low in
-    let some : 0 < magnitude_of d c.args.self =
+    let low = c.requires.lawful.precision_low in
+    let some : 0 < magnitude_of d c.args.code =
     omega (arith, c.magnitude-magnitude.ensures.value, c.if-magnitude-eq0.false) in
-    let at = rw (c.PRECISION.ensures, c.magnitude-magnitude.ensures.value) at c.point_at-point.ensures in
+    let at = rw c.magnitude-magnitude.ensures.value at c.point_at-point.ensures in
     let delivered = rw (at, c.scale.ensures.value) at c.convert_point.ensures.delivered in
-    number_converted d f c.args.round c.args.self (magnitude_of d c.args.self) c.is_negative-negative.result
+    number_converted d f c.args.round c.args.code (magnitude_of d c.args.code) c.is_negative-negative.result
     c.convert_point.result.value (bits_of c.convert_point.result.status) _ low some
-    (number_at d c.args.self c.is_nan.ensures c.if-is_nan.false c.is_negative-negative.ensures
+    (number_at d c.args.code c.is_nan.ensures c.if-is_nan.false c.is_negative-negative.ensures
     (omega (arith, c.magnitude-magnitude.ensures.value, c.largest_index.ensures, c.if-magnitude-largest_index.false)))
     delivered c.convert_point.ensures.loses
 
@@ -30,19 +29,19 @@ returns-then-is_nan g c =
     let f = format_of g.T.Flagged in
     let h = rw c.nan.ensures at c.convert_r.ensures.converted in
     let none : 0 * 2 ^ (f.precision - 4) / 2 ^ 0 ≡ 0 = omega arith in
-    nan_converted (projection_of g.F.Projection) f c.args.round c.args.self c.convert_r.result.value
+    nan_converted c.args.self f c.args.round c.args.code c.convert_r.result.value
     (bits_of c.convert_r.result.status) _
-    (nan_at (projection_of g.F.Projection) c.args.self c.is_nan.ensures c.if-is_nan.true)
+    (nan_at c.args.self c.args.code c.is_nan.ensures c.if-is_nan.true)
     (h.value_is ∙ ap (λ (n : ℕ). nan (nan_sign f.nonfinite false) (quiet_significand f n)) none) h.status_is
     h.loses_is
 
 pub returns-then-magnitude-largest_index : goal.returns-then-magnitude-largest_index
 returns-then-magnitude-largest_index g c =
-    infinity_converted (projection_of g.F.Projection) (projected_format (projection_of g.F.Projection))
-    (format_of g.T.Flagged) c.args.round c.args.self
+    infinity_converted c.args.self (projected_format c.args.self)
+    (format_of g.T.Flagged) c.args.round c.args.code
     c.is_negative-negative.result c.convert_r-then-magnitude-largest_index.result.value
     (bits_of c.convert_r-then-magnitude-largest_index.result.status) _
-    (infinity_at (projection_of g.F.Projection) c.args.self c.is_nan.ensures c.if-is_nan.false
+    (infinity_at c.args.self c.args.code c.is_nan.ensures c.if-is_nan.false
     c.is_negative-negative.ensures (omega (
       arith,
       c.magnitude-magnitude.ensures.value,
@@ -53,10 +52,10 @@ returns-then-magnitude-largest_index g c =
 
 pub returns-then-magnitude-eq0 : goal.returns-then-magnitude-eq0
 returns-then-magnitude-eq0 g c =
-    zero_converted (projection_of g.F.Projection) (projected_format (projection_of g.F.Projection))
-    (format_of g.T.Flagged) c.args.round c.args.self
+    zero_converted c.args.self (projected_format c.args.self)
+    (format_of g.T.Flagged) c.args.round c.args.code
     c.convert_r-then-magnitude-eq0.result.value (bits_of c.convert_r-then-magnitude-eq0.result.status) _
-    (zero_at (projection_of g.F.Projection) c.args.self g.F.Projection.lawful
-    c.magnitude-magnitude.ensures.fits c.is_nan.ensures c.if-is_nan.false
+    (zero_at c.args.self c.args.code c.requires.lawful
+    c.requires.code c.is_nan.ensures c.if-is_nan.false
     (omega (arith, c.magnitude-magnitude.ensures.value, c.if-magnitude-eq0.true)))
     (rw c.zero.ensures at c.convert_r-then-magnitude-eq0.ensures.converted)

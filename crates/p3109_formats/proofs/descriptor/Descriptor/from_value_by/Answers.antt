@@ -4,14 +4,13 @@ use Rattle.apfloat_model.specs.order.Classes.{category_of, quanta_of}
 use Rattle.apfloat_model.specs.rounding.Flags.{bits_of}
 use Rattle.apfloat_ieee.specs.Types.{format_of}
 use Rattle.p3109_formats.specs.ModeConversions.{IsProjectedBy}
-use Rattle.p3109_formats.specs.Types.{projection_of}
 use Rattle.p3109_formats.specs.Projections.{projected_datum, projected_format}
 use Rattle.p3109_formats.proofs.Values.{nan_into, number_into, positive_quanta, signed_if}
-use Rattle.p3109_formats.proofs.projected.Projected.from_value_by.Goals as goal
+use Rattle.p3109_formats.proofs.descriptor.Descriptor.from_value_by.Goals as goal
 
-pub returns-in-NaN : goal.returns-in-NaN
-returns-in-NaN g c =
-    let d = projection_of g.F.Projection in
+pub returns-in-NaN-clause-into : goal.returns-in-NaN-clause-into
+returns-in-NaN-clause-into g c =
+    let d = c.args.self in
     let f = format_of g.S.Semantics in
     let none : category_of c.args.x ≡ NaN = sym c.category.ensures.category ∙ c.in-NaN.is in
     nan_into d f c.args.mode c.args.x c.and.result.value (bits_of c.and.result.status) _ none
@@ -19,19 +18,19 @@ returns-in-NaN g c =
     (ap bits_of c.and.ensures.status ∙ c.status_of_nan.ensures)
     (ap (λ (mask : ℕ). not (eqb mask 0)) (c.NAN_PAYLOAD_MASK.ensures ∙ g.S.Semantics.lawful.mask))
 
-pub infinity-requires : goal.infinity-requires
-infinity-requires g c =
-    signed_if c.is_negative-negative.result (projection_of g.F.Projection).signed
+pub infinity-requires-clause-sign : goal.infinity-requires-clause-sign
+infinity-requires-clause-sign g c =
+    signed_if c.is_negative-negative.result c.args.self.signed
     (sym c.lacks_sign.ensures ∙ c.if-lacks_sign.false)
 
 pub round_positive-answer-requires-clause-sign : goal.round_positive-answer-requires-clause-sign
 round_positive-answer-requires-clause-sign g c =
-    signed_if c.is_negative-negative.result (projection_of g.F.Projection).signed
+    signed_if c.is_negative-negative.result c.args.self.signed
     (sym c.lacks_sign-in-Normal.ensures ∙ c.if-lacks_sign-2.false)
 
-pub returns-else-lacks_sign-2 : goal.returns-else-lacks_sign-2
-returns-else-lacks_sign-2 g c =
-    let d = projection_of g.F.Projection in
+pub returns-else-lacks_sign-2-clause-into : goal.returns-else-lacks_sign-2-clause-into
+returns-else-lacks_sign-2-clause-into g c =
+    let d = c.args.self in
     let f = format_of g.S.Semantics in
     let negative = c.is_negative-negative.result in
     let normal : category_of c.args.x ≡ Normal = sym c.category.ensures.category ∙ c.in-Normal.is in
@@ -41,5 +40,5 @@ returns-else-lacks_sign-2 g c =
     (sym c.lacks_sign-in-Normal.ensures ∙ c.if-lacks_sign-2.false)
     (subst (λ (n : ℕ). IsProjectedBy d c.args.mode negative (n * 2 ^ (projected_format d).scale) (2 ^ f.scale)
     c.round_positive-answer.result.value (bits_of c.round_positive-answer.result.status)) quanta
-    c.round_positive-answer.ensures)
+    c.round_positive-answer.ensures.rounded)
     c.ne.ensures
