@@ -130,7 +130,7 @@ typedef enum apfloat_mode APFLOAT_CODE {
     APFLOAT_SATURATE_FINITE = 0x300,
     APFLOAT_SATURATE_ALL = 0x700,
 
-    /* Of apfloat_to_storage_by and apfloat_convert_array_by alone. */
+    /* Of apfloat_to_storage_by and apfloat_convert_array_by alone, and the first of apfloat_to_p3109. */
     APFLOAT_TO_ODD = 5,
     APFLOAT_RANDOM_DIGITS = 6,
     APFLOAT_MODE_BITS = 0x7fffffff
@@ -682,6 +682,48 @@ apfloat_error apfloat_pack_codes(apfloat_format element, const uint8_t *codes, s
                                  size_t bytes_length);
 apfloat_error apfloat_unpack_codes(apfloat_format element, const uint8_t *bytes, size_t bytes_length, uint8_t *codes,
                                    size_t codes_length);
+
+/* ---- blocks of NVFP4
+ *
+ * One block: 16 elements of APFLOAT_E2M1FN, a scale of APFLOAT_E4M3FN without a sign, and the scale of their tensor,
+ * the bits of a positive single: its greatest magnitude over 2688, and 1 in place of 0. What is no positive single is
+ * APFLOAT_NO_SUCH_OPERATION, as APFLOAT_DOUBLE_PAIR is. APFLOAT_WRONG_LENGTH says that there are not 16 values, one
+ * scale and 16 codes. A scale and a code take a byte each. Nothing is written with an error. */
+
+/* The scale, the greatest magnitude of the block divided by 6 and by the scale of the tensor, rounded once and at most
+ * 448, at least the least one, and 0 for zeros alone; and the codes, the exact quotients by both scales, rounded once,
+ * the largest number of their sign in place of what is past it. A block with an infinity or a NaN has the NaN as its
+ * scale, and zeros; `nans` counts its values. */
+apfloat_error apfloat_quantize_nvfp4(apfloat_format format, apfloat_mode mode, uint32_t tensor, const uint8_t *values,
+                                     size_t values_length, uint8_t *scales, size_t scales_length, uint8_t *codes,
+                                     size_t codes_length, apfloat_array_answer *answer);
+
+/* The product of each element and both scales in the format `to`, rounded once, or the quiet NaN without a payload if
+ * the scale is the NaN. APFLOAT_WIDE_OPERAND says that a code has more than 4 bits, or a scale more than 7. */
+apfloat_error apfloat_dequantize_nvfp4(apfloat_mode mode, apfloat_format to, uint32_t tensor, const uint8_t *scales,
+                                       size_t scales_length, const uint8_t *codes, size_t codes_length,
+                                       uint8_t *results, size_t results_length, apfloat_array_answer *answer);
+
+/* ---- formats of IEEE P3109
+ *
+ * A format is told by its constants; others than these are unknown. `number` is 1 if information was lost, else 0.
+ * There are no conversions of APFLOAT_DOUBLE_PAIR (APFLOAT_NO_SUCH_OPERATION). */
+typedef struct apfloat_p3109 {
+    uint32_t bits;        /* 3 to 15 */
+    uint32_t precision;   /* binary digits of a significand, at least 1; at least one bit is left for the exponent */
+    uint32_t is_signed;   /* 1 or 0: whether there is a sign; then the NaN is the code of -0, else the last one */
+    uint32_t is_extended; /* 1 or 0: whether the last codes of each sign but for the NaN are infinities */
+} apfloat_p3109;
+
+/* The code of x, a value of `format`, rounded once. The mode may be APFLOAT_TO_ODD too. Past the largest number is the
+ * infinity, or the NaN in its place; in a format without a sign what is below zero is the NaN, with APFLOAT_INVALID_OP,
+ * and in each -0 is the only zero, with APFLOAT_INEXACT. */
+apfloat_error apfloat_to_p3109(apfloat_format format, apfloat_mode mode, apfloat_p3109 to, apfloat_halves x,
+                               apfloat_answer *answer);
+
+/* The value in the format `to` of a code, rounded once; the bits of `code` above those of its format are ignored. */
+apfloat_error apfloat_from_p3109(apfloat_p3109 format, apfloat_mode mode, apfloat_format to, uint32_t code,
+                                 apfloat_answer *answer);
 
 /* ---- storage formats, one value
  *

@@ -3011,6 +3011,122 @@ expected<array_counts> dequantize_blocks(const stored<e8m0fnu> *scales, const Co
     return detail::counts_of(code, answer);
 }
 
+// ---- blocks of NVFP4
+
+/// How many elements a block of NVFP4 has.
+inline constexpr std::size_t nvfp4_block = 16;
+
+namespace detail {
+
+// The error, or the counts of a block more.
+inline errc add_counts(array_counts &all, apfloat_error code, const apfloat_array_answer &answer) noexcept {
+    if (code != APFLOAT_ANSWERED) return static_cast<errc>(code);
+    all.values += answer.values;
+    all.inexact += answer.inexact;
+    all.underflow += answer.underflow;
+    all.overflow += answer.overflow;
+    all.div_by_zero += answer.div_by_zero;
+    all.invalid_op += answer.invalid_op;
+    all.nans += answer.nans;
+    all.status |= flags::of_code(answer.status);
+    return errc();
+}
+
+} // namespace detail
+
+/// Quantizes `count` values in blocks of NVFP4 (apfloat.h): the scale of each block and the code of each element, by
+/// the scale of their tensor, which is positive, else the error is no_such_operation. The arrays do not overlap; if one
+/// is null and `count` is not 0, or 16 does not divide `count`, the error is wrong_length.
+template <class From>
+expected<array_counts> quantize_nvfp4(const value<From> *values, std::size_t count, const value<binary32> &tensor,
+                                      value<e4m3fn> *scales, stored<e2m1fn> *codes,
+                                      rounding mode = rounding::nearest_even) noexcept {
+    static_assert(!From::is_pair, "there are no blocks of pairs of doubles");
+    if (!detail::has_lowest_byte_first()) return errc::no_such_operation;
+    const bool is_missing = count != 0 && (values == nullptr || scales == nullptr || codes == nullptr);
+    if (is_missing || count % nvfp4_block != 0) return errc::wrong_length;
+    array_counts counts = {};
+    for (std::size_t first = 0; first < count; first += nvfp4_block) {
+        apfloat_array_answer answer = {0, 0, 0, 0, 0, 0, 0, 0, 0};
+        const apfloat_error code = apfloat_quantize_nvfp4(
+            From::code, detail::code_of(mode), tensor.bits(), detail::bytes_of(values + first),
+            nvfp4_block * sizeof(value<From>), detail::bytes_of(scales + first / nvfp4_block), 1,
+            detail::bytes_of(codes + first), nvfp4_block, &answer);
+        const errc error = detail::add_counts(counts, code, answer);
+        if (error != errc()) return error;
+    }
+    return counts;
+}
+
+/// Takes `count` values out of blocks of NVFP4: each element times both scales, rounded once. If a scale has a sign,
+/// the error is wide_operand.
+template <class To>
+expected<array_counts> dequantize_nvfp4(const value<e4m3fn> *scales, const stored<e2m1fn> *codes, std::size_t count,
+                                        const value<binary32> &tensor, value<To> *results,
+                                        rounding mode = rounding::nearest_even) noexcept {
+    static_assert(!To::is_pair, "there are no blocks of pairs of doubles");
+    if (!detail::has_lowest_byte_first()) return errc::no_such_operation;
+    const bool is_missing = count != 0 && (scales == nullptr || codes == nullptr || results == nullptr);
+    if (is_missing || count % nvfp4_block != 0) return errc::wrong_length;
+    array_counts counts = {};
+    for (std::size_t first = 0; first < count; first += nvfp4_block) {
+        apfloat_array_answer answer = {0, 0, 0, 0, 0, 0, 0, 0, 0};
+        const apfloat_error code = apfloat_dequantize_nvfp4(
+            detail::code_of(mode), To::code, tensor.bits(), detail::bytes_of(scales + first / nvfp4_block), 1,
+            detail::bytes_of(codes + first), nvfp4_block, detail::bytes_of(results + first),
+            nvfp4_block * sizeof(value<To>), &answer);
+        const errc error = detail::add_counts(counts, code, answer);
+        if (error != errc()) return error;
+    }
+    return counts;
+}
+
+// ---- formats of IEEE P3109
+
+/// A format of IEEE P3109: its width, its precision, whether there is a sign, and whether there are infinities. `pack`
+/// and `unpack` refuse other constants with the error unknown_format.
+struct p3109 {
+    std::uint32_t bits;
+    std::uint32_t precision;
+    bool is_signed = true;
+    bool is_extended = true;
+
+    /// The code of a value, rounded once.
+    template <class From>
+    expected<result<std::uint16_t>> pack(const value<From> &x, rounding mode = rounding::nearest_even) const noexcept {
+        return packed(x, detail::code_of(mode));
+    }
+
+    /// The code of a value, rounded to odd.
+    template <class From>
+    expected<result<std::uint16_t>> pack_odd(const value<From> &x) const noexcept {
+        return packed(x, APFLOAT_TO_ODD);
+    }
+
+    /// The value of a code in another format, rounded once: unpack<binary32>(code). The bits above those of this format
+    /// are ignored, and the rule of the format `To` decides the flags.
+    template <class To>
+    expected<result<value<To>>> unpack(std::uint16_t code, rounding mode = rounding::nearest_even) const noexcept {
+        static_assert(!To::is_pair, "there is no conversion to pairs of doubles");
+        apfloat_answer answer = {{0, 0}, 0, 0};
+        const apfloat_error error = apfloat_from_p3109(constants(), detail::code_of(mode), To::code, code, &answer);
+        if (error != APFLOAT_ANSWERED) return static_cast<errc>(error);
+        return detail::result_of<To>(answer);
+    }
+
+private:
+    apfloat_p3109 constants() const noexcept { return {bits, precision, is_signed ? 1u : 0u, is_extended ? 1u : 0u}; }
+
+    template <class From>
+    expected<result<std::uint16_t>> packed(const value<From> &x, apfloat_mode mode) const noexcept {
+        static_assert(!From::is_pair, "there is no conversion from pairs of doubles");
+        apfloat_answer answer = {{0, 0}, 0, 0};
+        const apfloat_error error = apfloat_to_p3109(From::code, mode, constants(), x.halves(), &answer);
+        if (error != APFLOAT_ANSWERED) return static_cast<errc>(error);
+        return result<std::uint16_t>{static_cast<std::uint16_t>(answer.bits.low), flags::of_code(answer.status)};
+    }
+};
+
 // ---- storage formats, one value
 
 /// A value in a storage format, rounded once: to_storage<e2m1fn>(x).

@@ -90,12 +90,13 @@ __version__ = '0.1.0'
 
 __all__ = [
     'Array', 'Blocks', 'Context', 'DOWNWARD', 'Fate', 'Flags', 'Format', 'Machine', 'Mask', 'NEAREST_AWAY',
-    'NEAREST_EVEN', 'Refused', 'Report', 'Rounding', 'StorageFormat', 'StoredArray', 'TOWARD_ZERO', 'UPWARD', 'Value',
+    'NEAREST_EVEN', 'Nvfp4Blocks', 'Refused', 'Report', 'Rounding', 'StorageFormat', 'StoredArray', 'TOWARD_ZERO',
+    'UPWARD', 'Value',
     'bfloat', 'bfloat16', 'context', 'double', 'double_pair', 'e4m3', 'e4m3b11fnuz', 'e4m3fn', 'e4m3fnuz', 'e5m2',
     'e5m2fnuz',
     'float4_e2m1fn', 'float6_e2m3fn', 'float6_e3m2fn', 'float8_e3m4', 'float8_e4m3', 'float8_e4m3b11fnuz',
     'float8_e4m3fn', 'float8_e4m3fnuz', 'float8_e5m2', 'float8_e5m2fnuz', 'float8_e8m0fnu', 'finfo', 'half',
-    'machine', 'mx', 'quad', 'report', 'single', 'tf32', 'ue4m3', 'x87',
+    'machine', 'mx', 'nvfp4', 'p3109', 'quad', 'report', 'single', 'tf32', 'ue4m3', 'x87',
 ]
 
 
@@ -208,6 +209,10 @@ class _Text(ctypes.Structure):
 _COUNTED = ('values', 'inexact', 'underflow', 'overflow', 'div_by_zero', 'invalid_op', 'nans')
 
 
+class _Constants(ctypes.Structure):
+    _fields_ = [(name, ctypes.c_uint32) for name in ('bits', 'precision', 'is_signed', 'is_extended')]
+
+
 class _ArrayAnswer(ctypes.Structure):
     status: int
     _fields_ = [(name, ctypes.c_uint64) for name in _COUNTED] + [
@@ -257,6 +262,10 @@ def _parameters() -> dict[str, list[Any]]:
         'quantize_blocks': [code, code, code, length, *array * 3, ctypes.POINTER(_ArrayAnswer)],
         'dequantize_blocks': [code, code, code, length, *array * 3, ctypes.POINTER(_ArrayAnswer)],
         **dict.fromkeys(('pack_codes', 'unpack_codes'), [code, *array * 2]),
+        **dict.fromkeys(('quantize_nvfp4', 'dequantize_nvfp4'),
+                        [code, code, code, *array * 3, ctypes.POINTER(_ArrayAnswer)]),
+        'to_p3109': [code, code, _Constants, _Halves, answer],
+        'from_p3109': [_Constants, code, code, code, answer],
     }
 
 
@@ -2914,11 +2923,14 @@ class Blocks:
     def dequantize(self, format: Format | None = None) -> Array:
         """The values, each the product of an element and its scale, rounded once to the format, `single` if none is
         given."""
-        made = mx.dequantize(self.scales, self.codes, self.block, format, self.axis)
+        made = self._dequantized(format)
         if made.shape != self.shape:
             part = made[tuple(slice(length) for length in self.shape)]
             made = Array(made.format, bytes(cast(Array, part)), made.counts, self.shape)
         return made
+
+    def _dequantized(self, format: Format | None) -> Array:
+        return mx.dequantize(self.scales, self.codes, self.block, format, self.axis)
 
     def packed(self) -> bytes:
         """The codes packed: of 4 bits two in a byte, of 6 bits four in three bytes, and those of 8 bits as they are."""
@@ -3033,6 +3045,201 @@ class mx:
         data = _repacked('unpack_codes', elements, packed, count)
         made: Array | StoredArray = elements._made(data, None, (count,) if shape is None else shape)
         return made
+
+
+class Nvfp4Blocks(Blocks):
+    """An array in blocks of NVFP4, as `nvfp4.quantize` makes it: `Blocks` of 16 values of `float4_e2m1fn` whose scales
+    are values of `float8_e4m3fn`, with `tensor`, the scale of all, a value of `single`."""
+
+    __slots__ = ('tensor',)
+
+    scales: Any
+    tensor: Value
+
+    def _dequantized(self, format: Format | None) -> Array:
+        return nvfp4.dequantize(self.scales, self.codes, self.tensor, format, self.axis)
+
+
+class nvfp4:
+    """NVFP4: blocks of 16 elements of `float4_e2m1fn`, each with a scale of `float8_e4m3fn`, and one of their tensor.
+
+    >>> made = nvfp4.quantize(single.array([0.5, -1, 3, 24] * 4), tensor=1)
+    >>> made.scales, made.codes[:4]
+    (e4m3fn.array(['4.0']), float4_e2m1fn.array([0.0, -0.0, 1.0, 6.0]))
+    >>> made.dequantize()[:4]
+    single.array(['0.0', '-0.0', '4.0', '24.0'])
+    """
+
+    @staticmethod
+    def tensor_scale(of: Any) -> Value:
+        """The scale of a tensor: its greatest magnitude over 2688, rounded once to the nearest value of `single`, the
+        largest one in place of what is past it, and 1 in place of 0.
+
+        >>> nvfp4.tensor_scale([[1.0, -5376], [0, 3]]), nvfp4.tensor_scale([0.0])
+        (single('2.0'), single('1.0'))
+        """
+        with Context():
+            values = _values_of(of).to(quad)
+            greatest = quad.from_bits(max((bits % (1 << 127) for bits in values._patterns()), default=0))
+            if not greatest.is_finite:
+                raise ValueError('a tensor with an infinity or a NaN has no scale')
+            scale = greatest.to_format('div', single, 2688)
+        return finfo(single).max if scale.is_infinite else scale or single(1)
+
+    @staticmethod
+    def quantize(of: Any, tensor: Any = None, axis: int = -1, pad: bool = False) -> Nvfp4Blocks:
+        """An array in blocks along an axis, the last one if no other is named, rounded in the mode of the context, by
+        the scale of their tensor, `tensor_scale` if none is given. What an array is, and what `pad` does, `mx.quantize`
+        says."""
+        values = _values_of(of)
+        scale = nvfp4.tensor_scale(values) if tensor is None else _single_of(tensor)
+        place = _axis(axis, values.ndim)
+        given, moved = values.shape, values._moved(place, values.ndim - 1)
+        lacking = -moved.shape[-1] % _NVFP4_BLOCK if pad else 0
+        if lacking:
+            moved = _with_zeros(moved, lacking)
+        shape, blocks = moved.shape, _blocked(moved.shape, _NVFP4_BLOCK)
+        data, length = bytes(moved), _NVFP4_BLOCK * values.format._bytes
+        scales, codes, counts = bytearray(), bytearray(), dict.fromkeys(_COUNTED, 0)
+        by, room = ctypes.create_string_buffer(1), ctypes.create_string_buffer(_NVFP4_BLOCK)
+        for first in range(0, len(data), length):
+            more = _block_call('quantize_nvfp4', values.format.code, context().mode, scale.bits,
+                               data[first:first + length], length, by, 1, room, _NVFP4_BLOCK)
+            scales += by.raw
+            codes += room.raw
+            counts = {name: count + more[name] for name, count in counts.items()}
+        if lacking:
+            counts['values'] -= lacking * math.prod(shape[:-1])
+            counts['nans'] -= lacking * scales[blocks[-1] - 1::blocks[-1]].count(127)
+        last = values.ndim - 1
+        made = Nvfp4Blocks(cast(Any, Array(e4m3fn, bytes(scales), shape=blocks)._moved(last, place)),
+                           StoredArray(float4_e2m1fn, bytes(codes), counts, shape)._moved(last, place), _NVFP4_BLOCK,
+                           counts, place, given)
+        made.tensor = scale
+        return made
+
+    @staticmethod
+    def dequantize(scales: Any, codes: Any, tensor: Any, format: Format | None = None, axis: int = -1) -> Array:
+        """The values of blocks along an axis: each code times the scale of its block and that of the tensor, rounded
+        once to the format, `single` if none is given, in the mode of the context. Scales are an array of
+        `float8_e4m3fn`, or their codes as bytes or a numpy array of uint8, in the order of the blocks in the array."""
+        target, by = single if format is None else format, _single_of(tensor)
+        if not isinstance(codes, StoredArray) or codes.format is not float4_e2m1fn:
+            raise TypeError(f'codes are an array of {float4_e2m1fn}')
+        place, last = _axis(axis, codes.ndim), codes.ndim - 1
+        moved = codes._moved(place, last)
+        blocks = _blocked(moved.shape, _NVFP4_BLOCK)
+        lying = [*blocks[:-1]]
+        lying.insert(place, blocks[-1])
+        are_codes = isinstance(scales, (bytes, bytearray)) or getattr(scales, 'dtype', None) == 'uint8'
+        held = e4m3fn.from_bits(scales) if are_codes else e4m3fn.array(scales)
+        if held.size != math.prod(blocks):
+            raise ValueError(f'{held.size} scales for {math.prod(blocks)} blocks')
+        each, data = bytes(cast(Array, held.reshape(lying))._moved(place, last)), bytes(moved)
+        length = _NVFP4_BLOCK * target._bytes
+        made, counts = bytearray(), dict.fromkeys(_COUNTED, 0)
+        room = ctypes.create_string_buffer(length)
+        for index in range(len(each)):
+            first = _NVFP4_BLOCK * index
+            more = _block_call('dequantize_nvfp4', context().mode, target.code, by.bits, each[index:index + 1], 1,
+                               data[first:first + _NVFP4_BLOCK], _NVFP4_BLOCK, room, length)
+            made += room.raw
+            counts = {name: count + more[name] for name, count in counts.items()}
+        values = Array(target, bytes(made), counts, moved.shape)
+        return values if place == last else Array(target, bytes(values._moved(last, place)), counts, codes.shape)
+
+
+_NVFP4_BLOCK = 16
+
+
+def _single_of(number: Any) -> Value:
+    """A number as the value of `single` that it is."""
+    made = single.from_bits(0)._converted(number.to(single) if isinstance(number, Value) else number)
+    if made is NotImplemented or isinstance(number, Value) and made != number:
+        raise TypeError(f'{number!r} is no value of {single}')
+    return cast(Value, made)
+
+
+# ---- formats of IEEE P3109
+
+class p3109:
+    """A format of IEEE P3109: its width of 3 to 15 bits, its precision, whether it has a sign and infinities.
+
+    >>> form = p3109(8, 4)
+    >>> form, form.encode(1), form.decode(0x7e)
+    (p3109(8, 4, signed=True, extended=True), 64, single('224.0'))
+    >>> codes = form.encode([[0.1, 300], [-1, float('nan')]])
+    >>> codes if isinstance(codes, list) else codes.tolist()
+    [[37, 127], [192, 128]]
+    >>> form.decode(codes)
+    single.array([['0.1015625', 'inf'], ['-1.0', 'nan']])
+    """
+
+    __slots__ = ('bits', 'precision', 'signed', 'extended', '_constants')
+
+    bits: int
+    precision: int
+    signed: bool
+    extended: bool
+
+    def __init__(self, bits: int, precision: int, *, signed: bool = True, extended: bool = True) -> None:
+        self.bits, self.precision, self.signed, self.extended = bits, precision, bool(signed), bool(extended)
+        if not 3 <= bits <= 15 or not 1 <= precision <= bits - self.signed:
+            raise ValueError(f'P3109 has no format of {bits} bits with the precision {precision}')
+        self._constants = _Constants(bits, precision, self.signed, self.extended)
+
+    def __repr__(self) -> str:
+        return f'p3109({self.bits}, {self.precision}, signed={self.signed}, extended={self.extended})'
+
+    def _key(self) -> tuple[int, int, bool, bool]:
+        return self.bits, self.precision, self.signed, self.extended
+
+    def __eq__(self, other: object) -> bool:
+        return isinstance(other, p3109) and self._key() == other._key()
+
+    def __hash__(self) -> int:
+        return hash(self._key())
+
+    def __reduce__(self) -> tuple[Any, ...]:
+        return functools.partial(p3109, signed=self.signed, extended=self.extended), (self.bits, self.precision)
+
+    def encode(self, of: Any, to_odd: bool = False) -> Any:
+        """The code of a number, or those of an array or of nested lists, as a numpy array, without numpy as nested
+        lists: rounded once in the mode of the context, or to odd."""
+        mode = _TO_ODD if to_odd else context().mode
+        values = _given(of, quad)
+        values = _quads(of) if values is None else values
+        if values is NotImplemented:
+            raise TypeError(f'{self} makes codes of numbers alone')
+        values = values.to(single) if isinstance(values, StoredArray) else values
+        made = {bits: _call('to_p3109', values.format.code, mode, self._constants, _halves(bits)).bits.low
+                for bits in set(values._patterns())}
+        codes = [made[bits] for bits in values._patterns()]
+        return codes[0] if not values.shape else _of_codes(codes, self.bits, values.shape)
+
+    def decode(self, codes: Any, format: Format | None = None) -> Any:
+        """The value of a code, or an array of those of a numpy array or of nested lists, in another format, `single` if
+        none is given, rounded once in the mode of the context."""
+        target, (shape, items) = single if format is None else format, _nested(codes)
+        mode = context().mode
+        made = {}
+        for code in set(map(operator.index, items)):
+            if not 0 <= code < 1 << self.bits:
+                raise ValueError(f'{self} has {self.bits} bits')
+            made[code] = _whole(_call('from_p3109', self._constants, mode, target.code, code).bits)
+        values = [made[operator.index(code)] for code in items]
+        if not shape:
+            return Value(target, values[0])
+        return Array(target, b''.join(bits.to_bytes(target._bytes, 'little') for bits in values), shape=shape)
+
+
+def _of_codes(codes: list[int], width: int, shape: tuple[int, ...]) -> Any:
+    """Codes of so many bits, as a numpy array of uint8 or uint16; without numpy, as nested lists."""
+    try:
+        import numpy
+    except ImportError:
+        return _listed(iter(codes), shape)
+    return numpy.array(codes, 'u1' if width <= 8 else 'u2').reshape(shape)
 
 
 _SCALE_RULES = 'floor', 'ceil', 'even'

@@ -18,6 +18,7 @@ import operator
 import os
 import pickle
 import random
+import re
 import shutil
 import struct
 import subprocess
@@ -1748,6 +1749,100 @@ class ReportTests(unittest.TestCase):
             apfloat.report(apfloat.quad.array(['0.1']), apfloat.half)
         with self.assertRaises(ValueError):
             apfloat.report([1.0] * 33, 'mxfp4')
+
+
+class P3109Tests(unittest.TestCase):
+    """Formats of IEEE P3109, and blocks of NVFP4."""
+
+    FORMATS = {name: getattr(apfloat, name) for name in (
+        'half', 'single', 'double', 'quad', 'bfloat', 'tf32', 'e5m2', 'e4m3fn', 'e4m3fnuz', 'x87')}
+    MODES = dict(zip(('even', 'up', 'down', 'zero', 'away'), MODES))
+
+    def format(self, word):
+        name, *rules = word.split('+')
+        form = self.FORMATS[name]
+        for rule in rules:
+            form = getattr(form, rule)
+        return form
+
+    @staticmethod
+    def form(name):
+        bits, precision, letters = re.fullmatch(r'binary(\d+)p(\d+)(\w\w)', name).groups()
+        return apfloat.p3109(int(bits), int(precision), signed=letters[0] == 's', extended=letters[1] == 'e')
+
+    def test_rows(self):
+        # The calls of C (tests/c/check_tensors.c has what the columns say).
+        with open(os.path.join(HERE, '..', 'tests', 'c', 'tensors'), encoding='utf-8') as file:
+            rows = [line.rstrip('\n').split('\t') for line in file if not line.startswith('#')]
+        for call, kind, mode, operands, wanted, *rest in rows:
+            given, made = [[int(word, 16) for word in words.split()] for words in (operands, wanted)]
+            with self.subTest(call=call, kind=kind, mode=mode, operands=operands), \
+                    Context(mode=self.MODES.get(mode, apfloat.NEAREST_EVEN)) as context:
+                if call.endswith('p3109'):
+                    source, target = kind.split('>')
+                    if call == 'to_p3109':
+                        x = self.format(source).from_bits(given[0])
+                        self.assertEqual(self.form(target).encode(x, to_odd=mode == 'odd'), made[0])
+                    else:
+                        found = self.form(source).decode(given[0], self.format(target))
+                        self.assertEqual(found.bits, made[0])
+                    flags = [] if rest[0] == 'OK' else [Flags[name] for name in rest[0].split('|')]
+                    self.assertEqual(context.flags, sum(flags))
+                    continue
+                form, tensor = self.format(kind), apfloat.single.from_bits(given[0])
+                width = form._bytes
+                if call == 'quantize_nvfp4':
+                    data = b''.join(bits.to_bytes(width, 'little') for bits in given[1:])
+                    blocks = apfloat.nvfp4.quantize(Array(form, data * 2), tensor)
+                    self.assertEqual(blocks.scales._patterns(), made[:1] * 2)
+                    self.assertEqual(list(bytes(blocks.codes)), made[1:] * 2)
+                    counts = blocks.counts
+                else:
+                    codes = apfloat.float4_e2m1fn.from_bits(bytes(given[2:] * 2))
+                    values = apfloat.nvfp4.dequantize(bytes(given[1:2] * 2), codes, tensor, form)
+                    self.assertEqual(values._patterns(), made * 2)
+                    counts = values.counts
+                found = [counts[name] for name in ('inexact', 'underflow', 'overflow', 'nans')]
+                self.assertEqual(found, [2 * int(word) for word in (*rest[0].split(), rest[1])])
+
+    def test_arrays(self):
+        form = apfloat.p3109(11, 5, signed=False, extended=False)
+        codes = form.encode(apfloat.single.array([[0, 1.5], [2, 1e9]]))
+        self.assertEqual(form.decode(codes, apfloat.double).shape, (2, 2))
+        self.assertEqual(form.decode(form.encode([[0.25]])).tolist(), [[apfloat.single(0.25)]])
+        self.assertEqual([form, 'one'].index(apfloat.p3109(11, 5, signed=False, extended=False)), 0)
+        self.assertEqual(pickle.loads(pickle.dumps(form)), form)
+        for bits, precision, signed in ((2, 1, True), (16, 3, True), (8, 0, True), (8, 8, True), (8, 9, False)):
+            self.assertRaises(ValueError, apfloat.p3109, bits, precision, signed=signed)
+        self.assertRaises(ValueError, form.decode, 1 << 11)
+        self.assertRaises(TypeError, form.encode, 'one')
+
+    def test_axes(self):
+        values = [[float(row * column) for column in range(16)] for row in range(20)]
+        across = apfloat.nvfp4.quantize(values, 1)
+        along = apfloat.nvfp4.quantize(apfloat.double.array(values).T, 1, axis=0)
+        self.assertEqual((across.scales.shape, along.scales.shape), ((20, 1), (1, 20)))
+        self.assertEqual(along.dequantize().T.tolist(), across.dequantize().tolist())
+        padded = apfloat.nvfp4.quantize(values, 1, axis=0, pad=True)
+        self.assertEqual((padded.counts['values'], padded.codes.shape), (320, (32, 16)))
+        self.assertEqual(padded.dequantize(apfloat.double).shape, (20, 16))
+        self.assertEqual(len(across.packed()), 160)
+        self.assertRaises(ValueError, apfloat.nvfp4.quantize, values, 1, axis=0)
+        for scale in (0, -1, float('inf'), float('nan')):
+            self.assertRaises(apfloat.Refused, apfloat.nvfp4.quantize, [0.0] * 16, scale)
+        self.assertRaises(ValueError, apfloat.nvfp4.quantize, [0.0] * 16, 0.1)
+
+    def test_tensor_scales(self):
+        # The stored rows of scales (evidence/blocks.py).
+        with open(os.path.join(HERE, '..', 'tests', 'rows', 'blocks.tsv'), encoding='utf-8') as file:
+            rows = [line.rstrip('\n').split('\t') for line in file if line.startswith('tensor_scale')]
+        self.assertGreater(len(rows), 20)
+        for _, _, _, operands, wanted, *_ in rows:
+            values = apfloat.single.from_bits([int(word, 16) for word in operands.split()])
+            if wanted == 'None':
+                self.assertRaises(ValueError, apfloat.nvfp4.tensor_scale, values)
+            else:
+                self.assertEqual(apfloat.nvfp4.tensor_scale(values).bits, int(wanted, 16))
 
 
 class TypeTests(unittest.TestCase):

@@ -150,10 +150,17 @@ static size_t width_of(uint32_t of) {
         answered += error == APFLOAT_ANSWERED;                                                                         \
     } while (0)
 
+/* The constants of a format of P3109, mostly. */
+static apfloat_p3109 p3109(void) {
+    const uint32_t width = code(17);
+    const apfloat_p3109 made = {width, below(16) ? 1 + below(width % 16 + 1) : code(20), code(3), code(2)};
+    return made;
+}
+
 static void values(void) {
     uint32_t f = format(), m = mode();
     apfloat_halves x = bits(), y = bits(), z = bits();
-    switch (below(50)) {
+    switch (below(52)) {
     case 0: ONE(apfloat_add, f, m, x, y); break;
     case 1: ONE(apfloat_sub, f, m, x, y); break;
     case 2: ONE(apfloat_mul, f, m, x, y); break;
@@ -222,6 +229,8 @@ static void values(void) {
         }
         break;
     }
+    case 48: ONE(apfloat_to_p3109, f, code(6), p3109(), x); break;
+    case 49: ONE(apfloat_from_p3109, p3109(), m, f, (uint32_t)random_word()); break;
     default: ONE(apfloat_machine, code(10), code(17), f, m, below(2) ? format() : code(130), x, y, z);
     }
 }
@@ -296,7 +305,7 @@ static void arrays(void) {
     uint32_t error;
     memset(&before, (int)below(256), sizeof before);
     answer = before;
-    switch (below(9)) {
+    switch (below(11)) {
     case 6: {
         const uint32_t by = code(8);
         area *randoms = lend(2, by == APFLOAT_RANDOM_DIGITS ? fitting(count, 4) : below(8) ? 0 : below(40));
@@ -351,6 +360,29 @@ static void arrays(void) {
         error = apfloat_dequantize_blocks(element, mode(), to, length, LENT(scales), LENT(codes), LENT(results),
                                           &answer);
         returned("apfloat_dequantize_blocks", error, results, NULL, NULL);
+        break;
+    }
+    case 7: {
+        codes = lend(5, fitting(16, 1));
+        xs = lend(0, fitting(16, width_of(from)));
+        area *scales = lend(1, fitting(1, 1));
+        remember();
+        error = apfloat_quantize_nvfp4(from, mode(), (uint32_t)random_word() >> below(2), LENT(xs), LENT(scales),
+                                       LENT(codes), &answer);
+        returned("apfloat_quantize_nvfp4", error, scales, codes, NULL);
+        break;
+    }
+    case 8: {
+        area *scales = lend(2, fitting(1, 1));
+        codes = lend(5, fitting(16, 1));
+        for (size_t at = 0; at < codes->length; at++) {
+            codes->first[at] &= below(200) ? 15 : 255;
+        }
+        results = lend(1, fitting(16, width_of(to)));
+        remember();
+        error = apfloat_dequantize_nvfp4(mode(), to, (uint32_t)random_word() >> below(2), LENT(scales), LENT(codes),
+                                         LENT(results), &answer);
+        returned("apfloat_dequantize_nvfp4", error, results, NULL, NULL);
         break;
     }
     default: {

@@ -20,3 +20,5 @@ pub mod StorageModes
 pub mod StorageOnce
 pub mod StorageModesOnce
 pub mod ExactSums
+pub mod P3109Once
+pub mod Nvfp4Once

@@ -13,3 +13,5 @@ pub mod Augmented
 pub mod StorageValues
 pub mod StorageModes
 pub mod Reductions
+pub mod P3109
+pub mod Nvfp4
