@@ -25,7 +25,8 @@ use Rattle.apfloat_pair_theory.proofs.sums.PairRoundings.{error_eighth}
 use Rattle.apfloat_pair_theory.proofs.sums.ClosingSums.{wide_enough}
 use Rattle.apfloat_pair_theory.proofs.numbers.WholeProducts.{product_error_on_grid}
 use Rattle.apfloat_pair_theory.proofs.pairs.Normalised.{rounded_exactly}
-use Rattle.apfloat_pair_theory.proofs.numbers.Roundings.{finite_is, signed_not, negated_is, IsRoundedTo}
+use Rattle.apfloat_model.proofs.whole_numbers.SignedNumbers.{negated_is}
+use Rattle.apfloat_pair_theory.proofs.numbers.Roundings.{finite_is, signed_not, IsRoundedTo}
 use Rattle.apfloat_pair_theory.proofs.products.ProductAnswers.{finite_number}
 use Rattle.apfloat_pair_theory.proofs.pairs.SplitLaws.{delivered_whole, high_rounded_to, number_converted, wide_number}
 
