@@ -1,9 +1,18 @@
-use Rattle.std.proofs.Common.{ℕ, ◌*◌, ◌^◌, ◌<◌, ◌≤◌, arith, ap, rules}
+use Rattle.std.proofs.Common.{◌*◌, ◌^◌, ◌<◌, arith, rules}
 use Rattle.conformance.proofs.Spacings.{spacing_some, spacing_below, doubled, last, reached_fits}
 use Rattle.conformance.proofs.plain.spacing_at.Goals as goal
 
+pub overflow_mul-count : goal.overflow_mul-count
+overflow_mul-count c =
+    let fits : 2 ^ c.args.precision * (c.args.parts * c.loop-spacing.spacing) < 2 ^ 128 =
+    reached_fits c.args.precision c.args.amount c.args.parts c.loop-spacing.spacing c.requires
+    c.loop-spacing.invariant in
+    search rules
+
 pub loop-spacing-smaller : goal.loop-spacing-smaller
 loop-spacing-smaller c =
+    let some : 0 < c.loop-spacing.spacing =
+    spacing_some c.args.precision c.args.amount c.args.parts c.loop-spacing.spacing c.loop-spacing.invariant in
     let less : c.loop-spacing.spacing < c.args.amount =
     spacing_below c.args.precision c.args.amount c.args.parts c.loop-spacing.spacing (omega arith)
     c.requires.some_parts c.loop-spacing.invariant (search rules) in
