@@ -157,20 +157,26 @@ fn names_of(words: &[String]) -> Result<(BuiltInFormat, Round), Option<WrongWord
             word: word.as_str(),
             known: &[],
         })),
-        [format, mode] => {
-            let Some(known) = format_named(format.as_str()) else {
-                return Err(Some(wrong_format(format.as_str())));
-            };
-            match mode_named(mode.as_str()) {
-                Some(round) => Ok((known, round)),
-                None => Err(Some(WrongWord {
-                    fault: "no such mode",
-                    word: mode.as_str(),
-                    known: MODES,
-                })),
-            }
-        }
+        [format, mode] => match named(format.as_str(), mode.as_str()) {
+            Ok(names) => Ok(names),
+            Err(wrong) => Err(Some(wrong)),
+        },
         _ => Err(None),
+    }
+}
+
+/// The format and the mode of these two words.
+fn named<'a>(format: &'a str, mode: &'a str) -> Result<(BuiltInFormat, Round), WrongWord<'a>> {
+    let Some(known) = format_named(format) else {
+        return Err(wrong_format(format));
+    };
+    match mode_named(mode) {
+        Some(round) => Ok((known, round)),
+        None => Err(WrongWord {
+            fault: "no such mode",
+            word: mode,
+            known: MODES,
+        }),
     }
 }
 

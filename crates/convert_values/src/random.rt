@@ -13,11 +13,9 @@ use apfloat_arrays::{
 use formats_at_run_time::{BuiltInFormat, BuiltInKind, InFormat};
 use rustc_apfloat::ieee::{IeeeFloat, Semantics};
 use rustc_apfloat::{Float, StatusAnd};
+use small_formats::ConversionRound;
 use small_formats::saturation::{Overflow, ValueClass, treat};
-use small_formats::stochastic::{convert_by, e3m4_by, unsigned_by};
-use small_formats::{
-    ConversionRound, E2M1FN, E2M3FN, E3M2FN, E8M0FNU, NanResult, StorageFormat, StoredFloat,
-};
+use small_formats::stochastic::convert_by;
 
 /// A format into which random digits round.
 #[derive(Clone, Copy)]
@@ -193,43 +191,6 @@ impl<S: Semantics> InFormat for IntoCall<S> {
     }
 }
 
-/// A value as a code of the element format `F`.
-fn element<S: Semantics, F: StorageFormat>(x: IeeeFloat<S>, mode: ConversionRound) -> StatusAnd<u8>
-    ensures { result.value < 2 ^ F.BITS }
-{
-    let mut loses_info = false;
-    let answer = StoredFloat::<F>::from_value_by(x, mode, NanResult::Zero, &mut loses_info);
-    answer.status.and(answer.value.to_bits())
-}
-
-/// A value as a code of a storage format, rounded once.
-fn code_by<S: Semantics>(
-    format: StoredFormat,
-    x: IeeeFloat<S>,
-    mode: ConversionRound,
-) -> StatusAnd<u8>
-    ensures { result.value < 2 ^ stored_bits format }
-{
-    let mut loses_info = false;
-    match format {
-        StoredFormat::E2M1FN => element::<S, E2M1FN>(x, mode),
-        StoredFormat::E2M3FN => element::<S, E2M3FN>(x, mode),
-        StoredFormat::E3M2FN => element::<S, E3M2FN>(x, mode),
-        StoredFormat::E3M4 => {
-            let answer = e3m4_by(x, mode, &mut loses_info);
-            answer.status.and(answer.value.to_bits())
-        }
-        StoredFormat::E8M0FNU => {
-            let answer = E8M0FNU::from_value_by(x, mode, &mut loses_info);
-            answer.status.and(answer.value.to_bits())
-        }
-        StoredFormat::UE4M3 => {
-            let answer = unsigned_by(x, mode, &mut loses_info);
-            answer.status.and(answer.value.to_bits())
-        }
-    }
-}
-
 /// A value as a code of a storage format, rounded once, with this treatment of overflow, and its outcome.
 fn as_stored<S: Semantics>(
     format: StoredFormat,
@@ -239,7 +200,8 @@ fn as_stored<S: Semantics>(
 ) -> Converted
     ensures { result.bits < 2 ^ stored_bits format }
 {
-    let own = code_by(format, x, mode);
+    let mut loses_info = false;
+    let own = format.from_value_by(x, mode, &mut loses_info);
     let class = ValueClass::of(x.category());
     let answer = format.treated(overflow, class, x.is_negative(), own);
     Converted {

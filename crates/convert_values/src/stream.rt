@@ -87,28 +87,37 @@ fn convert_through<C: Clock, I: Read, W: Write, V: Write>(
     let mut buffer = buffer;
     let mut progress = progress;
     for _ in 0..u64::MAX {
-        let filled = match fill(input, read) {
-            Ok(filled) => filled,
-            Err(error) => return Err(Failure::Reading(error)),
-        };
+        let filled = fill(input, read)?;
         let block = conversion.convert(counts.values, &read[..filled], buffer);
         counts.add(block.counts);
-        if let Err(error) = output.write_all(&block.buffer[..block.written]) {
-            return Err(Failure::Writing(error));
-        }
+        put(&block.buffer[..block.written], output)?;
         if filled < read.len() {
-            return match output.flush() {
-                Ok(()) => Ok(Summary {
-                    counts,
-                    left_over: block.left_over,
-                }),
-                Err(error) => Err(Failure::Writing(error)),
-            };
+            finish(output)?;
+            return Ok(Summary {
+                counts,
+                left_over: block.left_over,
+            });
         }
         tell_progress(&mut progress, counts.values, clock, err);
         buffer = block.buffer;
     }
     Err(Failure::TooLong)
+}
+
+/// Writes what was converted.
+fn put<W: Write>(bytes: &[u8], output: &mut W) -> Result<(), Failure> {
+    match output.write_all(bytes) {
+        Ok(()) => Ok(()),
+        Err(error) => Err(Failure::Writing(error)),
+    }
+}
+
+/// Writes what the writer still holds.
+fn finish<W: Write>(output: &mut W) -> Result<(), Failure> {
+    match output.flush() {
+        Ok(()) => Ok(()),
+        Err(error) => Err(Failure::Writing(error)),
+    }
 }
 
 /// Says how many values were written, if that is due.
@@ -123,7 +132,7 @@ fn tell_progress<C: Clock, V: Write>(progress: &mut Progress, values: u64, clock
 }
 
 /// Reads until the buffer is full or the stream ends, and returns how many bytes were read.
-fn fill<R: Read>(input: &mut R, buffer: &mut [u8]) -> io::Result<usize>
+fn fill<R: Read>(input: &mut R, buffer: &mut [u8]) -> Result<usize, Failure>
     ensures { IfOk result (λ filled. filled ≤ length buffer.new) }
 {
     let mut filled = 0;
@@ -136,9 +145,9 @@ fn fill<R: Read>(input: &mut R, buffer: &mut [u8]) -> io::Result<usize>
             Ok(count) => filled += count,
             Err(error) => match error.kind() {
                 ErrorKind::Interrupted => {}
-                _ => return Err(error),
+                _ => return Err(Failure::Reading(error)),
             },
         }
     }
-    Err(io::Error::from(ErrorKind::Interrupted))
+    Err(Failure::Reading(io::Error::from(ErrorKind::Interrupted)))
 }

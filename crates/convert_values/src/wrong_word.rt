@@ -41,6 +41,13 @@ pub fn wrong_word(words: &[String]) -> Option<WrongWord<'_>> {
         }),
         [word, seed, others @ ..] if is_stochastic(word.as_str()) => wrong_seed(seed, others),
         [word, others @ ..] if is_option(word.as_str()) => wrong_word(others),
+        _ => wrong_after_options(words),
+    }
+}
+
+/// The first wrong word, if no option is at the front.
+fn wrong_after_options(words: &[String]) -> Option<WrongWord<'_>> {
+    match words {
         [word, ..] if word.as_str().starts_with('-') => Some(WrongWord {
             fault: "no such option",
             word: word.as_str(),

@@ -88,7 +88,7 @@ fn element_by<S: Semantics, F: StorageFormat>(
 
 impl StoredFormat {
     /// A value of any format as a code, rounded once in a mode of conversions.
-    fn from_value_by<S: Semantics>(
+    pub fn from_value_by<S: Semantics>(
         self,
         x: IeeeFloat<S>,
         mode: ConversionRound,
