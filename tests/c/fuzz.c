@@ -148,7 +148,7 @@ static size_t width_of(uint32_t of) {
         memset(&before, (int)below(256), sizeof before);                                                               \
         answer = before;                                                                                               \
         uint32_t error = name(__VA_ARGS__, &answer);                                                                   \
-        if (error > APFLOAT_OVERLAPPING_ARRAYS || error == APFLOAT_UNKNOWN_ERROR ||                                     \
+        if (error > APFLOAT_OVERLAPPING_ARRAYS || error == APFLOAT_UNKNOWN_ERROR ||                                    \
             (error && memcmp(&answer, &before, sizeof answer)) || (!error && answer.status > 31)) {                    \
             fail(#name);                                                                                               \
         }                                                                                                              \

@@ -50,7 +50,8 @@ past_by top from precision biased trailing scale far =
     omega arith
 
 little_by : (from precision biased trailing scale : ℕ) → 1 ≤ precision → trailing < 2 ^ (precision - 1)
-    → precision + (biased - 1) + scale + 1 ≤ from → 2 * (quanta_with precision biased trailing * 2 ^ scale) < 2 ^ from
+    → precision + (biased - 1) + scale + 1 ≤ from
+    → 2 * (quanta_with precision biased trailing * 2 ^ scale) < 2 ^ from
 little_by from precision biased trailing scale some low far =
     let high : 2 ^ (precision + (biased - 1) + scale + 1) ≤ 2 ^ from = pow-le-pow_right two_pos far in
     let right : 2 ^ (precision + (biased - 1) + scale) ≡ 2 ^ precision * 2 ^ (biased - 1) * 2 ^ scale =
@@ -107,7 +108,8 @@ trailing_of c bits = (fields_of (format_with c) (layout_with c) bits).trailing
 -- bits of a normal number on that side
 number_placed : (c d : Constants) (bits place : ℕ) (past : Bool) → c.explicit_integer_bit ≡ false
     → 0 < biased_of c bits → biased_of c bits + 1 < 2 ^ c.exp_bits
-    → place ≡ far_place past (fields_of (format_with c) (layout_with c) bits).negative → IsFar past (format_with d)
+    → place ≡ far_place past (fields_of (format_with c) (layout_with c) bits).negative
+    → IsFar past (format_with d)
     (quanta_with c.precision (biased_of c bits) (trailing_of c bits) * 2 ^ (format_with d).scale)
     (2 ^ (format_with c).scale)
     → IsFarPlace c d bits place
@@ -123,7 +125,8 @@ number_placed c d bits place past implied low high is far = record {
 
 -- bits that pass the tests encode a number on that side
 pub placed : (c d : Constants) (bits place : ℕ) (past little number : Bool) → IsLawful c → IsLawful d
-    → c.explicit_integer_bit ≡ false → (IsTrue past → (d.max_exp +ℤ pos 2) ≤ℤ (c.min_exp +ℤ pos (biased_of c bits)))
+    → c.explicit_integer_bit ≡ false
+    → (IsTrue past → (d.max_exp +ℤ pos 2) ≤ℤ (c.min_exp +ℤ pos (biased_of c bits)))
     → (IsTrue little → (c.min_exp +ℤ pos (biased_of c bits)) ≤ℤ (d.min_exp -ℤ pos d.precision))
     → (IsTrue number → (0 < biased_of c bits) × (biased_of c bits + 1 < 2 ^ c.exp_bits))
     → IsTrue ((past || little) && number)
@@ -213,7 +216,8 @@ pub far_delivered : (past : Bool) (format : Format) (mode : Round) (negative : B
     → ((amount parts : ℕ) → 0 < parts
     → StandsFor 1 ExactlyZero (amount * 2 ^ down unit) (parts * 2 ^ up unit)
     → IsDelivered format mode negative amount parts value status)
-    → (amount parts : ℕ) → IsFar past format amount parts → IsDelivered format mode negative amount parts value status
+    → (amount parts : ℕ) → IsFar past format amount parts
+    → IsDelivered format mode negative amount parts value status
 far_delivered true format mode negative unit value status some is known amount parts far =
     let top : ℕ = 2 ^ (format.precision + format.span) in
     let one : IsDelivered format mode negative (2 ^ (format.precision + format.span)) 1 value status =

@@ -141,7 +141,8 @@ block_joined Holds source target index more count input output new counts others
 -- the same for the last values
 pub block_rest : (Holds : List ℕ → List ℕ → Outcome → Type 0) (source target done count : ℕ)
     (input output new : List ℕ) (counts others : Counts)
-    → done ≤ count → count < 2 ^ 64 → length output ≡ count * target → length new ≡ (count - done) * target
+    → done ≤ count → count < 2 ^ 64 → length output ≡ count * target
+    → length new ≡ (count - done) * target
     → IsBlock Holds source target (count - done) (slice_range input (done * source) (count * source)) new others
     → IsBlock Holds source target done input output counts
     → IsBlock Holds source target count input (put_mid (done * target) (count * target - done * target) output new)

@@ -28,7 +28,8 @@ one_more_fits number byte place small digit within = digit_fits 256 number byte 
 
 -- one more byte is read, below the others
 pub read_more : (bytes : List ℕ) (number byte place : ℕ) → place < length bytes → IsReadDown bytes number place
-    → byte ≡ get_or bytes (length bytes - 1 - place) 0 → byte < 256 → IsReadDown bytes (number * 256 + byte) (place + 1)
+    → byte ≡ get_or bytes (length bytes - 1 - place) 0 → byte < 256
+    → IsReadDown bytes (number * 256 + byte) (place + 1)
 read_more bytes number byte place within so_far is small =
     let here : length bytes - (place + 1) ≡ length bytes - 1 - place = omega arith in
     let step : length bytes - 1 - place + 1 ≡ length bytes - place = omega arith in
@@ -94,7 +95,8 @@ cut n power wider rest number scale so_far =
     omega arith
 
 -- one more byte is written after the others
-pub write_more : (number rest place : ℕ) (bytes : List ℕ) → place < length bytes → IsWrittenUp number rest place bytes
+pub write_more : (number rest place : ℕ) (bytes : List ℕ) → place < length bytes
+    → IsWrittenUp number rest place bytes
     → IsWrittenUp number (rest / 256) (place + 1) (set bytes place (rest % 256))
 write_more number rest place bytes within so_far =
     let enough : place ≤ length bytes = omega arith in

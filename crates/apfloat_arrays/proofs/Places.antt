@@ -96,10 +96,12 @@ pub places_none : {O : Type 0} (Holds : ℕ → List ℕ → O → Type 0) (widt
 places_none Holds width bytes = record { size = refl; each = λ index. tt }
 
 -- one more value is in its place, and the earlier ones are unchanged
-places_next : {O : Type 0} (Holds : ℕ → List ℕ → O → Type 0) (width index next : ℕ) (bytes written : List ℕ)
+places_next : {O : Type 0} (Holds : ℕ → List ℕ → O → Type 0) (width index next : ℕ)
+    (bytes written : List ℕ)
     (outcomes : List O) (outcome : O) → next ≡ index + 1 → Holds index (value_at width index written) outcome
     → ((k : ℕ) → k < index → value_at width k bytes ≡ value_at width k written)
-    → AreInPlaces Holds width index bytes outcomes → AreInPlaces Holds width next written (outcomes ++ outcome ∷ [])
+    → AreInPlaces Holds width index bytes outcomes
+    → AreInPlaces Holds width next written (outcomes ++ outcome ∷ [])
 places_next {O} Holds width index next bytes written outcomes outcome last here same so_far =
     let Says : ℕ → Type 0 = λ k. IfSome (slice_get (outcomes ++ outcome ∷ []) k)
     (λ o. Holds k (value_at width k written) o) in
@@ -118,7 +120,8 @@ places_next {O} Holds width index next bytes written outcomes outcome last here 
       size = longer;
       each = λ k. ⊎_elim {C = Says k} (before_it k)
           (λ h. ⊎_elim {C = Says k} (λ e. subst Says (sym e) at_end)
-          (λ past. none_of Holds _ (outcomes ++ outcome ∷ []) k (omega (arith, longer, last, past, h))) (cases_eq k index))
+          (λ past. none_of Holds _ (outcomes ++ outcome ∷ []) k (omega (arith, longer, last, past, h)))
+          (cases_eq k index))
           (cases_lt k index);
     }
 
@@ -172,7 +175,8 @@ block_more Holds source target index count input output new counts outcome befor
 -- the same block, with its parts renamed
 pub block_named : (Holds : List ℕ → List ℕ → Outcome → Type 0) (source target count count' : ℕ)
     (input input' output output' : List ℕ) (counts : Counts)
-    → count ≡ count' → input ≡ input' → output ≡ output' → IsBlock Holds source target count input output counts
+    → count ≡ count' → input ≡ input' → output ≡ output'
+    → IsBlock Holds source target count input output counts
     → IsBlock Holds source target count' input' output' counts
 block_named Holds source target count count' input input' output output' counts same_count same_input same_output
     block =

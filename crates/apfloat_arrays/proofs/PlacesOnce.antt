@@ -88,7 +88,8 @@ same_places width (suc count) bytes other each =
     let here : count < suc count = omega arith in
     ap (λ (n : ℕ). take n bytes) split ∙ one_more_place width count bytes
     ∙ ap (λ (l : List ℕ). l ++ value_at width count bytes) front
-    ∙ ap (λ (l : List ℕ). take (count * width) other ++ l) (each count here) ∙ sym (one_more_place width count other)
+    ∙ ap (λ (l : List ℕ). take (count * width) other ++ l) (each count here)
+    ∙ sym (one_more_place width count other)
     ∙ ap (λ (n : ℕ). take n other) (sym split)
 
 -- values in the same place of lists of the same length have the same length

@@ -36,12 +36,14 @@ use Rattle.apfloat_arrays.proofs.Places.{counts_push, earlier, latest, place_bel
 
 -- ---- rows
 
-pub row_none : (Holds : List ℕ → List ℕ → Outcome → Type 0) (given : ℕ → List ℕ) (width : ℕ) (output : List ℕ)
+pub row_none : (Holds : List ℕ → List ℕ → Outcome → Type 0) (given : ℕ → List ℕ) (width : ℕ)
+    (output : List ℕ)
     → IsRow Holds given width 0 output (counts_of [])
 row_none Holds given width output =
     record { outcomes = []; places = places_none (λ k bytes o. Holds (given k) bytes o) width output; counted = refl }
 
-pub row_more : (Holds : List ℕ → List ℕ → Outcome → Type 0) (given : ℕ → List ℕ) (width index count : ℕ)
+pub row_more : (Holds : List ℕ → List ℕ → Outcome → Type 0) (given : ℕ → List ℕ)
+    (width index count : ℕ)
     (output new : List ℕ) (counts : Counts) (outcome : Outcome)
     → index < count → length output ≡ count * width → length new ≡ width → Holds (given index) new outcome
     → IsRow Holds given width index output counts → IsRow Holds given width (index + 1)
@@ -55,7 +57,8 @@ row_more Holds given width index count output new counts outcome before size wid
 }
 
 -- the same values, given otherwise
-pub row_given : (Holds : List ℕ → List ℕ → Outcome → Type 0) (given other : ℕ → List ℕ) (width count : ℕ)
+pub row_given : (Holds : List ℕ → List ℕ → Outcome → Type 0) (given other : ℕ → List ℕ)
+    (width count : ℕ)
     (output : List ℕ) (counts : Counts) → ((k : ℕ) → k < count → given k ≡ other k)
     → IsRow Holds given width count output counts → IsRow Holds other width count output counts
 row_given Holds given other width count output counts same row =
@@ -78,7 +81,8 @@ row_given Holds given other width count output counts same row =
     }
 
 -- a row of the values of a block
-pub row_block : (Holds : List ℕ → List ℕ → Outcome → Type 0) (given : ℕ → List ℕ) (source width count : ℕ)
+pub row_block : (Holds : List ℕ → List ℕ → Outcome → Type 0) (given : ℕ → List ℕ)
+    (source width count : ℕ)
     (input output : List ℕ) (counts : Counts) → ((k : ℕ) → k < count → given k ≡ value_at source k input)
     → IsRow Holds given width count output counts → IsBlock Holds source width count input output counts
 row_block Holds given source width count input output counts same row =
@@ -134,7 +138,8 @@ counts_set outcomes index outcome within few quiet =
     cc
 
 -- a value in place of one that is not counted
-pub row_set : (Holds : List ℕ → List ℕ → Outcome → Type 0) (given other : ℕ → List ℕ) (width index count : ℕ)
+pub row_set : (Holds : List ℕ → List ℕ → Outcome → Type 0) (given other : ℕ → List ℕ)
+    (width index count : ℕ)
     (output new : List ℕ) (counts : Counts) (outcome : Outcome)
     → index < count → count < 2 ^ 64 → length output ≡ count * width → length new ≡ width
     → ((k : ℕ) → (k ≡ index → ⊥) → given k ≡ other k) → Holds (other index) new outcome
@@ -212,7 +217,8 @@ zero_kept f g mode value status loses it =
     (it.status_is ∙ rw sign refl, it.value_is ∙ ap (λ (b : Bool). finite b 0) sign)
 
 zero_by : (overflow : Overflow) (f g : Format) (mode : Round) (value : Datum) (status : ℕ) (loses : Bool)
-    → IsConversionBy overflow f g mode (finite false 0) value status loses → (status ≡ 0) × (is_nan value ≡ false)
+    → IsConversionBy overflow f g mode (finite false 0) value status loses → (status ≡ 0) ×
+    (is_nan value ≡ false)
 zero_by Rounded f g mode value status loses it =
     let kept = zero_kept f g mode value status loses it in (kept.0, ap is_nan kept.1)
 zero_by Saturated f g mode value status loses it =
@@ -291,7 +297,8 @@ done_there done input index before =
     then value_at 4 index input else []) (lt-ltb index done before)
 
 -- a zero stands for what is not a number
-pub zero_there : (index : ℕ) (input : List ℕ) → ltb (number_of (value_at 4 index input) % 2 ^ 31) (255 * 2 ^ 23) ≡ false
+pub zero_there : (index : ℕ) (input : List ℕ)
+    → ltb (number_of (value_at 4 index input) % 2 ^ 31) (255 * 2 ^ 23) ≡ false
     → number_from index input index ≡ []
 zero_there index input special =
     (λ i. if le-ltb index index (omega arith) i || special i then value_at 4 index input else [])
@@ -307,7 +314,8 @@ next_there index input k other =
     ap (λ (b : Bool). if b || ltb (number_of (value_at 4 k input) % 2 ^ 31) (255 * 2 ^ 23) then value_at 4 k input
     else []) same
 
-pub next_number : (index : ℕ) (input : List ℕ) → ltb (number_of (value_at 4 index input) % 2 ^ 31) (255 * 2 ^ 23) ≡ true
+pub next_number : (index : ℕ) (input : List ℕ)
+    → ltb (number_of (value_at 4 index input) % 2 ^ 31) (255 * 2 ^ 23) ≡ true
     → (k : ℕ) → number_from index input k ≡ number_from (index + 1) input k
 next_number index input number k =
     ⊎_elim {C = number_from index input k ≡ number_from (index + 1) input k}
@@ -351,7 +359,8 @@ cleared_finite half =
     (lt-ltb (half % 2 ^ 15) (255 * 2 ^ 7) l) in
     omega (arith, is, l))
     (λ (l : 255 * 2 ^ 7 ≤ half % 2 ^ 15).
-    let is : number_in half ≡ 0 = ap (λ (b : Bool). if b then half else 0) (le-ltb (half % 2 ^ 15) (255 * 2 ^ 7) l) in
+    let is : number_in half ≡ 0 = ap (λ (b : Bool). if b then half else 0)
+    (le-ltb (half % 2 ^ 15) (255 * 2 ^ 7) l) in
     omega (arith, is))
     (cases_lt (half % 2 ^ 15) (255 * 2 ^ 7))
 
@@ -374,7 +383,8 @@ made_there convert number input index zero is =
     then value_at 4 index input else []))) (sym none)
 
 -- the same of the upper half of a single, rounded to odd
-pub halves_there : (input : List ℕ) (index half : ℕ) → half ≡ odd_quotient (number_of (value_at 4 index input)) (2 ^ 16)
+pub halves_there : (input : List ℕ) (index half : ℕ)
+    → half ≡ odd_quotient (number_of (value_at 4 index input)) (2 ^ 16)
     → number_in half ≡ odd_quotient (number_of (number_from 0 input index)) (2 ^ 16)
 halves_there input index half is =
     let x = number_of (value_at 4 index input) in

@@ -386,7 +386,8 @@ short_sign x exp_bits cut =
     let power : 2 ^ (5 + cut) ≡ 32 * 2 ^ cut = pow-add 2 5 cut in
     ap (λ (n : ℕ). odd_quotient x (2 ^ cut) / n) short
     ∙ sym (div-div-eq-div-mul (odd_quotient x (2 ^ cut)) 32 (2 ^ exp_bits))
-    ∙ ap (λ (n : ℕ). n / 2 ^ exp_bits) (short_high x (2 ^ cut)) ∙ ap (λ (n : ℕ). x / n / 2 ^ exp_bits) (sym power)
+    ∙ ap (λ (n : ℕ). n / 2 ^ exp_bits) (short_high x (2 ^ cut))
+    ∙ ap (λ (n : ℕ). x / n / 2 ^ exp_bits) (sym power)
     ∙ div-div-eq-div-mul x (2 ^ (5 + cut)) (2 ^ exp_bits) ∙ ap (λ (n : ℕ). x / n) (sym long)
 
 -- constants with some of their parts, and the rest of others
@@ -423,7 +424,8 @@ like_is c exp_bits cut bits exponents precision nonfinite implied =
     ∙ ap (λ (b : Bool). with_parts c c.bits c.exp_bits c.precision c.nonfinite b) (sym implied)
 
 -- the datum that bits encode, by their fields
-datum_is : (c : Constants) (exp_bits cut x : ℕ) → like c exp_bits cut ≡ c → datum_of (format_with c) (layout_with c) x
+datum_is : (c : Constants) (exp_bits cut x : ℕ) → like c exp_bits cut ≡ c
+    → datum_of (format_with c) (layout_with c) x
     ≡ read (2 ^ exp_bits - 1) (2 ^ (5 + cut)) (eqb (x / 2 ^ (exp_bits + (5 + cut)) % 2) 1)
     (x / 2 ^ (5 + cut) % 2 ^ exp_bits) (x % 2 ^ (5 + cut))
 datum_is c exp_bits cut x is =

@@ -81,7 +81,8 @@ tally_most flags is_nan =
 pub most_sum : (first size : ℕ) (some others : Tally) → AreTalliesAtMost first some → AreTalliesAtMost size others
     → AreTalliesAtMost (first + size) (sum_of some others)
 most_sum first size some others p q =
-    let added : (a b : ℕ) → a ≤ first → b ≤ size → a + b ≤ first + size = λ a b p q. omega (arith, p, q) in
+    let added : (a b : ℕ) → a ≤ first → b ≤ size → a + b ≤ first + size =
+    λ a b p q. omega (arith, p, q) in
     record {
       inexact = added _ _ p.inexact q.inexact;
       underflow = added _ _ p.underflow q.underflow;
@@ -181,14 +182,16 @@ total_more marks first index tally packed mark so_far =
     }
 
 -- the digits of the number are the tally
-digits_are : (marks : ℕ → ℕ) (first index size : ℕ) (tally : Tally) (packed : ℕ) → index ≡ first + size → size ≤ 31
+digits_are : (marks : ℕ → ℕ) (first index size : ℕ) (tally : Tally) (packed : ℕ) → index ≡ first + size
+    → size ≤ 31
     → (it : IsTallyTotal marks first index tally packed) → (it.done ≡ size) × (unpacked packed ≡ it.few)
 digits_are marks first index size tally packed last few it =
     let all : it.done ≡ size = omega (arith, it.index_is, last) in
     let most : it.done ≤ 31 = omega (arith, all, few) in
     (all, ap unpacked it.packed_is ∙ taken_out it.few it.done most it.most)
 
-pub total_done : (marks : ℕ → ℕ) (first index size : ℕ) (tally : Tally) (packed : ℕ) → index ≡ first + size
+pub total_done : (marks : ℕ → ℕ) (first index size : ℕ) (tally : Tally) (packed : ℕ)
+    → index ≡ first + size
     → size ≤ 31 → AreTalliesAtMost first tally → IsTallyTotal marks first index tally packed
     → (sum_of tally (unpacked packed) ≡ total marks (first + size))
     × AreTalliesAtMost (first + size) (sum_of tally (unpacked packed))
@@ -202,13 +205,15 @@ total_done marks first index size tally packed last few before it =
 
 -- ---- entries
 
-quotient_is : (result mark entry power : ℕ) → entry ≡ result + power * mark → result < power → entry / power ≡ mark
+quotient_is : (result mark entry power : ℕ) → entry ≡ result + power * mark → result < power
+    → entry / power ≡ mark
 quotient_is result mark entry power is fits =
     let turned : power * mark ≡ mark * power = mul_comm power mark in
     let parts : entry ≡ mark * power + result = omega (arith, is, turned) in
     ap (λ (n : ℕ). n / power) parts ∙ div-mul-add mark power result fits
 
-rest_is : (result mark entry power : ℕ) → entry ≡ result + power * mark → result < power → entry % power ≡ result
+rest_is : (result mark entry power : ℕ) → entry ≡ result + power * mark → result < power
+    → entry % power ≡ result
 rest_is result mark entry power is fits =
     let turned : power * mark ≡ mark * power = mul_comm power mark in
     let parts : entry ≡ mark * power + result = omega (arith, is, turned) in
@@ -247,7 +252,8 @@ each_more value width index count output new before size wide here so_far k with
     (cases_eq k index)
 
 -- what holds of the values up to an index holds of one more
-below_more : {P : ℕ → Type 0} (index : ℕ) → P index → ((k : ℕ) → k < index → P k) → (k : ℕ) → k < index + 1 → P k
+below_more : {P : ℕ → Type 0} (index : ℕ) → P index → ((k : ℕ) → k < index → P k)
+    → (k : ℕ) → k < index + 1 → P k
 below_more {P} index here so_far k within =
     ⊎_elim {C = P k} (λ (same : k ≡ index). subst P (sym same) here)
     (λ (other : k ≡ index → ⊥). so_far k (omega (arith, other, within))) (cases_eq k index)
@@ -273,7 +279,8 @@ module _ (place : ℕ → ℕ) (size width first : ℕ) (table : List ℕ) (tall
 
   pub since_more : (index count : ℕ) (output new : List ℕ) (at packed mark : ℕ) → index < count
       → length output ≡ count * width → length new ≡ width → at ≡ place index → at < size
-      → AreEntries width size table → number_of new ≡ entry_of table at % 2 ^ 32 → mark ≡ entry_of table at / 2 ^ 32
+      → AreEntries width size table → number_of new ≡ entry_of table at % 2 ^ 32
+      → mark ≡ entry_of table at / 2 ^ 32
       → AreLookedUpSince place size width first index table output tally packed
       → AreLookedUpSince place size width first (index + 1) table
       (put_mid (index * width) (index * width + width - index * width) output new) tally (packed + mark)
@@ -292,12 +299,14 @@ module _ (place : ℕ → ℕ) (size width first : ℕ) (table : List ℕ) (tall
 
   pub since_fits : (index few : ℕ) (output : List ℕ) (packed : ℕ) → index ≡ first + few → few ≤ 31
       → first + few < 2 ^ 64 → AreTalliesAtMost first tally
-      → AreLookedUpSince place size width first index table output tally packed → Fits (sum_of tally (unpacked packed))
+      → AreLookedUpSince place size width first index table output tally packed
+      → Fits (sum_of tally (unpacked packed))
   since_fits index few output packed last is_few room before it =
       sum_fits (first + few) (sum_of tally (unpacked packed)) room
       (total_done marks first index few tally packed last is_few before it.counted).1
 
-  pub since_done : (index few : ℕ) (output : List ℕ) (all : Tally) (packed : ℕ) → index ≡ first + few → few ≤ 31
+  pub since_done : (index few : ℕ) (output : List ℕ) (all : Tally) (packed : ℕ) → index ≡ first + few
+      → few ≤ 31
       → AreTalliesAtMost first tally → all ≡ sum_of tally (unpacked packed)
       → AreLookedUpSince place size width first index table output tally packed
       → AreLookedUp place size width (first + few) table output all

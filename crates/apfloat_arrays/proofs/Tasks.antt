@@ -22,7 +22,8 @@ singles_width c d width other count input output same it =
 
 -- the singles after the first ones
 pub singles_after : (c d : Constants) (width target done count : ℕ) (input output made : List ℕ)
-    → target ≡ width → done ≤ count → length made ≡ length output → AreSingles c d width count input output
+    → target ≡ width → done ≤ count → length made ≡ length output
+    → AreSingles c d width count input output
     → AreSingles c d width (count - done) (slice_range input (done * 4) (count * 4))
     (slice_range made (done * target) (count * target))
 singles_after c d width target done count input output made same before kept it =

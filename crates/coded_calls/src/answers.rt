@@ -325,8 +325,8 @@ pub fn round_to_integral_here<F: ValueType>(answer: &mut Answer, round: Round, x
     *answer = written(F::from_bits(x).round_to_integral(round));
 }
 
-/// A value rounded to an integral value in the modes as constants. That makes the code of each short enough to be put in
-/// line where the code for all modes is not.
+/// A value rounded to an integral value, in line: with its mode as a constant the call is short enough for that in each
+/// format, where the call for all modes is too long in `x87`.
 #[inline(always)]
 fn round_to_integral_by_mode<F: ValueType>(answer: &mut Answer, round: Round, x: u128)
     requires { F.PRECISION < F.BITS }

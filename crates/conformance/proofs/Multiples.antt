@@ -22,7 +22,8 @@ enclosed precision amount parts spacing h p spaced =
 
 -- the greatest multiple that is not above the magnitude is its lower neighbour
 pub floor_is : (precision amount parts spacing : ℕ) → 0 < precision → 0 < parts
-    → IsSpacing precision amount parts spacing → IsBelow precision (amount / (parts * spacing) * spacing) amount parts
+    → IsSpacing precision amount parts spacing
+    → IsBelow precision (amount / (parts * spacing) * spacing) amount parts
 floor_is precision amount parts spacing h p s =
     subst (λ (x : ℕ). IsBelow precision (amount / (parts * x) * x) amount parts) (sym s.is)
     (below_is precision (2 ^ (precision - 1)) (amount / (parts * 2 ^ s.place)) s.place amount parts

@@ -110,7 +110,8 @@ pub out_is : (format : Format) (bounds : Bounds) (mode : Round) (negative : Bool
 out_is format bounds mode negative amount parts pick status value h i l out v s =
     let p : IsPick format.precision mode negative amount parts pick =
     subst (λ (x : ℕ). IsPick x mode negative amount parts pick) (sym h.precision) i in
-    let a : ltb (largest format) pick ≡ true = ap (λ (x : ℕ). ltb x pick) h.largest ∙ lt-ltb bounds.largest pick l in
+    let a : ltb (largest format) pick ≡ true =
+    ap (λ (x : ℕ). ltb x pick) h.largest ∙ lt-ltb bounds.largest pick l in
     let w : value ≡ past_largest format.nonfinite (nan_base_of format.nonfinite format.precision) negative =
     v ∙ ap (λ (x : ℕ). past_largest bounds.nonfinite (nan_base_of bounds.nonfinite x) negative) (sym h.precision)
     ∙ ap (λ (k : NonfiniteBehavior). past_largest k (nan_base_of k format.precision) negative) (sym h.nonfinite) in
@@ -125,7 +126,8 @@ pub stay_is : (format : Format) (bounds : Bounds) (mode : Round) (negative : Boo
 stay_is format bounds mode negative amount parts pick status value h i l stay v s =
     let p : IsPick format.precision mode negative amount parts pick =
     subst (λ (x : ℕ). IsPick x mode negative amount parts pick) (sym h.precision) i in
-    let a : ltb (largest format) pick ≡ true = ap (λ (x : ℕ). ltb x pick) h.largest ∙ lt-ltb bounds.largest pick l in
+    let a : ltb (largest format) pick ≡ true =
+    ap (λ (x : ℕ). ltb x pick) h.largest ∙ lt-ltb bounds.largest pick l in
     let w : value ≡ finite negative (largest format) = v ∙ ap (λ (x : ℕ). finite negative x) (sym h.largest) in
     delivered_past format mode negative amount parts pick value status p a (rw stay w)
     (s ∙ ap (λ (b : Bool). cond b 20 16) (sym h.ieee_flags)

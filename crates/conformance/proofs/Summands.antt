@@ -78,7 +78,8 @@ first_reach x y s k m e =
     (magnitude (number x)) (magnitude (number y))
     (normalised_low s e.normalised) (first_most (number s.high) (number s.low)) sum
     (summand_size reach_of_three x k) (summand_size reach_of_three y m) in
-    let quanta = subst (λ (i : ℕ). i ≤ 4 * reach_of_three) (magnitude_quanta s.high e.normalised.finite_high) most in
+    let quanta = subst (λ (i : ℕ). i ≤ 4 * reach_of_three) (magnitude_quanta s.high e.normalised.finite_high)
+    most in
     subst (λ (i : ℕ). quanta_of s.high ≤ i) four_times quanta
 
 -- a number within a reach is within four times that reach
@@ -87,10 +88,12 @@ widened_reach t n h = omega arith
 
 -- the third double is within reach too
 third_reach : (z : Datum) → IsPlainSummand reach_of_three z → quanta_of z ≤ sum_reach
-third_reach z s = subst (λ (i : ℕ). quanta_of z ≤ i) four_times (widened_reach reach_of_three (quanta_of z) s.within)
+third_reach z s = subst (λ (i : ℕ). quanta_of z ≤ i) four_times
+    (widened_reach reach_of_three (quanta_of z) s.within)
 
 -- a sum that is close for some summands is close for equal ones
-close_by : (m n p q : ℤ) (answer : Pair) → m ≡ n → p ≡ q → IsClosePair (m +ℤ p) 1 103 (magnitude m + magnitude p) answer
+close_by : (m n p q : ℤ) (answer : Pair) → m ≡ n → p ≡ q
+    → IsClosePair (m +ℤ p) 1 103 (magnitude m + magnitude p) answer
     → IsClosePair (n +ℤ q) 1 103 (magnitude n + magnitude q) answer
 close_by m n p q answer e f close =
     subst₂ (λ (i : ℤ) (j : ℤ). IsClosePair (i +ℤ j) 1 103 (magnitude i + magnitude j) answer) e f close

@@ -17,7 +17,8 @@ use Rattle.apfloat_model.proofs.rounding.OutwardResults.{reading_encloses}
 use Rattle.conformance.specs.TwoModes.{AreInModes}
 use Rattle.conformance.specs.TwoReadings.{AreReadings}
 
-same_if_ok : (R : Round → Datum → ℕ → Type 0) → AgreesWhereOk R → (mode other : Round) (one two : StatusAnd Datum)
+same_if_ok : (R : Round → Datum → ℕ → Type 0) → AgreesWhereOk R
+    → (mode other : Round) (one two : StatusAnd Datum)
     → Gives (R mode) one → Gives (R other) two → AreSameIfOk one two
 same_if_ok R agrees mode other one two x y = λ e.
     agrees mode other one.value two.value (bits_of two.status) (subst (λ (s : ℕ). R mode one.value s) e x) y
@@ -29,7 +30,8 @@ bounds_if_outward IsExact R encloses mode other one two x y o =
     encloses one.value two.value (bits_of one.status) (bits_of two.status)
     (subst (λ (m : Round). Gives (R m) one) o.downward x) (subst (λ (m : Round). Gives (R m) two) o.upward y)
 
-pub in_modes : (IsExact : ℕ → Type 0) (R : Round → Datum → ℕ → Type 0) → AgreesWhereOk R → Encloses IsExact R
+pub in_modes : (IsExact : ℕ → Type 0) (R : Round → Datum → ℕ → Type 0) → AgreesWhereOk R
+    → Encloses IsExact R
     → (mode other : Round) (one two : StatusAnd Datum) → Gives (R mode) one → Gives (R other) two
     → AreInModes R AreSameIfOk IsExact mode other one two
 in_modes IsExact R agrees encloses mode other one two x y = record {
@@ -40,7 +42,8 @@ in_modes IsExact R agrees encloses mode other one two x y = record {
 }
 
 -- the same of what may be an exact zero of either sign
-pub but_for_zeros : (R : Round → Datum → ℕ → Type 0) → AgreesButForZeros R → Encloses IsOk R → (mode other : Round)
+pub but_for_zeros : (R : Round → Datum → ℕ → Type 0) → AgreesButForZeros R → Encloses IsOk R
+    → (mode other : Round)
     (one two : StatusAnd Datum) → Gives (R mode) one → Gives (R other) two
     → AreInModes R AreSameIfOkButForZeros IsOk mode other one two
 but_for_zeros R agrees encloses mode other one two x y = record {

@@ -37,8 +37,10 @@ make terms first_nan wrong positive_infinity negative_infinity positive negative
       exact = exact;
     }
 
-made_same : (m n : ℕ) (x y : Option Datum) (a b c d e a' b' c' d' e' : Bool) (u v : ℤ) → m ≡ n → x ≡ y → a ≡ a'
-    → b ≡ b' → c ≡ c' → d ≡ d' → e ≡ e' → u ≡ v → make m x a b c d e u ≡ make n y a' b' c' d' e' v
+made_same : (m n : ℕ) (x y : Option Datum) (a b c d e a' b' c' d' e' : Bool) (u v : ℤ) → m ≡ n → x ≡ y
+    → a ≡ a'
+    → b ≡ b' → c ≡ c' → d ≡ d' → e ≡ e' → u ≡ v
+    → make m x a b c d e u ≡ make n y a' b' c' d' e' v
 made_same m n x y a b c d e a' b' c' d' e' u v f g h i j k l o = rw (f, g, h, i, j, k, l, o) refl
 
 -- tallies with the same fields are the same
@@ -83,7 +85,8 @@ pub record IsUnderWay (before done all left : Tally) (i : ℕ) : Type 0 where
 
 -- a step of it
 pub one_done : (before done next all left rest term : Tally) (i : ℕ) → IsUnderWay before done all left i
-    → left ≡ joined term rest → next ≡ joined done term → term.terms ≡ 1 → IsUnderWay before next all rest (i + 1)
+    → left ≡ joined term rest → next ≡ joined done term → term.terms ≡ 1
+    → IsUnderWay before next all rest (i + 1)
 one_done before done next all left rest term i x here added one =
     let more = ap (λ (t : Tally). t.terms) added in
     let terms = x.terms in
@@ -96,7 +99,8 @@ one_done before done next all left rest term i x here added one =
 -- its end
 pub all_done : (before done all left : Tally) (i : ℕ) → IsUnderWay before done all left i → left ≡ no_terms
     → done ≡ joined before all
-all_done before done all left i x none = sym (joined_none done) ∙ sym (ap (λ (t : Tally). joined done t) none) ∙ x.total
+all_done before done all left i x none =
+    sym (joined_none done) ∙ sym (ap (λ (t : Tally). joined done t) none) ∙ x.total
 
 -- all terms, if there were none before
 pub from_none : (before after all : Tally) → before ≡ no_terms → after ≡ joined before all → after ≡ all
@@ -125,7 +129,8 @@ products_here f xs ys i x y h k e d =
     ap (λ (l : List Datum). tally (product_terms f l (drop i ys))) (here_is xs i x h e)
     ∙ ap (λ (l : List Datum). tally (product_terms f (x ∷ drop (i + 1) xs) l)) (here_is ys i y k d)
 
-pub values_done : (f : Format) (xs : List Datum) (i : ℕ) → length xs ≤ i → tally (value_terms f (drop i xs)) ≡ no_terms
+pub values_done : (f : Format) (xs : List Datum) (i : ℕ) → length xs ≤ i
+    → tally (value_terms f (drop i xs)) ≡ no_terms
 values_done f xs i l = ap (λ (z : List Datum). tally (value_terms f z)) (drop_all i xs l)
 
 pub magnitudes_done : (f : Format) (xs : List Datum) (i : ℕ) → length xs ≤ i
@@ -144,7 +149,8 @@ finite_value f (finite b m) e = refl
 finite_value f (infinite b) e = absurd (false≢true e)
 finite_value f (nan b s) e = absurd (false≢true e)
 
-pub finite_product : (f : Format) (x y : Datum) → is_finite x ≡ true → is_finite y ≡ true → tally_of (product f x y)
+pub finite_product : (f : Format) (x y : Datum) → is_finite x ≡ true → is_finite y ≡ true
+    → tally_of (product f x y)
     ≡ number_tally (product_sign (is_negative x) (is_negative y)) (quanta_of x * quanta_of y)
 finite_product f (finite b m) (finite c n) e d = refl
 finite_product f (finite b m) (infinite c) e d = absurd (false≢true d)
@@ -158,7 +164,8 @@ value_one f (finite b m) = refl
 value_one f (infinite b) = refl
 value_one f (nan b s) = refl
 
-one_if : (f : Format) (test sign : Bool) → (tally_of (if test then invalid f else exactly (infinite sign))).terms ≡ 1
+one_if : (f : Format) (test sign : Bool)
+    → (tally_of (if test then invalid f else exactly (infinite sign))).terms ≡ 1
 one_if f true sign = refl
 one_if f false sign = refl
 
@@ -191,7 +198,8 @@ zero_or_infinite f mode true sign value status h = settled_special value status 
 zero_or_infinite f mode false sign value status h = settled_special value status _ _ _ h refl refl
 
 pub special_product : (f : Format) (mode : Round) (x y value : Datum) (status : ℕ)
-    → (is_finite x && is_finite y) ≡ false → IsProduct f mode x y value status → IsSpecial value status (product f x y)
+    → (is_finite x && is_finite y) ≡ false → IsProduct f mode x y value status
+    → IsSpecial value status (product f x y)
 special_product f mode (nan b s) y value status e h = settled_special value status _ _ _ h refl refl
 special_product f mode (finite b m) (nan c t) value status e h = settled_special value status _ _ _ h refl refl
 special_product f mode (infinite b) (nan c t) value status e h = settled_special value status _ _ _ h refl refl
@@ -218,7 +226,8 @@ infinite_tally (finite b n) flags e = absurd (not_infinite (eqb n 0) e)
 infinite_tally (infinite b) flags e = refl
 infinite_tally (nan b s) flags e = absurd cc
 
-pub nan_tally : (x : Datum) (flags : ℕ) → is_finite x ≡ false → (category_of x ≡ Infinity → ⊥) → special_tally x flags
+pub nan_tally : (x : Datum) (flags : ℕ) → is_finite x ≡ false → (category_of x ≡ Infinity → ⊥)
+    → special_tally x flags
     ≡ record no_terms { terms = 1; first_nan = Some x; invalid = not (eqb flags ok_bits) }
 nan_tally (finite b n) flags e d = absurd (false≢true (sym e))
 nan_tally (infinite b) flags e d = absurd (d refl)
@@ -254,7 +263,8 @@ amounts_joined sides others = omega (arith, ints)
 
 -- a finite value that is no nonzero number is a zero
 zero_quanta : (n : ℕ) → ((if eqb n 0 then Zero else Normal) ≡ Normal → ⊥) → n ≡ 0
-zero_quanta n h = ⊎_elim (λ (e : n ≡ 0). e) (λ (e : n ≡ 0 → ⊥). absurd (h (rw (ne_eqb n 0 e) refl))) (cases_eq n 0)
+zero_quanta n h =
+    ⊎_elim (λ (e : n ≡ 0). e) (λ (e : n ≡ 0 → ⊥). absurd (h (rw (ne_eqb n 0 e) refl))) (cases_eq n 0)
 
 pub finite_zero : (x : Datum) → is_finite x ≡ true → (category_of x ≡ Normal → ⊥) → quanta_of x ≡ 0
 finite_zero (finite b n) e h = zero_quanta n h

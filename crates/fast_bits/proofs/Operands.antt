@@ -62,7 +62,8 @@ product_stands m from n to moved scale =
     let left : 2 ^ (scale + moved) ≡ 2 ^ scale * 2 ^ moved = pow-add 2 scale moved in
     let right : 2 ^ (from + to) ≡ 2 ^ from * 2 ^ to = pow-add 2 from to in
     let first : m * 2 ^ from * (n * 2 ^ to) * 2 ^ (scale + moved)
-    ≡ m * 2 ^ from * (n * 2 ^ to) * (2 ^ scale * 2 ^ moved) = ap (λ (x : ℕ). m * 2 ^ from * (n * 2 ^ to) * x) left in
+    ≡ m * 2 ^ from * (n * 2 ^ to) * (2 ^ scale * 2 ^ moved) =
+    ap (λ (x : ℕ). m * 2 ^ from * (n * 2 ^ to) * x) left in
     let second : m * n * 2 ^ moved * (2 ^ scale * 2 ^ (from + to))
     ≡ m * n * 2 ^ moved * (2 ^ scale * (2 ^ from * 2 ^ to)) =
     ap (λ (x : ℕ). m * n * 2 ^ moved * (2 ^ scale * x)) right in
@@ -79,7 +80,8 @@ product_kept precision m from n to moved scale product place half some is fits f
     let long : precision < 2 * precision = omega (arith, some) in
     let rest_is : product % 2 ^ precision ≡ product % 2 ^ (2 * precision - precision) =
     ap (λ (x : ℕ). product % 2 ^ x) (sym digits) in
-    let half_there : half ≡ 2 ^ (2 * precision - precision - 1) = half_is ∙ ap (λ (x : ℕ). 2 ^ (x - 1)) (sym digits) in
+    let half_there : half ≡ 2 ^ (2 * precision - precision - 1) =
+    half_is ∙ ap (λ (x : ℕ). 2 ^ (x - 1)) (sym digits) in
     let split : IsSplitRest precision product (2 * precision) place (product % 2 ^ precision) half (from + to)
     (scale + moved) = record {
       some = some;

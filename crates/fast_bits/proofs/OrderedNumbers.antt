@@ -54,7 +54,8 @@ pub magnitude_biased : (c : Constants) (bits magnitude : ℕ) → IsInterchange 
     ≡ (fields_of (format_with c) (layout_with c) bits).biased_exponent
 magnitude_biased c bits magnitude law is =
     let t = trailing_bits (format_with c) in
-    ap (λ (n : ℕ). n / 2 ^ t % 2 ^ c.exp_bits) is ∙ word_field bits (c.bits - 1) t c.exp_bits (omega (arith, law.bits))
+    ap (λ (n : ℕ). n / 2 ^ t % 2 ^ c.exp_bits) is ∙
+    word_field bits (c.bits - 1) t c.exp_bits (omega (arith, law.bits))
 
 pub magnitude_trailing : (c : Constants) (bits magnitude : ℕ) → IsInterchange (format_with c) (layout_with c)
     → magnitude ≡ bits % 2 ^ (c.bits - 1) → (fields_of (format_with c) (layout_with c) magnitude).trailing
@@ -64,7 +65,8 @@ magnitude_trailing c bits magnitude law is =
     ap (λ (n : ℕ). n % 2 ^ t) is ∙ lower_mod bits (c.bits - 1) t (omega (arith, law.bits))
 
 -- the parts of numbers are in the order of the numbers
-parts_in_order : (low high t e : ℕ) → low ≤ high → high < 2 ^ (e + t) → (low / 2 ^ t % 2 ^ e ≤ high / 2 ^ t % 2 ^ e)
+parts_in_order : (low high t e : ℕ) → low ≤ high → high < 2 ^ (e + t)
+    → (low / 2 ^ t % 2 ^ e ≤ high / 2 ^ t % 2 ^ e)
     × (low / 2 ^ t % 2 ^ e ≡ high / 2 ^ t % 2 ^ e → low % 2 ^ t ≤ high % 2 ^ t)
 parts_in_order low high t e le fits =
     let p = 2 ^ t in
@@ -105,7 +107,8 @@ number_of c bits =
 encoded_number : (c : Constants) (bits : ℕ) → IsInterchange (format_with c) (layout_with c)
     → c.explicit_integer_bit ≡ false → 0 < (fields_of (format_with c) (layout_with c) bits).biased_exponent
     → (fields_of (format_with c) (layout_with c) bits).biased_exponent + 1 < 2 ^ c.exp_bits
-    → (fields_of (format_with c) (layout_with c) bits).biased_exponent < 2 ^ 22 → IsNumberOf c bits (number_of c bits)
+    → (fields_of (format_with c) (layout_with c) bits).biased_exponent < 2 ^ 22
+    → IsNumberOf c bits (number_of c bits)
 encoded_number c bits law implied some few near =
     let low = trailing_low c bits implied in
     let digits : c.precision ≡ c.precision - 1 + 1 = omega (arith, law.precise) in
@@ -131,7 +134,8 @@ record AreInOrder (c : Constants) (h l high low above below : ℕ) : Type 0 wher
       ≤ 2 ^ (c.precision - 1) + (fields_of (format_with c) (layout_with c) high).trailing
 
 in_order : (c : Constants) (h l high low above below : ℕ) → IsInterchange (format_with c) (layout_with c)
-    → c.explicit_integer_bit ≡ false → high ≡ h % 2 ^ (c.bits - 1) → low ≡ l % 2 ^ (c.bits - 1) → low ≤ high
+    → c.explicit_integer_bit ≡ false → high ≡ h % 2 ^ (c.bits - 1) → low ≡ l % 2 ^ (c.bits - 1)
+    → low ≤ high
     → above ≡ (fields_of (format_with c) (layout_with c) high).biased_exponent
     → below ≡ (fields_of (format_with c) (layout_with c) low).biased_exponent
     → above < 2 ^ 22 → 0 < below → above + 1 < 2 ^ c.exp_bits → AreInOrder c h l high low above below
@@ -164,7 +168,8 @@ in_order c h l high low above below law implied high_is low_is le above_is below
 pub some_above : (c : Constants) (x y left right high low above below : ℕ) (b : Bool)
     → IsInterchange (format_with c) (layout_with c) → c.explicit_integer_bit ≡ false
     → left ≡ x % 2 ^ (c.bits - 1) → right ≡ y % 2 ^ (c.bits - 1)
-    → (b ≡ true → right ≤ left) → (b ≡ false → left ≤ right) → high ≡ cond b left right → low ≡ cond b right left
+    → (b ≡ true → right ≤ left) → (b ≡ false → left ≤ right)
+    → high ≡ cond b left right → low ≡ cond b right left
     → above ≡ (fields_of (format_with c) (layout_with c) high).biased_exponent
     → below ≡ (fields_of (format_with c) (layout_with c) low).biased_exponent
     → above < 2 ^ 22 → 0 < below → above + 1 < 2 ^ c.exp_bits → 1 ≤ above
@@ -193,7 +198,8 @@ swapped_unlike false false = refl
 pub numbers_in_order : (c : Constants) (x y left right high low above below upper lower : ℕ)
     (changed b x_sign y_sign high_sign low_sign : Bool) → IsInterchange (format_with c) (layout_with c)
     → c.explicit_integer_bit ≡ false → left ≡ x % 2 ^ (c.bits - 1) → right ≡ y % 2 ^ (c.bits - 1)
-    → (b ≡ true → right ≤ left) → (b ≡ false → left ≤ right) → high ≡ cond b left right → low ≡ cond b right left
+    → (b ≡ true → right ≤ left) → (b ≡ false → left ≤ right)
+    → high ≡ cond b left right → low ≡ cond b right left
     → above ≡ (fields_of (format_with c) (layout_with c) high).biased_exponent
     → below ≡ (fields_of (format_with c) (layout_with c) low).biased_exponent
     → above < 2 ^ 22 → 0 < below → above + 1 < 2 ^ c.exp_bits
@@ -247,7 +253,8 @@ numbers_in_order c x y left right high low above below upper lower changed false
 -- ---- the sum of two numbers in order
 
 -- the total of two numbers in order represents their sum
-pub ordered_total : (precision m mp n np q : ℕ) (unit : ℤ) (left right unlike : Bool) → precision ≤ 59 → np ≤ mp
+pub ordered_total : (precision m mp n np q : ℕ) (unit : ℤ) (left right unlike : Bool) → precision ≤ 59
+    → np ≤ mp
     → (unit +ℤ pos (62 - precision)) ≡ pos mp → unlike ≡ not (beq left right)
     → (unlike ≡ false → IsRoundedToOdd (2 ^ 60) q
     (m * 2 ^ (62 - precision) * 2 ^ (mp - np) + n * 2 ^ (62 - precision)) (2 ^ (mp - np)))
@@ -283,7 +290,8 @@ swapped_terms c mode answer x y given =
 
 -- the sum of two numbers in order is that of the numbers themselves
 pub ordered_sum : (c : Constants) (mode : Round) (answer : Option Encoded) (x y high low : Number)
-    → ((high ≡ x) × (low ≡ y)) ⊎ ((high ≡ y) × (low ≡ x)) → IsSumOf c mode answer high low → IsSumOf c mode answer x y
+    → ((high ≡ x) × (low ≡ y)) ⊎ ((high ≡ y) × (low ≡ x)) → IsSumOf c mode answer high low
+    → IsSumOf c mode answer x y
 ordered_sum c mode answer x y high low (inl same) given =
     subst₂ (λ (a : Number) (b : Number). IsSumOf c mode answer a b) same.0 same.1 given
 ordered_sum c mode answer x y high low (inr same) given =

@@ -44,7 +44,8 @@ number_read c bits implied some few =
     let x = fields_of (format_with c) (layout_with c) bits in
     cond-false c.explicit_integer_bit _ _ implied
     ∙ number_of_fields c.nonfinite (format_with c) (layout_with c) x.negative x.biased_exponent x.trailing
-    (ne_eqb x.biased_exponent 0 (λ e. omega arith)) (ne_eqb x.biased_exponent (all_ones c.exp_bits) (λ e. omega arith))
+    (ne_eqb x.biased_exponent 0 (λ e. omega arith))
+    (ne_eqb x.biased_exponent (all_ones c.exp_bits) (λ e. omega arith))
 
 pub trailing_low : (c : Constants) (bits : ℕ) → c.explicit_integer_bit ≡ false
     → (fields_of (format_with c) (layout_with c) bits).trailing < 2 ^ (c.precision - 1)

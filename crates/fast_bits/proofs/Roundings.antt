@@ -26,14 +26,16 @@ moved_high true m = omega arith
 moved_high false m = omega arith
 
 -- what is delivered for a cut at an inner place
-pub inner_delivered : (c : Constants) (mode : Round) (negative moved : Bool) (m place amount parts rest half status : ℕ)
+pub inner_delivered : (c : Constants) (mode : Round) (negative moved : Bool)
+    (m place amount parts rest half status : ℕ)
     → IsInterchange (format_with c) (layout_with c) → place + 5 ≤ 2 ^ c.exp_bits
     → 2 ^ (c.precision - 1) ≤ m → m < 2 ^ c.precision → 0 < parts
     → moved ≡ rounds_up mode negative (loss_at rest half) (eqb (m % 2) 1)
     → IsEnclosed c.precision (2 ^ (c.precision - 1)) m place amount parts
     → StandsFor m (loss_at rest half) amount (2 ^ place * parts)
     → (rest ≡ 0 → status ≡ 0) → ((rest ≡ 0 → ⊥) → status ≡ 16)
-    → IsDelivered (format_with c) mode negative amount parts (finite negative (cond moved (m + 1) m * 2 ^ place)) status
+    → IsDelivered (format_with c) mode negative amount parts (finite negative (cond moved (m + 1) m * 2 ^ place))
+    status
 inner_delivered c mode negative moved m place amount parts rest half status law inner full fits some is enclosed
     stands exact inexact =
     let f = format_with c in

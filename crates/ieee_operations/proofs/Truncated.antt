@@ -80,7 +80,8 @@ stays_less : (order : Ordering) (is_cut negative : Bool) → order ≡ Less → 
 stays_less order true b e = rw e refl
 stays_less order false b e = e
 
-stays_greater : (order : Ordering) (is_cut negative : Bool) → order ≡ Greater → settled order is_cut negative ≡ Greater
+stays_greater : (order : Ordering) (is_cut negative : Bool) → order ≡ Greater
+    → settled order is_cut negative ≡ Greater
 stays_greater order true b e = rw e refl
 stays_greater order false b e = e
 
@@ -273,7 +274,8 @@ pub record IsTruncation (f g : Format) (x r : Datum) (is_cut : Bool) : Type 0 wh
 
 -- a nonzero number, converted toward zero
 truncated_number : (f g : Format) (b : Bool) (n : ℕ) (r : Datum) (status : ℕ) (is_cut : Bool)
-    → IsConvertedNumber f g TowardZero b n r status is_cut → IsTruncated g b (n * 2 ^ g.scale) (2 ^ f.scale) r is_cut
+    → IsConvertedNumber f g TowardZero b n r status is_cut
+    → IsTruncated g b (n * 2 ^ g.scale) (2 ^ f.scale) r is_cut
 truncated_number f g b n r status is_cut d =
     truncated g b (n * 2 ^ g.scale) (2 ^ f.scale) r status is_cut (pow_pos f.scale) d.is_delivered d.loses_is
 

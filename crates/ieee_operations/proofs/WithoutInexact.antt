@@ -35,7 +35,8 @@ integral_lowered f mode (infinite b) value status h =
 integral_lowered f mode (finite b n) value status h =
     record {
       value_is = h.value_is;
-      status_is = ap (λ (t : ℕ). lowered t inexact_bit) h.status_is ∙ lowered_inexact (eqb (whole_quanta f mode b n) n);
+      status_is = ap (λ (t : ℕ). lowered t inexact_bit) h.status_is
+          ∙ lowered_inexact (eqb (whole_quanta f mode b n) n);
     }
 
 ranged_lowered : (below past exact minus_zero : Bool) (low high number : ℤ)

@@ -64,7 +64,8 @@ pub record IsCodedBy (c : Descriptor) (negative : Bool) (index code : ℕ) : Typ
   pub rest : magnitude_of c code ≡ index
   pub no_nan : eqb code (nan_code c) ≡ false
 
-pub plain_code : (c : Descriptor) (index : ℕ) → IsProjection c → index ≤ last_index c → IsCodedBy c false index index
+pub plain_code : (c : Descriptor) (index : ℕ) → IsProjection c → index ≤ last_index c
+    → IsCodedBy c false index index
 plain_code c index law l =
     let a = apart c law in
     let below : index < unsigned_codes c = omega (arith, l, a.last_below) in
@@ -79,7 +80,8 @@ plain_code c index law l =
     unsigned true e = e
     unsigned false e = refl
 
-pub minus_code : (c : Descriptor) (index : ℕ) → IsProjection c → c.signed ≡ true → 0 < index → index ≤ last_index c
+pub minus_code : (c : Descriptor) (index : ℕ) → IsProjection c → c.signed ≡ true → 0 < index
+    → index ≤ last_index c
     → IsCodedBy c true index (unsigned_codes c + index)
 minus_code c index law signed some l =
     let a = apart c law in
@@ -156,7 +158,8 @@ coded_infinity c negative law sign extended =
         (minus_code c (last_index c) law (s refl) (omega (arith, past)) (omega arith)) (omega (arith, past)))
 
 -- a code that is neither the NaN nor past the largest number
-pub number_at : (c : Descriptor) (code : ℕ) {test negative : Bool} → test ≡ eqb code (nan_code c) → test ≡ false
+pub number_at : (c : Descriptor) (code : ℕ) {test negative : Bool} → test ≡ eqb code (nan_code c)
+    → test ≡ false
     → negative ≡ is_negative_code c code → magnitude_of c code ≤ largest_index c
     → projected_datum c code ≡ finite negative (point c.precision (magnitude_of c code))
 number_at c code is isnt sign l =
@@ -167,7 +170,8 @@ pub nan_at : (c : Descriptor) (code : ℕ) {test : Bool} → test ≡ eqb code (
     → projected_datum c code ≡ nan false 0
 nan_at c code is known = let same : eqb code (nan_code c) ≡ true = sym is ∙ known in rw same refl
 
-pub infinity_at : (c : Descriptor) (code : ℕ) {test negative : Bool} → test ≡ eqb code (nan_code c) → test ≡ false
+pub infinity_at : (c : Descriptor) (code : ℕ) {test negative : Bool} → test ≡ eqb code (nan_code c)
+    → test ≡ false
     → negative ≡ is_negative_code c code → largest_index c < magnitude_of c code
     → projected_datum c code ≡ infinite negative
 infinity_at c code is isnt sign l =
@@ -190,7 +194,8 @@ split_code true codes code some l none other =
 split_code false codes code some l none other = sym (mod-eq_of_lt l) ∙ none
 
 -- how many codes there are, with a sign twice as many
-pub all_codes : (c : Descriptor) → IsProjection c → 2 ^ c.bits ≡ cond c.signed (2 * unsigned_codes c) (unsigned_codes c)
+pub all_codes : (c : Descriptor) → IsProjection c
+    → 2 ^ c.bits ≡ cond c.signed (2 * unsigned_codes c) (unsigned_codes c)
 all_codes c law = by_sign c.signed
   where
     by_sign : (signed : Bool)

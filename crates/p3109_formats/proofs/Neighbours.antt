@@ -81,7 +81,8 @@ record IsAtRank (c : Descriptor) (code : ℕ) (rank : ℤ) : Type 0 where
   known : eqb code (nan_code c) ≡ false
   at : rank_of c code ≡ rank
 
-less : (c : Descriptor) (x y : ℕ) (i j : ℤ) → IsProjection c → IsAtRank c x i → IsAtRank c y j → i <ℤ j → IsLess c x y
+less : (c : Descriptor) (x y : ℕ) (i j : ℤ) → IsProjection c → IsAtRank c x i → IsAtRank c y j → i <ℤ j
+    → IsLess c x y
 less c x y i j law a b l =
     by_ranks c x y law a.bound b.bound a.known b.known
     ∙ ap (λ (r : Ordering). Some r) (rw (a.at, b.at) (sym (int_cmp_is i j Less l)))
@@ -90,7 +91,8 @@ itself : (c : Descriptor) (code : ℕ) → code < 2 ^ c.bits → eqb code (nan_c
     → IsAtRank c code (rank_of c code)
 itself c code l isnt = record { bound = l; known = isnt; at = refl }
 
-at_rank : (c : Descriptor) (negative : Bool) (index code : ℕ) → code < 2 ^ c.bits → IsCodedBy c negative index code
+at_rank : (c : Descriptor) (negative : Bool) (index code : ℕ) → code < 2 ^ c.bits
+    → IsCodedBy c negative index code
     → IsAtRank c code (signed negative index)
 at_rank c negative index code l x = record {
   bound = l;
@@ -98,7 +100,8 @@ at_rank c negative index code l x = record {
   at = ap (λ (b : Bool). signed b (magnitude_of c code)) x.sign ∙ ap (λ (n : ℕ). signed negative n) x.rest;
 }
 
-plain_rank : (c : Descriptor) (index : ℕ) → IsProjection c → index ≤ last_index c → IsAtRank c index (pos index)
+plain_rank : (c : Descriptor) (index : ℕ) → IsProjection c → index ≤ last_index c
+    → IsAtRank c index (pos index)
 plain_rank c index law l =
     let a = apart c law in
     at_rank c false index index
@@ -109,7 +112,8 @@ plain_rank c index law l =
     below_all true codes i l = omega (arith, l)
     below_all false codes i l = l
 
-minus_rank : (c : Descriptor) (index : ℕ) → IsProjection c → c.signed ≡ true → 0 < index → index ≤ last_index c
+minus_rank : (c : Descriptor) (index : ℕ) → IsProjection c → c.signed ≡ true → 0 < index
+    → index ≤ last_index c
     → IsAtRank c (unsigned_codes c + index) (neg_ℤ (pos index))
 minus_rank c index law signed some l =
     let a = apart c law in
@@ -137,7 +141,8 @@ last_at false false false codes code m four l is sign other =
     absurd (false≢true (sym other ∙ eq-eqb code (codes - 1) (omega (arith, k, l, is)))))
     (cases_lt m (codes - 1))
 
-pub at_most_last : (c : Descriptor) (code : ℕ) → IsProjection c → code < 2 ^ c.bits → eqb code (nan_code c) ≡ false
+pub at_most_last : (c : Descriptor) (code : ℕ) → IsProjection c → code < 2 ^ c.bits
+    → eqb code (nan_code c) ≡ false
     → magnitude_of c code ≤ last_index c
 at_most_last c code law l isnt =
     last_at c.signed c.extended (is_negative_code c code) (unsigned_codes c) code (magnitude_of c code)
@@ -160,7 +165,8 @@ pub record IsNegative (c : Descriptor) (code : ℕ) : Type 0 where
   pub some : 0 < magnitude_of c code
   pub at : rank_of c code ≡ neg_ℤ (pos (magnitude_of c code))
 
-pub negative_code : (c : Descriptor) (code : ℕ) → IsProjection c → code < 2 ^ c.bits → eqb code (nan_code c) ≡ false
+pub negative_code : (c : Descriptor) (code : ℕ) → IsProjection c → code < 2 ^ c.bits
+    → eqb code (nan_code c) ≡ false
     → is_negative_code c code ≡ true → IsNegative c code
 negative_code c code law l isnt e =
     let sign : c.signed ≡ true = (and_parts _ _ e).0 in
@@ -181,14 +187,16 @@ negative_code c code law l isnt e =
       at = ap (λ (b : Bool). signed b (magnitude_of c code)) e;
     }
 
-positive_code : (c : Descriptor) (code : ℕ) → IsProjection c → code < 2 ^ c.bits → is_negative_code c code ≡ false
+positive_code : (c : Descriptor) (code : ℕ) → IsProjection c → code < 2 ^ c.bits
+    → is_negative_code c code ≡ false
     → code ≡ magnitude_of c code
 positive_code c code law l e =
     parts_of_code c code law l
     ∙ ap (λ (b : Bool). cond b (unsigned_codes c) 0 + magnitude_of c code) e ∙ omega arith
 
 -- with a sign, the code past that of a number is one, if the number is not the last
-pub past_fits : (c : Descriptor) (code : ℕ) → IsProjection c → code < 2 ^ c.bits → is_negative_code c code ≡ true
+pub past_fits : (c : Descriptor) (code : ℕ) → IsProjection c → code < 2 ^ c.bits
+    → is_negative_code c code ≡ true
     → (magnitude_of c code ≡ last_index c → ⊥) → code + 1 < 2 ^ c.bits
 past_fits c code law l e other =
     let sign : c.signed ≡ true = (and_parts _ _ e).0 in
@@ -216,7 +224,8 @@ past_fits c code law l e other =
 
 -- the code above that of a negative number has the next rank
 
-above_negative : (c : Descriptor) (code : ℕ) → IsProjection c → code < 2 ^ c.bits → eqb code (nan_code c) ≡ false
+above_negative : (c : Descriptor) (code : ℕ) → IsProjection c → code < 2 ^ c.bits
+    → eqb code (nan_code c) ≡ false
     → is_negative_code c code ≡ true → IsAtRank c (code_above c code) (rank_of c code +ℤ pos 1)
 above_negative c code law l isnt e =
     let n = negative_code c code law l isnt e in

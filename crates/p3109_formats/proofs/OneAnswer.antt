@@ -96,7 +96,8 @@ parts_of_code c code law l = by_sign c.signed refl
         ∙ ap (λ (s : Bool). cond (s && leb (unsigned_codes c) code) (unsigned_codes c) 0 + magnitude_of c code) (sym e)
 
 -- a code that is no NaN and past the largest number is the infinity
-pub infinity_index : (c : Descriptor) (code : ℕ) → IsProjection c → code < 2 ^ c.bits → eqb code (nan_code c) ≡ false
+pub infinity_index : (c : Descriptor) (code : ℕ) → IsProjection c → code < 2 ^ c.bits
+    → eqb code (nan_code c) ≡ false
     → largest_index c < magnitude_of c code → magnitude_of c code ≡ largest_index c + 1
 infinity_index c code law l other past =
     let below = mod_below code (unsigned_codes c) (pow_pos (c.bits - sign_bits c)) in
@@ -124,7 +125,8 @@ infinity_index c code law l other past =
         absurd (false≢true (sym other ∙ eq-eqb code (codes - 1) e))
 
 -- no two codes mean one datum
-pub projected_code_once : (c : Descriptor) (code other : ℕ) → IsProjection c → code < 2 ^ c.bits → other < 2 ^ c.bits
+pub projected_code_once : (c : Descriptor) (code other : ℕ) → IsProjection c → code < 2 ^ c.bits
+    → other < 2 ^ c.bits
     → projected_datum c code ≡ projected_datum c other → code ≡ other
 projected_code_once c code other law l k e =
     let m : ℕ = magnitude_of c code in

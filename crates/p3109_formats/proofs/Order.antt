@@ -22,7 +22,8 @@ pub record IsAt (most index : ℕ) (past : Bool) : Type 0 where
   pub number : past ≡ false → index ≤ most
   pub infinity : past ≡ true → index ≡ most + 1
 
-pub at_most_past : (c : Descriptor) (code : ℕ) → IsProjection c → code < 2 ^ c.bits → eqb code (nan_code c) ≡ false
+pub at_most_past : (c : Descriptor) (code : ℕ) → IsProjection c → code < 2 ^ c.bits
+    → eqb code (nan_code c) ≡ false
     → IsAt (largest_index c) (magnitude_of c code) (ltb (largest_index c) (magnitude_of c code))
 at_most_past c code law l other = record {
   number = λ e.

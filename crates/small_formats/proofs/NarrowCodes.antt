@@ -397,7 +397,8 @@ past_converted f mode (nan b t) given value flags status code lost number side h
 pub e3m4_encoded : (code : ℕ) → code < 256 → IsEncodedBy e3m4_format e3m4_layout code (e3m4_datum code)
 e3m4_encoded code l = record { below = l; canonical = refl; is = refl }
 
-pub e3m4_code_once : (code other : ℕ) → code < 256 → other < 256 → e3m4_datum code ≡ e3m4_datum other → code ≡ other
+pub e3m4_code_once : (code other : ℕ) → code < 256 → other < 256 → e3m4_datum code ≡ e3m4_datum other
+    → code ≡ other
 e3m4_code_once code other l k e =
     encoded_once e3m4_format e3m4_layout (e3m4_datum other) code other e3m4_interchange
     (subst (λ (d : Datum). IsEncodedBy e3m4_format e3m4_layout code d) e (e3m4_encoded code l)) (e3m4_encoded other k)

@@ -131,7 +131,8 @@ signed_interchange =
 pub unsigned_encoded : (code : ℕ) → code < 128 → IsEncodedBy signed_format signed_layout code (unsigned_datum code)
 unsigned_encoded code l = record { below = omega (arith, l); canonical = refl; is = refl }
 
-pub unsigned_code_once : (code other : ℕ) → code < 128 → other < 128 → unsigned_datum code ≡ unsigned_datum other
+pub unsigned_code_once : (code other : ℕ) → code < 128 → other < 128
+    → unsigned_datum code ≡ unsigned_datum other
     → code ≡ other
 unsigned_code_once code other l k e =
     encoded_once signed_format signed_layout (unsigned_datum other) code other signed_interchange

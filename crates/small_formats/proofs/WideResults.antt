@@ -204,7 +204,8 @@ IsProjection f c mode of_zero x own code status =
 
 module _ (f : Format) (c : StorageConstants) (mode : Round) (of_zero : Bool) where
   pub zero_projected : (x : Datum) (own code status : ℕ) → is_zero_category (category_of x) ≡ true
-      → datum_of c code ≡ finite of_zero 0 → status ≡ ok_bits → IsProjection f c mode of_zero x own code status
+      → datum_of c code ≡ finite of_zero 0 → status ≡ ok_bits
+      → IsProjection f c mode of_zero x own code status
   zero_projected (nan b s) own code status e v h = absurd (false≢true e)
   zero_projected (infinite b) own code status e v h = absurd (false≢true e)
   zero_projected (finite b zero) own code status e v h = record { value_is = v; status_is = h }
@@ -503,7 +504,8 @@ module _ (c : StorageConstants) (f : Format) (times : ℕ) (w : IsWider c f time
 -- ---- conversions
 
 -- equal fractions are stored alike
-saturated_across : (c : StorageConstants) (mode : Round) (b : Bool) (m n x y code status : ℕ) → 0 < c.precision → 0 < n
+saturated_across : (c : StorageConstants) (mode : Round) (b : Bool) (m n x y code status : ℕ) → 0 < c.precision
+    → 0 < n
     → 0 < y → m * y ≡ x * n → IsSaturated c mode b x y code status → IsSaturated c mode b m n code status
 saturated_across c mode b m n x y code status some p q e s =
     let g : Format = format_with c in

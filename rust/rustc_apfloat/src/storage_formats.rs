@@ -164,8 +164,8 @@ impl<F: StorageFormat> StoredFloat<F> {
         Self(self.0.maximum(other.0))
     }
 
-    /// A number of another storage format, rounded once (IEEE 754-2019 5.4.2), with the flags of that rounding. Past the
-    /// largest number the result is that number, and `loses_info` is set, as in `from_value`.
+    /// A number of another storage format, rounded once (IEEE 754-2019 5.4.2), with the flags of that rounding. Past
+    /// the largest number the result is that number, and `loses_info` is set, as in `from_value`.
     pub fn from_stored<G: StorageFormat>(x: StoredFloat<G>, round: Round, loses_info: &mut bool) -> StatusAnd<Self> {
         answered(library::StoredFloat::from_stored(x.0, round, loses_info)).map(StoredFloat)
     }

@@ -91,7 +91,8 @@ quantized_once q values before scales other_scales old codes other answer reply 
 
 scaled_code_once : (element : ElementFormat) (d : Constants) (mode : Round) (scale code : ℕ) (bytes other : List ℕ)
     (outcome also : Outcome) → HasLaw d → IsScaledCode element d mode scale code bytes outcome
-    → IsScaledCode element d mode scale code other also → (number_of bytes ≡ number_of other) × (outcome ≡ also)
+    → IsScaledCode element d mode scale code other also
+    → (number_of bytes ≡ number_of other) × (outcome ≡ also)
 scaled_code_once element d mode scale code bytes other outcome also has x y =
     let same = scaled_once element (format_with d) mode scale code x.value y.value (bits_of outcome.status)
     (bits_of also.status) x.is_scaled y.is_scaled in
@@ -117,7 +118,8 @@ values_once q d width scales codes before after other counts more has size a b x
 dequantized_by : (q : Dequantization) (scales codes before after other : List ℕ) (known : Result ℕ ArrayError)
     (answer reply : Result Counts ArrayError)
     → ((count : ℕ) → known ≡ Ok count → length before ≡ length codes * width_out q)
-    → AreLeftIn before after → AreLeftIn before other → IsDequantizedArray q known scales codes before after answer
+    → AreLeftIn before after → AreLeftIn before other
+    → IsDequantizedArray q known scales codes before after answer
     → IsDequantizedArray q known scales codes before other reply → (after ≡ other) × (answer ≡ reply)
 dequantized_by q scales codes before after other (Ok count) (Ok counts) (Ok more) fits a b x y =
     let same = values_once q (flagged_constants q.target) (width_out q) scales codes before after other counts more

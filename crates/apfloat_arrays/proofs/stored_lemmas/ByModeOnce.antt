@@ -106,7 +106,8 @@ stored_by_mode_once once c format mode bits code other outcome also h j =
     let same = own_by_once once format (format_with c) mode (datum_of (format_with c) (layout_with c) bits) code other
     (bits_of outcome.status) (bits_of also.status) h.loses j.loses h.fits j.fits h.is_own j.is_own in (
       same.0,
-      same_outcome outcome also same.1 (h.nan_is ∙ ap (λ (n : ℕ). is_nan (datum_in format n)) same.0 ∙ sym j.nan_is),
+      same_outcome outcome also same.1
+          (h.nan_is ∙ ap (λ (n : ℕ). is_nan (datum_in format n)) same.0 ∙ sym j.nan_is),
     )
 
 pub stored_with_once : AreOnce → (it : ModeConversion) (random bits code other : ℕ) (outcome also : Outcome)

@@ -71,7 +71,8 @@ none_stands low w m amount unit none nothing =
 
 -- P digits of which p are kept, with 32 places of room
 module _ (p P low first e m to from : ℕ) (some : 0 < p) (more : p ≤ P) (few : p ≤ 16) (fits : m < 2 ^ P)
-    (full : (e ≡ 0) ⊎ (2 ^ (P - 1) ≤ m)) (scales : from ≡ to + (P - p) + first) (low_is : low ≡ P - p + 32) where
+    (full : (e ≡ 0) ⊎ (2 ^ (P - 1) ≤ m)) (scales : from ≡ to + (P - p) + first)
+    (low_is : low ≡ P - p + 32) where
   abbrev Stands : ℕ → ℕ → Type 0
   Stands w place =
       StandsFor (m * 2 ^ w / 2 ^ low) (loss_at (m * 2 ^ w % 2 ^ low) (2 ^ (low - 1))) (m * 2 ^ e * 2 ^ to)
@@ -174,7 +175,8 @@ record HasParts (half magnitude code : ℕ) (negative : Bool) : Type 0 where
   sign : leb half code ≡ negative
   rest : code % half ≡ magnitude
 
-parts_of_code : (half magnitude code : ℕ) (negative : Bool) → magnitude < half → code ≡ cond negative half 0 + magnitude
+parts_of_code : (half magnitude code : ℕ) (negative : Bool) → magnitude < half
+    → code ≡ cond negative half 0 + magnitude
     → HasParts half magnitude code negative
 parts_of_code half magnitude code true l e =
     let swapped : code ≡ magnitude + 1 * half = omega (arith, e) in
@@ -205,7 +207,8 @@ pub record IsCodeOf (c : StorageConstants) (negative : Bool) (index code : ℕ) 
   pub is : code ≡ cond negative (2 ^ (c.bits - 1)) 0 + min index (2 ^ (c.bits - 1) - 1)
 
 -- the code has the bits of its format
-pub code_below : (c : StorageConstants) (negative : Bool) (index code : ℕ) → 1 ≤ c.bits → IsCodeOf c negative index code
+pub code_below : (c : StorageConstants) (negative : Bool) (index code : ℕ) → 1 ≤ c.bits
+    → IsCodeOf c negative index code
     → code < 2 ^ c.bits
 code_below c negative index code some is =
     let twice : 2 * 2 ^ (c.bits - 1) ≡ 2 ^ c.bits = twice_half c.bits some in
@@ -280,7 +283,8 @@ overflow_only_past c negative leads exact index code status is flags =
 
 -- ---- zeros and other numbers
 
-zero_rounded : (low : ℕ) (mode : Round) (negative : Bool) (t : ℕ) → t ≡ 0 → rounded_by low mode negative t ≡ 0
+zero_rounded : (low : ℕ) (mode : Round) (negative : Bool) (t : ℕ) → t ≡ 0
+    → rounded_by low mode negative t ≡ 0
 zero_rounded low mode negative t none =
     let some : 0 < 2 ^ low = pow_pos low in
     let less : t < 2 ^ low = omega (arith, none, some) in
@@ -313,7 +317,8 @@ number_into c f mode negative leads P low first e m index code status law more f
     picked c.precision low (e - first) t amount (2 ^ f.scale) index mode negative some (pow_pos f.scale) cut is in
     let rounded = number_saturated c mode negative leads exact amount (2 ^ f.scale) index code status law at out code_is
     flags in
-    let Says : Bool → Type 0 = λ b. MatchBool b (IsGiven c (finite negative 0) 0 false code status (not (eqb status 0)))
+    let Says : Bool → Type 0 = λ b. MatchBool b
+    (IsGiven c (finite negative 0) 0 false code status (not (eqb status 0)))
     (IsStoredNumber c f mode negative (m * 2 ^ e) code status (not (eqb status 0))) in
     ⊎_elim {C = Says (eqb (m * 2 ^ e) 0)}
     (λ (none : m * 2 ^ e ≡ 0).
@@ -340,7 +345,8 @@ number_into c f mode negative leads P low first e m index code status law more f
     ∙ nothing in
     let raised : status ≡ 0 =
     status_within c leads exact index status flags (omega (arith, first_index))
-    ∙ ap (λ (b : Bool). cond b 0 (cond (ltb index (2 ^ (c.precision - 1))) 24 16)) (eq-eqb (t % 2 ^ low) 0 remainder) in
+    ∙ ap (λ (b : Bool). cond b 0 (cond (ltb index (2 ^ (c.precision - 1))) 24 16))
+    (eq-eqb (t % 2 ^ low) 0 remainder) in
     subst Says (sym (eq-eqb (m * 2 ^ e) 0 none))
     (record {
       value_is = value;
@@ -357,14 +363,17 @@ pub number_read : (c : Constants) (x : ℕ) → c.nonfinite ≡ IEEE754 → c.ex
     → (biased_of c x ≡ 2 ^ c.exp_bits - 1 → ⊥) → datum_of (constants_format c) (layout_with c) x
     ≡ finite (is_minus c x) (significand_of c x * 2 ^ (biased_of c x - 1))
 number_read c x kind implied some =
-    let width : trailing_bits (constants_format c) ≡ c.precision - 1 = cond-false c.explicit_integer_bit _ _ implied in
+    let width : trailing_bits (constants_format c) ≡ c.precision - 1 =
+    cond-false c.explicit_integer_bit _ _ implied in
     (λ i. datum_of_fields (constants_format c) (layout_with c)
     (fields_with (is_minus c x) (x / 2 ^ width i % 2 ^ c.exp_bits) (x % 2 ^ width i)))
-    ∙ fields_number (constants_format c) (layout_with c) (is_minus c x) (biased_of c x) (x % 2 ^ (c.precision - 1)) kind
+    ∙ fields_number (constants_format c) (layout_with c) (is_minus c x) (biased_of c x)
+    (x % 2 ^ (c.precision - 1)) kind
     implied (ne_eqb (biased_of c x) (2 ^ c.exp_bits - 1) some)
 
 -- only denormal numbers lack the integer bit
-pub normal_full : (c : Constants) (x : ℕ) → (biased_of c x - 1 ≡ 0) ⊎ (2 ^ (c.precision - 1) ≤ significand_of c x)
+pub normal_full : (c : Constants) (x : ℕ)
+    → (biased_of c x - 1 ≡ 0) ⊎ (2 ^ (c.precision - 1) ≤ significand_of c x)
 normal_full c x =
     ⊎_elim {C = (biased_of c x - 1 ≡ 0) ⊎ (2 ^ (c.precision - 1) ≤ significand_of c x)}
     (λ (z : biased_of c x < 1). inl (omega (arith, z)))

@@ -129,7 +129,8 @@ stored_once overflow c format mode bits code other outcome also h j =
     let same = stored_by_once overflow format (format_with c) mode (datum_of (format_with c) (layout_with c) bits)
     code other (bits_of outcome.status) (bits_of also.status) h.fits j.fits h.is_stored j.is_stored in (
       same.0,
-      same_outcome outcome also same.1 (h.nan_is ∙ ap (λ (n : ℕ). is_nan (datum_in format n)) same.0 ∙ sym j.nan_is),
+      same_outcome outcome also same.1
+          (h.nan_is ∙ ap (λ (n : ℕ). is_nan (datum_in format n)) same.0 ∙ sym j.nan_is),
     )
 
 pub loaded_once : (overflow : Overflow) (format : StoredFormat) (d : Constants) (mode : Round) (code bits other : ℕ)
@@ -155,7 +156,8 @@ HasLaw (OutOf source target) =
 -- the conversion of a value determines the number in its bytes and the outcome
 pub converted_at_once : (overflow : Overflow) (mode : Round) (ends : Ends) (input bytes other : List ℕ)
     (outcome also : Outcome) → HasLaw ends → IsConvertedAt overflow mode ends input bytes outcome
-    → IsConvertedAt overflow mode ends input other also → (number_of bytes ≡ number_of other) × (outcome ≡ also)
+    → IsConvertedAt overflow mode ends input other also
+    → (number_of bytes ≡ number_of other) × (outcome ≡ also)
 converted_at_once overflow mode (Into source target) input bytes other outcome also law h j =
     stored_once overflow (constants_in source) target mode (number_of input) (number_of bytes) (number_of other)
     outcome also h j

@@ -128,7 +128,8 @@ payload_of_none = record { none = λ e. refl; some = λ p. absurd (omega (arith,
 
 -- as many digits as a number of `count` binary digits has
 pub payload_of_some : (payload count : ℕ) (text : List ℕ) → 0 < payload → 2 ^ (count - 1) ≤ payload
-    → payload < 2 ^ count → text ≡ codes "0x" ++ digits_text ((count - 1) / 4 + 1) payload → IsPayloadText payload text
+    → payload < 2 ^ count → text ≡ codes "0x" ++ digits_text ((count - 1) / 4 + 1) payload
+    → IsPayloadText payload text
 payload_of_some payload count text some low high e =
     let places = (count - 1) / 4 in
     let below : 4 * places ≤ count - 1 = omega arith in
@@ -146,11 +147,14 @@ pub count_some : (payload count : ℕ) → 0 < payload → payload < 2 ^ count �
 count_some payload zero some l = absurd (omega (arith, some, l))
 count_some payload (suc n) some l = omega arith
 
-pub prefixed : (text digits : List ℕ) → ((text ++ (48 ∷ [])) ++ (120 ∷ [])) ++ digits ≡ text ++ (codes "0x" ++ digits)
-prefixed text digits = append_assoc (text ++ (48 ∷ [])) (120 ∷ []) digits ∙ append_assoc text (48 ∷ []) (120 ∷ digits)
+pub prefixed : (text digits : List ℕ)
+    → ((text ++ (48 ∷ [])) ++ (120 ∷ [])) ++ digits ≡ text ++ (codes "0x" ++ digits)
+prefixed text digits =
+    append_assoc (text ++ (48 ∷ [])) (120 ∷ []) digits ∙ append_assoc text (48 ∷ []) (120 ∷ digits)
 
 -- a value without a payload
-pub full_of : (f : Format) (x : Datum) (text : List ℕ) → payload_of f x ≡ 0 → IsHexText f x text → IsFullText f x text
+pub full_of : (f : Format) (x : Datum) (text : List ℕ) → payload_of f x ≡ 0 → IsHexText f x text
+    → IsFullText f x text
 full_of f x text none is = record {
   front = text;
   rest = [];
@@ -213,7 +217,8 @@ payload_back payload places below few =
     let none : 0 * 16 ^ (places + 1) + payload ≡ payload = omega arith in
     digits_read ds payload (omega (arith, size)) (digits_hexadecimal (places + 1) payload) (value ∙ none) few
 
-nan_special : (negative signaling : Bool) (ds : List ℕ) → special_of (nan_text negative signaling ++ (codes "0x" ++ ds))
+nan_special : (negative signaling : Bool) (ds : List ℕ)
+    → special_of (nan_text negative signaling ++ (codes "0x" ++ ds))
     ≡ with_payload negative signaling (payload_read (codes "0x" ++ ds))
 nan_special true true ds = refl
 nan_special true false ds = refl
@@ -285,7 +290,8 @@ signaling_case (suc (suc d)) u s q l e n = absurd (omega (arith, l))
 cleared_is : (q k : ℕ) → q < 2 ^ k → (2 ^ k + q) - bit_and (2 ^ k + q) (2 ^ k) ≡ q
 cleared_is q k l =
     let one : (2 ^ k + q) / 2 ^ k ≡ 1 = div-eq_of_lt-le (2 ^ k) (omega arith) (omega (arith, l)) in
-    let set : bit_and (2 ^ k + q) (2 ^ k) ≡ 1 * 2 ^ k = tested (2 ^ k + q) k ∙ ap (λ (n : ℕ). (n % 2) * 2 ^ k) one in
+    let set : bit_and (2 ^ k + q) (2 ^ k) ≡ 1 * 2 ^ k =
+    tested (2 ^ k + q) k ∙ ap (λ (n : ℕ). (n % 2) * 2 ^ k) one in
     ap (λ (n : ℕ). (2 ^ k + q) - n) set ∙ rest (2 ^ k) q
   where
     rest : (u q : ℕ) → (u + q) - 1 * u ≡ q
@@ -358,7 +364,8 @@ read_is f s wide kind implied some l =
     let same : read_significand f.nonfinite f.explicit_integer_bit f.precision s
     (payload_in f.nonfinite f.precision s) ≡ s =
     ap (λ (n : NonfiniteBehavior). read_significand n f.explicit_integer_bit f.precision s
-    (payload_in n f.precision s)) kind ∙ ap (λ (b : Bool). read_significand IEEE754 b f.precision s (s % 2 ^ k)) implied
+    (payload_in n f.precision s)) kind
+    ∙ ap (λ (b : Bool). read_significand IEEE754 b f.precision s (s % 2 ^ k)) implied
     ∙ ap (λ (n : ℕ). made s (2 ^ k) (2 ^ n - 1)) e ∙ made_is s k some (subst (λ (n : ℕ). s < 2 ^ n) e l) in
     same
 

@@ -87,14 +87,16 @@ body_means first places fraction e one fits low high =
       are_exponent_digits = exponent.are_digits;
       has_exponent_digits = exponent.some;
       h_is = sym (ap (λ (d : ℕ). number_from (0 * 16 + d) dot.digits) digit.value
-          ∙ ap (λ (n : ℕ). number_from n dot.digits) none ∙ ap (λ (t : List ℕ). number_from first t) dot.digits_are
+          ∙ ap (λ (n : ℕ). number_from n dot.digits) none
+          ∙ ap (λ (t : List ℕ). number_from first t) dot.digits_are
           ∙ digits_number places first fraction fits);
       f_is = rw dot.digits_are (sym (digits_length places fraction));
       e_is = exponent.is;
     }
 
 number_means : (negative : Bool) (first places fraction : ℕ) (e : ℤ) → first < 16 → fraction < 16 ^ places
-    → neg_ℤ (pos (2 ^ 32)) ≤ℤ e → e ≤ℤ pos (2 ^ 32) → Means (number_text negative first places fraction e)
+    → neg_ℤ (pos (2 ^ 32)) ≤ℤ e → e ≤ℤ pos (2 ^ 32)
+    → Means (number_text negative first places fraction e)
     (hexadecimal negative (first * 16 ^ places + fraction) places e)
 number_means true first places fraction e one fits low high =
     (refl, body_means first places fraction e one fits low high)
@@ -205,7 +207,8 @@ one_shortest f negative q text other x y =
     ∙ ap (λ (a : ℕ). number_text negative 1 y.places a x.exponent) same.fraction
     ∙ ap (λ (e : ℤ). number_text negative 1 y.places y.fraction e) same.exponent ∙ sym y.text_is
 
-pub one_text : (f : Format) (x : Datum) (text other : List ℕ) → IsHexText f x text → IsHexText f x other → text ≡ other
+pub one_text : (f : Format) (x : Datum) (text other : List ℕ) → IsHexText f x text → IsHexText f x other
+    → text ≡ other
 one_text f (finite negative zero) text other h k = h ∙ sym k
 one_text f (finite negative (suc q)) text other h k =
     let some : eqb (suc q) 0 ≡ false = ne_eqb (suc q) 0 (λ e. omega (arith, e)) in

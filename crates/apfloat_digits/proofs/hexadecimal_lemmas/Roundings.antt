@@ -132,7 +132,8 @@ record AreSame (fraction other : ℕ) (exponent place : ℤ) (exact lost : Bool)
 
 one_rounded : (f : Format) (mode : Round) (negative : Bool) (q places fraction other : ℕ) (exponent place : ℤ)
     (exact lost : Bool) → IsHexRoundedNumber f mode negative q places fraction exponent exact
-    → IsHexRoundedNumber f mode negative q places other place lost → AreSame fraction other exponent place exact lost
+    → IsHexRoundedNumber f mode negative q places other place lost
+    → AreSame fraction other exponent place exact lost
 one_rounded f mode negative q places fraction other exponent place exact lost x y =
     let same : y.first ≡ x.first = logarithm_once f q y.first x.first y.is_first x.is_first in
     let picked = subst (λ (z : ℤ).

@@ -75,7 +75,8 @@ make_decimal negative digits exponent = record { negative = negative; digits = d
 
 same_decimal : (x y : Decimal) → x.negative ≡ y.negative → x.digits ≡ y.digits → x.exponent ≡ y.exponent → x ≡ y
 same_decimal x y n d e =
-    ap (λ (i : Bool). make_decimal i x.digits x.exponent) n ∙ ap (λ (i : ℕ). make_decimal y.negative i x.exponent) d
+    ap (λ (i : Bool). make_decimal i x.digits x.exponent) n
+    ∙ ap (λ (i : ℕ). make_decimal y.negative i x.exponent) d
     ∙ ap (λ (i : ℤ). make_decimal y.negative y.digits i) e
 
 -- a finite value has at most one shortest decimal

@@ -146,7 +146,8 @@ pub joined_has_decimal : (negative : Bool) (quanta : ℕ) (x : Pair) (answer : O
     → IsSplit (finite negative quanta) x → (given : GivesPairShortest x answer) → given.joined ≡ finite negative quanta
     → IsSome answer
 joined_has_decimal b n x answer s g e =
-    let back : g.back ≡ x = split_once (finite b n) g.back x (subst (λ (d : Datum). IsSplit d g.back) e g.is_split) s in
+    let back : g.back ≡ x =
+    split_once (finite b n) g.back x (subst (λ (d : Datum). IsSplit d g.back) e g.is_split) s in
     let same : same_pair g.back x ≡ true = subst (λ (y : Pair). same_pair y x ≡ true) (sym back) (pair_itself x) in
     found b n answer
     (subst (λ (d : Datum). GivesShortest wide d answer) e

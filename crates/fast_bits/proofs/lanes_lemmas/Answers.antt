@@ -66,7 +66,8 @@ some_rest : (rest : ℕ) → (rest ≡ 0 → ⊥) → 0 < rest
 some_rest rest more = omega (arith, more)
 
 -- a scaled number, rounded to a whole number, is the code of what is picked
-picked_code : (precision low : ℕ) (mode : Round) (negative : Bool) (t amount parts : ℕ) → 3 ≤ precision → 0 < parts
+picked_code : (precision low : ℕ) (mode : Round) (negative : Bool) (t amount parts : ℕ) → 3 ≤ precision
+    → 0 < parts
     → IsScaled precision low t amount parts
     → IsPickedSingle precision mode negative amount parts (rounded_by low mode negative t) (t % 2 ^ low)
 picked_code precision low mode negative t amount parts precise any it =
@@ -125,7 +126,8 @@ some_signed kind negative n some = rw (ne_eqb n 0 some) refl
 
 zero_signed : (kind : NonfiniteBehavior) (negative : Bool) (n : ℕ) → n ≡ 0
     → signed_quanta kind negative n ≡ finite (zero_sign kind negative) n
-zero_signed kind negative n none = rw (eq-eqb n 0 none) (ap (λ (x : ℕ). finite (zero_sign kind negative) x) (sym none))
+zero_signed kind negative n none =
+    rw (eq-eqb n 0 none) (ap (λ (x : ℕ). finite (zero_sign kind negative) x) (sym none))
 
 -- the sign of a zero stays that
 sign_again : (kind : NonfiniteBehavior) (negative : Bool)
@@ -251,7 +253,8 @@ infinity_encoded f layout negative bits law is implied bits_are =
     let top = infinity_code f layout law is in
     let code : largest_code f + 1 ≡ all_ones layout.exponent_bits * 2 ^ (f.precision - 1) + 0 = omega (arith, top) in
     top_encoded f layout negative 0 bits (infinite negative) law implied
-    (subst (λ (s : ℕ). AreFieldsOf f layout (fields_with negative (all_ones layout.exponent_bits) s) (infinite negative))
+    (subst
+    (λ (s : ℕ). AreFieldsOf f layout (fields_with negative (all_ones layout.exponent_bits) s) (infinite negative))
     none (infinity_fields_of f layout negative law is))
     (bits_are ∙ ap (λ (n : ℕ). cond negative (2 ^ (layout.bits - 1)) 0 + n) code)
 
@@ -306,7 +309,8 @@ digits_encoded f layout negative s bits law is implied some below bits_are =
 
 -- the one NaN: the sign bit alone
 one_nan_encoded : (f : Format) (layout : Layout) (bits : ℕ) → IsInterchange f layout
-    → f.nonfinite ≡ NanNegativeZero → bits ≡ 2 ^ (layout.bits - 1) → IsEncodedBy f layout bits (nan false (nan_base f))
+    → f.nonfinite ≡ NanNegativeZero → bits ≡ 2 ^ (layout.bits - 1)
+    → IsEncodedBy f layout bits (nan false (nan_base f))
 one_nan_encoded f layout bits law is bits_are =
     let base : 0 ≡ nan_base f = sym (ap (λ (k : NonfiniteBehavior). nan_base_of k f.precision) is) in
     let places : layout.bits - 1 ≡ trailing_bits f + layout.exponent_bits = omega (arith, law.bits) in
@@ -345,7 +349,8 @@ no_nan NanNegativeZero past within = within
 
 -- a number within the largest value
 number_given : (f : Format) (layout : Layout) (negative : Bool) (place next code : ℕ) → IsInterchange f layout
-    → f.explicit_integer_bit ≡ false → (place ≡ 0) ⊎ (2 ^ (f.precision - 1) ≤ next) → next ≤ 2 ^ f.precision
+    → f.explicit_integer_bit ≡ false → (place ≡ 0) ⊎ (2 ^ (f.precision - 1) ≤ next)
+    → next ≤ 2 ^ f.precision
     → next * 2 ^ place ≤ largest f → code ≡ place * 2 ^ (f.precision - 1) + next → code ≤ largest_code f
     → IsGivenCode f layout negative code (signed_quanta f.nonfinite negative (next * 2 ^ place))
 number_given f layout negative place next code law implied full fits within is low =
@@ -378,7 +383,8 @@ number_given f layout negative place next code law implied full fits within is l
 
 -- the largest value
 largest_given : (f : Format) (layout : Layout) (negative : Bool) → IsInterchange f layout
-    → f.explicit_integer_bit ≡ false → IsGivenCode f layout negative (largest_code f) (finite negative (largest f))
+    → f.explicit_integer_bit ≡ false
+    → IsGivenCode f layout negative (largest_code f) (finite negative (largest f))
 largest_given f layout negative law implied =
     let precise = law.precise in
     let fits = greatest_fits f.nonfinite f.precision in
@@ -439,10 +445,12 @@ past_given NanNegativeZero f layout negative is law implied =
           ∙ lt-ltb (largest_code f) (largest_code f + 1) (omega arith);
     }
   where
-    bare : (kind : NonfiniteBehavior) (negative : Bool) (bits code : ℕ) → kind ≡ NanNegativeZero → code ≡ 2 ^ (bits - 1)
+    bare : (kind : NonfiniteBehavior) (negative : Bool) (bits code : ℕ) → kind ≡ NanNegativeZero
+        → code ≡ 2 ^ (bits - 1)
         → cond (negative && not (has_no_sign kind bits code)) (2 ^ (bits - 1)) 0 + code ≡ 2 ^ (bits - 1)
     bare kind true bits code e same =
-        let rest : code % 2 ^ (bits - 1) ≡ 0 = ap (λ (x : ℕ). x % 2 ^ (bits - 1)) same ∙ mod_self (2 ^ (bits - 1)) in
+        let rest : code % 2 ^ (bits - 1) ≡ 0 =
+        ap (λ (x : ℕ). x % 2 ^ (bits - 1)) same ∙ mod_self (2 ^ (bits - 1)) in
         let has : has_no_sign kind bits code ≡ true =
         ap (λ (k : NonfiniteBehavior). has_no_sign k bits code) e ∙ eq-eqb (code % 2 ^ (bits - 1)) 0 rest in
         rw has (omega (arith, same))
@@ -533,7 +541,8 @@ flag_sum false true false raises large = refl
 flag_sum false false normal raises large = refl
 
 -- the status, by the same
-status_sum : (past exact tiny raises some normal : Bool) → exact ≡ not some → (some ≡ true → tiny ≡ not normal)
+status_sum : (past exact tiny raises some normal : Bool) → exact ≡ not some
+    → (some ≡ true → tiny ≡ not normal)
     → ◌≡◌ {A = ℕ} (cond past (cond raises 20 16) (cond some (cond normal 16 24) 0))
     (cond past (cond raises 20 16) (cond exact 0 (cond tiny 24 16)))
 status_sum true exact tiny raises some normal e t = refl
@@ -580,7 +589,8 @@ past_is_normal true half kept r by_kept by_code = le-leb half kept by_kept
 past_is_normal false half kept r by_kept by_code = le-leb half r by_code
 
 -- what is rounded to is at most one more than what is kept
-rounded_most : (low : ℕ) (mode : Round) (negative : Bool) (t : ℕ) → rounded_by low mode negative t ≤ t / 2 ^ low + 1
+rounded_most : (low : ℕ) (mode : Round) (negative : Bool) (t : ℕ)
+    → rounded_by low mode negative t ≤ t / 2 ^ low + 1
 rounded_most low mode negative t =
     moved_most (rounds_up mode negative (loss_at (t % 2 ^ low) (2 ^ (low - 1))) (eqb (t / 2 ^ low % 2) 1)) (t / 2 ^ low)
     (t / 2 ^ low + 1) (omega arith)

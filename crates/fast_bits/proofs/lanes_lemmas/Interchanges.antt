@@ -33,7 +33,8 @@ target_interchange f layout min_exp max_exp is =
     }
 
 -- the number of biased exponents, in the span's terms
-pub spans : (kind : NonfiniteBehavior) (span e : ℕ) → span + 3 ≡ 2 ^ e + more_exponents kind → span + 2 ≤ 2 ^ e
+pub spans : (kind : NonfiniteBehavior) (span e : ℕ) → span + 3 ≡ 2 ^ e + more_exponents kind
+    → span + 2 ≤ 2 ^ e
 spans IEEE754 span e is = omega (arith, is)
 spans NanOnly span e is = omega (arith, is)
 spans NanNegativeZero span e is = omega (arith, is)
@@ -52,7 +53,8 @@ places_below f layout min_exp max_exp is =
     omega (arith, all, power, most)
 
 -- the encoding after that of the largest value of IEEE 754
-pub next_code : (f : Format) (layout : Layout) (min_exp max_exp : ℤ) (places : ℕ) → IsTarget f layout min_exp max_exp
+pub next_code : (f : Format) (layout : Layout) (min_exp max_exp : ℤ) (places : ℕ)
+    → IsTarget f layout min_exp max_exp
     → places ≡ f.span + 1
     → ((places + 1) * 2 ^ (f.precision - 1) % 4294967296 ≡ f.span * 2 ^ (f.precision - 1) + 2 ^ f.precision)
     × ((places + 1) * 2 ^ (f.precision - 1) % 4294967296 ≤ 2 ^ 15)

@@ -7,7 +7,8 @@ use Rattle.apfloat_rounding.specs.Cuts.{loss_at}
 use Rattle.fast_bits.specs.Addends.{rounded_by}
 use Rattle.fast_bits.proofs.lanes_lemmas.ScaledNumbers.{sum_cut}
 
-moved_apart : (up : Bool) (base kept : ℕ) → cond up (base + kept + 1) (base + kept) ≡ cond up (kept + 1) kept + base
+moved_apart : (up : Bool) (base kept : ℕ)
+    → cond up (base + kept + 1) (base + kept) ≡ cond up (kept + 1) kept + base
 moved_apart true base kept = omega arith
 moved_apart false base kept = omega arith
 
@@ -28,5 +29,6 @@ placed_rounded precision low mode negative s place precise =
     let up = rounds_up mode negative (loss_at (s % 2 ^ low) (2 ^ (low - 1))) (eqb (s / 2 ^ low % 2) 1) in
     (λ i. cond (rounds_up mode negative (loss_at (cut.1 i) (2 ^ (low - 1))) (eqb (cut.0 i % 2) 1)) (cut.0 i + 1)
     (cut.0 i))
-    ∙ ap (λ (n : ℕ). cond (rounds_up mode negative (loss_at (s % 2 ^ low) (2 ^ (low - 1))) (eqb n 1)) (base + kept + 1)
+    ∙ ap (λ (n : ℕ). cond (rounds_up mode negative (loss_at (s % 2 ^ low) (2 ^ (low - 1))) (eqb n 1))
+    (base + kept + 1)
     (base + kept)) parity ∙ moved_apart up base kept

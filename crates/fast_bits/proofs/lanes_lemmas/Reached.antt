@@ -35,7 +35,8 @@ zero_scaled precision low parts some any =
     }
 
 -- a significand with all digits, past all places
-past_at : (f : Format) (m e first : ℕ) → f.precision ≤ 24 → 149 ≡ f.scale + (24 - f.precision) + first → 2 ^ 23 ≤ m
+past_at : (f : Format) (m e first : ℕ) → f.precision ≤ 24 → 149 ≡ f.scale + (24 - f.precision) + first
+    → 2 ^ 23 ≤ m
     → first + (f.span + 1) ≤ e → IsPastTarget f (m * 2 ^ e * 2 ^ f.scale) (2 ^ 149)
 past_at f m e first digits scales full far =
     let low : 2 ^ (23 + e + f.scale) ≡ 2 ^ 23 * 2 ^ e * 2 ^ f.scale = pow3 23 e f.scale in
@@ -183,7 +184,8 @@ pub record AreSteps (f : Format) (kept rest m place : ℕ) : Type 0 where
 pub steps_are : (f : Format) (layout : Layout) (min_exp max_exp : ℤ) (m place first odd above up moved places : ℕ)
     → IsTarget f layout min_exp max_exp → pos f.scale ≡ pos (f.precision - 1) -ℤ min_exp
     → m < 2 ^ 24 → (place ≡ 0) ⊎ (2 ^ 23 ≤ m) → pos first ≡ (min_exp +ℤ pos 126)
-    → odd ≡ odd_quotient m (2 ^ 9) → above ≡ min (place - first) (f.span + 1) → up ≡ f.precision + 1 - (first - place)
+    → odd ≡ odd_quotient m (2 ^ 9) → above ≡ min (place - first) (f.span + 1)
+    → up ≡ f.precision + 1 - (first - place)
     → moved ≡ odd * 2 ^ up → places ≡ above * 2 ^ (f.precision - 1) % 65536
     → AreSteps f (moved / 65536 + places) (moved % 65536) m place
 unfolding steps
@@ -208,7 +210,8 @@ steps_are f layout min_exp max_exp m place first odd above up moved places is sc
     ⊎_elim {C = IsReachedLane f (steps f first m place) (m * 2 ^ place * 2 ^ f.scale) (2 ^ 149)}
     (λ (z : m < 1).
     let none : m ≡ 0 = omega (arith, z) in
-    let last : place ≡ 0 = ⊎_elim (λ (e : place ≡ 0). e) (λ (h : 2 ^ 23 ≤ m). absurd (omega (arith, h, z))) full in
+    let last : place ≡ 0 =
+    ⊎_elim (λ (e : place ≡ 0). e) (λ (h : 2 ^ 23 ≤ m). absurd (omega (arith, h, z))) full in
     zero_reached f m place first is.precise none last)
     (λ (some : 1 ≤ m). some_reached f m place first is.precise is.digits scales some fits full)
     (cases_lt m 1) in

@@ -73,11 +73,14 @@ odd_digits digits cut m fits =
     let even : 2 ^ (digits + 1) ≡ 2 * 2 ^ digits =
     let one_more : 1 + digits ≡ digits + 1 = omega arith in
     ap (λ (x : ℕ). 2 ^ x) (sym one_more) ∙ pow-add 2 1 digits in
-    let below : m < 2 * 2 ^ digits * 2 ^ cut = subst (λ (x : ℕ). m < x) (all ∙ ap (λ (x : ℕ). x * 2 ^ cut) even) fits in
-    subst (λ (x : ℕ). odd_quotient m (2 ^ cut) < x) (sym even) (odd_below m (2 ^ cut) (2 ^ digits) (pow_pos cut) below)
+    let below : m < 2 * 2 ^ digits * 2 ^ cut =
+    subst (λ (x : ℕ). m < x) (all ∙ ap (λ (x : ℕ). x * 2 ^ cut) even) fits in
+    subst (λ (x : ℕ). odd_quotient m (2 ^ cut) < x) (sym even)
+    (odd_below m (2 ^ cut) (2 ^ digits) (pow_pos cut) below)
 
 -- the place and the number of places moved up balance the two scales
-scaled_at : (precision more cut low w place e to from m : ℕ) → 3 ≤ precision → 1 ≤ more → w + (more + 1) ≤ low
+scaled_at : (precision more cut low w place e to from m : ℕ) → 3 ≤ precision → 1 ≤ more
+    → w + (more + 1) ≤ low
     → low + cut + e + to ≡ w + place + from → m < 2 ^ (precision + more + 1 + cut)
     → (place ≡ 0) ⊎ ((2 ^ (precision + more + cut) ≤ m) × (w + (more + 1) ≡ low))
     → IsScaled precision low (odd_quotient m (2 ^ cut) * 2 ^ w + place * 2 ^ (precision - 1 + low))
@@ -106,7 +109,8 @@ scaled_at precision more cut low w place e to from m precise guarded room balanc
     let power : 2 ^ (precision + more + w) ≡ 2 ^ (precision + more) * 2 ^ w = pow-add 2 (precision + more) w in
     let same : precision + more + 1 + w - 1 ≡ precision + more + w = omega arith in
     let s_least : 2 ^ (precision + more + 1 + w - 1) ≤ s =
-    subst (λ (x : ℕ). x ≤ s) (sym power ∙ ap (λ (x : ℕ). 2 ^ x) (sym same)) (mul-le-mul_right (2 ^ w) odd_least) in
+    subst (λ (x : ℕ). x ≤ s) (sym power ∙ ap (λ (x : ℕ). 2 ^ x) (sym same))
+    (mul-le-mul_right (2 ^ w) odd_least) in
     inr (full_cut s (precision + more + 1 + w) low precision (omega (arith, precise)) (λ _. s_least)
     (omega (arith, whole)))) full in
     let stands : StandsFor u (loss_at (s % 2 ^ low) (2 ^ (low - 1))) amount (2 ^ place * 2 ^ from) =
@@ -163,7 +167,8 @@ scaled_far precision more cut low e to from m precise room some fits far =
 -- the source less 1: that of the number, and that of the target's least normal number; `to` and `from` are the scales
 -- of target and source.
 pub scaled_stands : (precision more cut low first e to from m : ℕ) → 3 ≤ precision → 1 ≤ more
-    → precision + more + 2 ≤ low → from ≡ to + (cut + (more + 1)) + first → 0 < m → m < 2 ^ (precision + more + 1 + cut)
+    → precision + more + 2 ≤ low
+    → from ≡ to + (cut + (more + 1)) + first → 0 < m → m < 2 ^ (precision + more + 1 + cut)
     → (e ≡ 0) ⊎ (2 ^ (precision + more + cut) ≤ m) → IsScaled precision low
     (odd_quotient m (2 ^ cut) * 2 ^ (low - (more + 1) - (first - e)) + (e - first) * 2 ^ (precision - 1 + low))
     (m * 2 ^ e * 2 ^ to) (2 ^ from)

@@ -140,7 +140,8 @@ module _ (saturates : Bool) (single : Format) (read : Layout) (f : Format) (layo
   abbrev pub Rounded : Type 0
   Rounded = IsRounded saturates f layout mode negative (quanta * 2 ^ f.scale) (2 ^ 149) lane
 
-  zero_converted : (loses : Bool) → quanta ≡ 0 → 0 < f.precision → loses ≡ loses_zero_sign f negative → Rounded
+  zero_converted : (loses : Bool) → quanta ≡ 0 → 0 < f.precision → loses ≡ loses_zero_sign f negative
+      → Rounded
       → IsConvertedLane saturates single read f layout mode bits (with_inexact lane (lane.inexact || loses))
   zero_converted loses none precise lost it =
       let amount : quanta * 2 ^ f.scale ≡ 0 = ap (λ (n : ℕ). n * 2 ^ f.scale) none ∙ omega arith in

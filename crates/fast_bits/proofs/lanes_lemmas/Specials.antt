@@ -39,13 +39,15 @@ pub far_single : (f : Format) (significand : ℕ) → f.precision + f.span ≤ f
     → IsFarAbove f (significand * 2 ^ 254 * 2 ^ f.scale) (2 ^ 149)
 far_single f significand below full =
     let top : 2 ^ (f.precision + f.span) ≤ 2 ^ (f.scale + 128) = pow-le-pow_right two_pos below in
-    let first : 2 ^ (f.precision + f.span) * 2 ^ 149 ≤ 2 ^ (f.scale + 128) * 2 ^ 149 = mul-le-mul_right (2 ^ 149) top in
+    let first : 2 ^ (f.precision + f.span) * 2 ^ 149 ≤ 2 ^ (f.scale + 128) * 2 ^ 149 =
+    mul-le-mul_right (2 ^ 149) top in
     let parts : 2 ^ (f.scale + 128) ≡ 2 ^ f.scale * 2 ^ 128 = pow-add 2 f.scale 128 in
     let same : 2 ^ f.scale * 2 ^ 128 * 2 ^ 149 ≡ 2 ^ 23 * 2 ^ 254 * 2 ^ f.scale = omega arith in
     let second : 2 ^ 23 * 2 ^ 254 ≤ significand * 2 ^ 254 = mul-le-mul_right (2 ^ 254) full in
     let last : 2 ^ 23 * 2 ^ 254 * 2 ^ f.scale ≤ significand * 2 ^ 254 * 2 ^ f.scale =
     mul-le-mul_right (2 ^ f.scale) second in
-    let moved : 2 ^ (f.scale + 128) * 2 ^ 149 ≡ 2 ^ f.scale * 2 ^ 128 * 2 ^ 149 = ap (λ (n : ℕ). n * 2 ^ 149) parts in
+    let moved : 2 ^ (f.scale + 128) * 2 ^ 149 ≡ 2 ^ f.scale * 2 ^ 128 * 2 ^ 149 =
+    ap (λ (n : ℕ). n * 2 ^ 149) parts in
     record { some = pow_pos 149; from = omega (arith, first, moved, same, last) }
 
 flag_most : (flag : ℕ) (holds : Bool) → flag_if flag holds ≤ flag
@@ -146,7 +148,8 @@ single_quiet : (f : Format) (layout : Layout) → IsSingleFormat f layout → qu
 single_quiet f layout single = (λ i. quiet_bits_of (single.nonfinite i) (single.implied i) (single.precision i))
 
 quiet_bit_set : (s : ℕ) → s < 2 ^ 23 → 2 ^ 22 ≤ s → bit_and s (2 ^ 22) ≡ 2 ^ 22
-quiet_bit_set s below set = and_pow s 22 ∙ (let e : s / 2 ^ 22 % 2 * 2 ^ 22 ≡ 2 ^ 22 = omega (arith, below, set) in e)
+quiet_bit_set s below set =
+    and_pow s 22 ∙ (let e : s / 2 ^ 22 % 2 * 2 ^ 22 ≡ 2 ^ 22 = omega (arith, below, set) in e)
 
 quiet_bit_clear : (s : ℕ) → s < 2 ^ 22 → bit_and s (2 ^ 22) ≡ 0
 quiet_bit_clear s below = and_pow s 22 ∙ (let e : s / 2 ^ 22 % 2 * 2 ^ 22 ≡ 0 = omega (arith, below) in e)
@@ -170,7 +173,8 @@ quieted_is f layout s single below =
     (λ i. cond (signaling_is f layout s single below i) (bit_or s (quiet i)) s)
     ∙ ⊎_elim {C = cond (ltb s (2 ^ 22)) (bit_or s (2 ^ 22)) s ≡ s % 2 ^ 22 + 2 ^ 22}
     (λ (l : s < 2 ^ 22).
-    ap (λ (b : Bool). cond b (bit_or s (2 ^ 22)) s) (lt-ltb s (2 ^ 22) l) ∙ or_disjoint s (2 ^ 22) (quiet_bit_clear s l)
+    ap (λ (b : Bool). cond b (bit_or s (2 ^ 22)) s) (lt-ltb s (2 ^ 22) l)
+    ∙ or_disjoint s (2 ^ 22) (quiet_bit_clear s l)
     ∙ (let e : s + 2 ^ 22 ≡ s % 2 ^ 22 + 2 ^ 22 = omega (arith, l) in e))
     (λ (l : 2 ^ 22 ≤ s).
     ap (λ (b : Bool). cond b (bit_or s (2 ^ 22)) s) (le-ltb s (2 ^ 22) l)
@@ -214,7 +218,9 @@ quiet_is g d kind implied precise it =
     (λ i. bit_or (bit_or (nan_base_of (kind i) p) (quiet_bits_of (kind i) (implied i) p))
     (bit_and d (payload_mask_of (kind i) p))) ∙ (λ i. bit_or (or_zero_l unit i) (and_mask d (p - 1) i))
     ∙ ap (bit_or unit) (mod-eq_of_lt below) ∙ (λ i. bit_or (one i) (parts i))
-    ∙ or_block (p - 2) 1 1 0 (d - unit) (pow_pos (p - 2)) rest ∙ (λ i. 1 * unit + or_zero_l (d - unit) i) ∙ sym parts
+    ∙ or_block (p - 2) 1 1 0 (d - unit) (pow_pos (p - 2)) rest
+    ∙ (λ i. 1 * unit + or_zero_l (d - unit) i)
+    ∙ sym parts
 
 -- what a single's NaN becomes, if there are infinities too
 nan_of_digits : (f g : Format) (layout : Layout) (negative : Bool) (s : ℕ) → IsSingleFormat f layout → s < 2 ^ 23
@@ -225,7 +231,8 @@ nan_of_digits f g layout negative s single below kind implied precise few =
     let none : g.precision - 24 ≡ 0 = omega (arith, few) in
     let whole : (s % 2 ^ 22 + 2 ^ 22) * 2 ^ 0 ≡ s % 2 ^ 22 + 2 ^ 22 = omega arith in
     let mask : payload_mask f ≡ 2 ^ 23 - 1 = (λ i. payload_mask_of (single.nonfinite i) (single.precision i)) in
-    let out : places_out f g ≡ 24 - g.precision = (λ i. cond (eqb (mask i) 0) 0 (single.precision i - g.precision)) in
+    let out : places_out f g ≡ 24 - g.precision =
+    (λ i. cond (eqb (mask i) 0) 0 (single.precision i - g.precision)) in
     let shift : g.precision - f.precision ≡ 0 = ap (λ (n : ℕ). g.precision - n) single.precision ∙ none in
     let payload : quieted f s * 2 ^ (g.precision - f.precision) / 2 ^ places_out f g ≡ d =
     (λ i. quieted_is f layout s single below i * 2 ^ shift i / 2 ^ out i)
@@ -452,7 +459,8 @@ module _ (precision s payload : ℕ) (precise : 3 ≤ precision) (few : precisio
       (subst (λ (n : ℕ). 2 ^ (precision - 2) ≤ n) it.digits first)))
 
 -- both halves keep all digits that a target has
-pub word_payload : (precision s payload : ℕ) → precision ≤ 11 → payload ≡ s / 2 ^ 7 → IsPayload precision s payload
+pub word_payload : (precision s payload : ℕ) → precision ≤ 11 → payload ≡ s / 2 ^ 7
+    → IsPayload precision s payload
 word_payload precision s payload few is =
     let places : 24 - precision ≡ 7 + (17 - precision) = omega (arith, few) in
     let cut : 2 ^ (24 - precision) ≡ 2 ^ 7 * 2 ^ (17 - precision) =
@@ -475,7 +483,8 @@ half_payload precision h x few is =
     ap (λ (n : ℕ). 2 ^ n) second ∙ pow-add 2 18 (6 - precision) in
     let u = h % 2 ^ 7 * 2 ^ 9 in
     let v = x % 2 ^ 23 in
-    let made : h % 2 ^ 7 * 2 ^ 9 / 2 ^ 11 ≡ x % 2 ^ 23 / 2 ^ 18 → IsPayload precision (x % 2 ^ 23) (h % 2 ^ 7 * 2 ^ 9) =
+    let made : h % 2 ^ 7 * 2 ^ 9 / 2 ^ 11 ≡ x % 2 ^ 23 / 2 ^ 18
+    → IsPayload precision (x % 2 ^ 23) (h % 2 ^ 7 * 2 ^ 9) =
     λ same. record {
       digits =
           ap (λ (n : ℕ). u / n) cut ∙ sym (div-div-eq-div-mul u (2 ^ 11) (2 ^ (6 - precision)))
@@ -495,7 +504,8 @@ pub half_nan : (h x : ℕ) → h ≡ odd_quotient x (2 ^ 16) → 255 * 2 ^ 7 ≤
     → ltb (255 * 2 ^ 7) (h % 2 ^ 15) ≡ not (eqb (x % 2 ^ 23) 0)
 half_nan h x is high =
     let Says : Type 0 = ltb (255 * 2 ^ 7) (h % 2 ^ 15) ≡ not (eqb (x % 2 ^ 23) 0) in
-    let by : (h % 2 ^ 15 ≡ 255 * 2 ^ 7 → x % 2 ^ 23 ≡ 0) → (x % 2 ^ 23 ≡ 0 → h % 2 ^ 15 ≡ 255 * 2 ^ 7) → Says =
+    let by : (h % 2 ^ 15 ≡ 255 * 2 ^ 7 → x % 2 ^ 23 ≡ 0) → (x % 2 ^ 23 ≡ 0 → h % 2 ^ 15 ≡ 255 * 2 ^ 7)
+    → Says =
     λ forth back. ⊎_elim {C = Says}
     (λ (none : x % 2 ^ 23 ≡ 0).
     let same = back none in

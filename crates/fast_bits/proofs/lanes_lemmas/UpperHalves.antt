@@ -133,7 +133,8 @@ half_scaled f min_exp x h first precise digits scale least first_is it =
     + 0 * 2 ^ (p - 1 + (15 - p)) = omega arith in zero)
     ∙ (λ i. odd i * 2 ^ (15 - p - (7 - p + 1) - (first + 6 - e)) + place i * 2 ^ (p - 1 + (15 - p))) in
     let amount : 0 ≡ m * 2 ^ e * 2 ^ f.scale =
-    (let zero : 0 ≡ 0 * 2 ^ e * 2 ^ f.scale = omega arith in zero) ∙ ap (λ (n : ℕ). n * 2 ^ e * 2 ^ f.scale) none in
+    (let zero : 0 ≡ 0 * 2 ^ e * 2 ^ f.scale = omega arith in zero)
+    ∙ ap (λ (n : ℕ). n * 2 ^ e * 2 ^ f.scale) none in
     subst (λ (n : ℕ). IsScaled p (15 - p) n (m * 2 ^ e * 2 ^ f.scale) (2 ^ 149)) digits_none
     (subst (λ (n : ℕ). IsScaled p (15 - p) 0 n (2 ^ 149)) amount
     (zero_scaled p (15 - p) (2 ^ 149) (omega (arith, precise)) (pow_pos 149))))

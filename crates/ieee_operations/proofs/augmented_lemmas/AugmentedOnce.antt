@@ -57,7 +57,8 @@ augmented_once : (f : Format) (of_zero : Bool) (exact : ℤ) (parts : ℕ) (h g 
     → IsAugmented f of_zero exact parts h t i → IsAugmented f of_zero exact parts g u j → AreSame h g t u i j
 augmented_once f of_zero exact parts h g t u i j x y =
     let s = sign_of of_zero exact in
-    let e : x.pick ≡ y.pick = ties_to_zero_once f.precision (magnitude exact) parts x.pick y.pick x.is_pick y.is_pick in
+    let e : x.pick ≡ y.pick =
+    ties_to_zero_once f.precision (magnitude exact) parts x.pick y.pick x.is_pick y.is_pick in
     by_test f s exact parts y.pick h g t u i j (ltb (largest f) y.pick)
     (subst (λ (p : ℕ). MatchBool (ltb (largest f) p) (IsPastLargest f s h t i) (IsWithTail f s exact parts p h t i)) e
     x.is) y.is

@@ -78,7 +78,8 @@ tail_is f s p head (finite b (suc n)) left e h =
     ap (λ (t : Bool). cond t (copy_sign f zero_datum head) (finite b (suc n))) (not_zero (suc n) (omega arith)) ∙
     sym (ap (λ (i : ℤ). signed_quanta f.nonfinite (sign_of s i) (magnitude i)) (sym h.number_is)
     ∙ ap (λ (c : Bool). signed_quanta f.nonfinite c (magnitude (signed b (suc n))))
-    (sign_signed s b (suc n) (omega arith)) ∙ ap (λ (k : ℕ). signed_quanta f.nonfinite b k) (magnitude_signed b (suc n))
+    (sign_signed s b (suc n) (omega arith))
+    ∙ ap (λ (k : ℕ). signed_quanta f.nonfinite b k) (magnitude_signed b (suc n))
     ∙ signed_some f.nonfinite b (suc n) (omega arith))
 tail_is f s p head (infinite b) left e h = absurd (false≢true h.is_finite)
 tail_is f s p head (nan b n) left e h = absurd (false≢true h.is_finite)
@@ -190,7 +191,8 @@ near_is_nearest f of_zero v near short a =
     (subst (λ (z : ℤ). IsNearestTo f.precision z (signed s a.even)) (signed_exact of_zero v) n)
 
 -- a pick with ties toward zero is a nearest number
-pub pick_is_nearest : (f : Format) (of_zero : Bool) (v : ℤ) (p : ℕ) → IsTiesToZeroPick f.precision (magnitude v) 1 p
+pub pick_is_nearest : (f : Format) (of_zero : Bool) (v : ℤ) (p : ℕ)
+    → IsTiesToZeroPick f.precision (magnitude v) 1 p
     → IsNearestTo f.precision v (signed (sign_of of_zero v) p)
 pick_is_nearest f of_zero v p t =
     let s = sign_of of_zero v in
@@ -216,7 +218,8 @@ tie_is f of_zero v near short rest left a r l e =
     let s = sign_of of_zero v in
     let o = negated_has f rest r.is_finite in
     let q = equal_numbers left (negated f.nonfinite rest) l.is_finite o.is_finite e in
-    let w : (v -ℤ number short) ≡ neg_ℤ (v -ℤ number near) = sym l.number_is ∙ q ∙ o.number_is ∙ ap neg_ℤ r.number_is in
+    let w : (v -ℤ number short) ≡ neg_ℤ (v -ℤ number near) =
+    sym l.number_is ∙ q ∙ o.number_is ∙ ap neg_ℤ r.number_is in
     let u : (v -ℤ signed s a.lower) ≡ neg_ℤ (v -ℤ signed s a.even) =
     ap (λ (z : ℤ). v -ℤ z) (sym (short_number f s (magnitude v) near short a)) ∙ w ∙
     ap (λ (z : ℤ). neg_ℤ (v -ℤ z)) (near_number f s (magnitude v) near short a) in
@@ -254,7 +257,8 @@ no_tie_is f of_zero v near short rest left status a r exact nearest differs =
     (opposites s n a.even a.lower h) in
     let q : number left ≡ number (negated f.nonfinite rest) =
     l.number_is ∙ ap (λ (z : ℤ). v -ℤ z) (short_number f s n near short a) ∙ d ∙
-    ap (λ (z : ℤ). neg_ℤ (v -ℤ z)) (sym (near_number f s n near short a)) ∙ sym (m.number_is ∙ ap neg_ℤ r.number_is) in
+    ap (λ (z : ℤ). neg_ℤ (v -ℤ z)) (sym (near_number f s n near short a)) ∙
+    sym (m.number_is ∙ ap neg_ℤ r.number_is) in
     false≢true (sym (differs o) ∙ is_equal_by left (negated f.nonfinite rest) l.is_finite m.is_finite q))
 
 -- ---- past the largest value
@@ -295,7 +299,8 @@ pub beyond : (f : Format) (s : Bool) (amount e : ℕ) → largest f < e
 beyond f s amount e l x = let past = beyond_in f s amount 1 e (lit< tt) l x in omega (arith, past)
 
 -- what is past it is the largest value toward zero
-pub short_is_largest_in : (f : Format) → 3 ≤ f.precision → (of_zero : Bool) (exact : ℤ) (parts e : ℕ) (short : Datum)
+pub short_is_largest_in : (f : Format) → 3 ≤ f.precision
+    → (of_zero : Bool) (exact : ℤ) (parts e : ℕ) (short : Datum)
     (j : ℕ) → 0 < parts → largest f < e
     → IsPick f.precision NearestTiesToEven (sign_of of_zero exact) (magnitude exact) parts e
     → IsRounded f TowardZero of_zero exact parts short j → short ≡ finite (sign_of of_zero exact) (largest f)
@@ -339,7 +344,8 @@ pub no_half_left : (f : Format) → 3 ≤ f.precision → 1 ≤ f.span → (of_z
     (status : ℕ) → unit ≡ finite false (half_unit f)
     → (status ≡ ok_bits → HasNumber (v -ℤ signed (sign_of of_zero v) (largest f)) left)
     → (IsNearestTo f.precision v (signed (sign_of of_zero v) (largest f)) → status ≡ ok_bits)
-    → (status ≡ ok_bits → is_equal (abs f left) unit ≡ false) → magnitude v ≡ largest f + half_unit f → ⊥
+    → (status ≡ ok_bits → is_equal (abs f left) unit ≡ false)
+    → magnitude v ≡ largest f + half_unit f → ⊥
 no_half_left f h k of_zero v left unit status u exact nearest differs e =
     let s = sign_of of_zero v in
     let t = at_half f h k (magnitude v) e in
@@ -370,7 +376,8 @@ half_is_within f h =
 
 -- the smallest value, scaled
 pub half_unit_is : (f : Format) → 3 ≤ f.precision → 1 ≤ f.span → (places : ℤ) → places ≡ pos (f.span - 1)
-    → (value : Datum) → IsScaling f NearestTiesToEven (finite false 1) places value → value ≡ finite false (half_unit f)
+    → (value : Datum) → IsScaling f NearestTiesToEven (finite false 1) places value
+    → value ≡ finite false (half_unit f)
 half_unit_is f h k places e value x =
     let y : IsScaling f NearestTiesToEven (finite false 1) (pos (f.span - 1)) value =
     subst (λ (z : ℤ). IsScaling f NearestTiesToEven (finite false 1) z value) e x in

@@ -65,7 +65,8 @@ pub finite_within : (f : Format) (negative : Bool) (p : ℕ) (value : Datum) →
 finite_within f s p value h e =
     ⊎_elim
     (λ (q : largest f < p).
-    let w : is_finite value ≡ false = ap is_finite (e ∙ past_is f s p q) ∙ past_not_finite f.nonfinite (nan_base f) s in
+    let w : is_finite value ≡ false =
+    ap is_finite (e ∙ past_is f s p q) ∙ past_not_finite f.nonfinite (nan_base f) s in
     absurd (false≢true (sym w ∙ h)))
     (λ (q : p ≤ largest f). q)
     (cases_lt (largest f) p)
@@ -89,7 +90,8 @@ pub record IsRoundedExactly (exact : ℤ) (value : Datum) (status : ℕ) : Type 
 
 -- a number of the format is rounded exactly
 pub fraction_exactly : (f : Format) (mode : Round) (of_zero : Bool) (z exact : ℤ) (parts : ℕ) (value : Datum)
-    (status : ℕ) → 0 < parts → IsOnGrid f.precision (magnitude z) → magnitude z ≤ largest f → (z *ℤ pos parts) ≡ exact
+    (status : ℕ) → 0 < parts → IsOnGrid f.precision (magnitude z) → magnitude z ≤ largest f
+    → (z *ℤ pos parts) ≡ exact
     → IsRounded f mode of_zero exact parts value status → IsRoundedExactly z value status
 fraction_exactly f mode of_zero z exact parts value status p g l e h =
     let m : magnitude exact ≡ magnitude z * parts = ap magnitude (sym e) ∙ magnitude-times z parts in
@@ -200,7 +202,8 @@ opposite kind c (suc n) =
       number_is = signed_not c (suc n);
     }
 
-pub negated_has : (f : Format) (x : Datum) → is_finite x ≡ true → HasNumber (neg_ℤ (number x)) (negated f.nonfinite x)
+pub negated_has : (f : Format) (x : Datum) → is_finite x ≡ true
+    → HasNumber (neg_ℤ (number x)) (negated f.nonfinite x)
 negated_has f (finite b m) p =
     let o = opposite f.nonfinite b m in
     record { is_finite = ap is_finite o.is; number_is = ap number o.is ∙ o.number_is }
@@ -283,7 +286,8 @@ equal_by z w Less e h = absurd (false≢true h)
 equal_by z w Equal e h = exact_signed z w (sym e)
 equal_by z w Greater e h = absurd (false≢true h)
 
-pub equal_numbers : (x y : Datum) → is_finite x ≡ true → is_finite y ≡ true → is_equal x y ≡ true → number x ≡ number y
+pub equal_numbers : (x y : Datum) → is_finite x ≡ true → is_finite y ≡ true → is_equal x y ≡ true
+    → number x ≡ number y
 equal_numbers (finite b m) (finite c n) p q h = equal_by (signed b m) (signed c n) _ refl h
 equal_numbers (finite b m) (infinite c) p q h = absurd (false≢true q)
 equal_numbers (finite b m) (nan c n) p q h = absurd (false≢true q)
@@ -300,14 +304,16 @@ below_true z w Less e h = let k = int_ranked z w Less e in omega (arith, ints, k
 below_true z w Equal e h = absurd (false≢true h)
 below_true z w Greater e h = absurd (false≢true h)
 
-pub not_below : (x y : Datum) → is_finite x ≡ true → is_finite y ≡ true → is_below x y ≡ false → number y ≤ℤ number x
+pub not_below : (x y : Datum) → is_finite x ≡ true → is_finite y ≡ true → is_below x y ≡ false
+    → number y ≤ℤ number x
 not_below (finite b m) (finite c n) p q h = below_by (signed b m) (signed c n) _ refl h
 not_below (finite b m) (infinite c) p q h = absurd (false≢true q)
 not_below (finite b m) (nan c n) p q h = absurd (false≢true q)
 not_below (infinite b) y p q h = absurd (false≢true p)
 not_below (nan b m) y p q h = absurd (false≢true p)
 
-pub is_under : (x y : Datum) → is_finite x ≡ true → is_finite y ≡ true → is_below x y ≡ true → number x ≤ℤ number y
+pub is_under : (x y : Datum) → is_finite x ≡ true → is_finite y ≡ true → is_below x y ≡ true
+    → number x ≤ℤ number y
 is_under (finite b m) (finite c n) p q h = below_true (signed b m) (signed c n) _ refl h
 is_under (finite b m) (infinite c) p q h = absurd (false≢true q)
 is_under (finite b m) (nan c n) p q h = absurd (false≢true q)

@@ -14,7 +14,8 @@ use Rattle.apfloat_model.proofs.rounding.FlagsTogether.{inexact_together}
 use Rattle.ieee_operations.specs.augmented.Augmented.{left_of, IsPastLargest, IsWithTail, IsAugmented, AreBoth}
 use Rattle.ieee_operations.proofs.augmented_lemmas.Cases.{OfEachOperation, of_each}
 
-past_or_not : (f : Format) (negative : Bool) (exact : ℤ) (parts pick : ℕ) (head tail : Datum) (status : ℕ) (test : Bool)
+past_or_not : (f : Format) (negative : Bool) (exact : ℤ) (parts pick : ℕ) (head tail : Datum) (status : ℕ)
+    (test : Bool)
     → MatchBool test (IsPastLargest f negative head tail status)
     (IsWithTail f negative exact parts pick head tail status)
     → FlagsGoTogether status

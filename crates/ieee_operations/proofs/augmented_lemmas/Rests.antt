@@ -48,7 +48,8 @@ sum_down m c h = omega (arith, ints, one_side c)
 first_within : (precision top : ℕ) (a c z : ℤ) → magnitude c ≤ magnitude a → magnitude a ≤ top
     → magnitude z ≤ top → IsNearest precision (a +ℤ c) z → magnitude (z -ℤ a) ≤ top
 first_within precision top (pos m) c z l x y n =
-    let k : pos 0 ≤ℤ z = nearest_above precision (pos 0) (pos m +ℤ c) z (zero_on_grid precision) (sum_up m c l) n in
+    let k : pos 0 ≤ℤ z =
+    nearest_above precision (pos 0) (pos m +ℤ c) z (zero_on_grid precision) (sum_up m c l) n in
     between_up (pos m) c z z (omega (arith, ints)) l k top x y
 first_within precision top (negsuc m) c z l x y n =
     let k : z ≤ℤ pos 0 =

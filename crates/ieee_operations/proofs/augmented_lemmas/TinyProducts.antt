@@ -90,19 +90,22 @@ pub record IsTiny (f : Format) (x y near short : Datum) : Type 0 where
   pub picks : ArePicks f (sign_of_product x y) (magnitude (exact_of x y)) (2 ^ f.scale) near short
 
 -- What the rounding of an integral number of quanta leaves is exact.
-exact_whole : (f : Format) → 3 ≤ f.precision → (x y near : Datum) → IsNearProduct f x y near → IsAugmentedNumber f near
+exact_whole : (f : Format) → 3 ≤ f.precision → (x y near : Datum) → IsNearProduct f x y near
+    → IsAugmentedNumber f near
     → LeavesDigits f x y near → (whole : ℤ) → (whole *ℤ pos (2 ^ f.scale)) ≡ exact_of x y → ⊥
 exact_whole f h x y near a nn lost whole w =
     lost.not_ok (whole_is_exact f h x y near lost.rest a.status lost.status whole a.left.is_in a.right.is_in nn
     (product_some f x y a.left a.right) a.is lost.is w)
 
 -- so the product is none
-no_whole : (f : Format) → 3 ≤ f.precision → (x y near : Datum) → IsNearProduct f x y near → IsAugmentedNumber f near
+no_whole : (f : Format) → 3 ≤ f.precision → (x y near : Datum) → IsNearProduct f x y near
+    → IsAugmentedNumber f near
     → LeavesDigits f x y near → IsFractionPick (magnitude (exact_of x y)) (2 ^ f.scale)
 no_whole f h x y near a nn lost = record {
   not_whole = λ whole e.
       let w : (signed (sign_of_product x y) whole *ℤ pos (2 ^ f.scale)) ≡ (number x *ℤ number y) =
-      sym (signed_times (sign_of_product x y) whole (2 ^ f.scale)) ∙ ap (λ (n : ℕ). signed (sign_of_product x y) n) e ∙
+      sym (signed_times (sign_of_product x y) whole (2 ^ f.scale)) ∙
+      ap (λ (n : ℕ). signed (sign_of_product x y) n) e ∙
       signed_exact (product_sign (is_negative x) (is_negative y)) (number x *ℤ number y) in
       exact_whole f h x y near a nn lost (signed (sign_of_product x y) whole) w;
 }
@@ -225,7 +228,8 @@ module _ (f : Format) (x y near short left : Datum) (k : ℕ) (t : IsTiny f x y 
   lower_parts = ap (λ (i : ℕ). i * 2 ^ f.scale) lower_below
 
   short_number : number short ≡ signed (sign_of_product x y) t.picks.lower
-  short_number = ap number t.picks.short_is ∙ (signed_number f.nonfinite (sign_of_product x y) t.picks.lower).number_is
+  short_number =
+      ap number t.picks.short_is ∙ (signed_number f.nonfinite (sign_of_product x y) t.picks.lower).number_is
 
   short_in : IsAugmentedNumber f short
   short_in =
@@ -284,7 +288,8 @@ module _ (f : Format) (x y near short left : Datum) (k : ℕ) (t : IsTiny f x y 
       let b : j * 2 ^ 0 ≤ largest f = below_top f j 0 t.precise l (omega (arith, t.wide)) in
       let d : rest_of_product f x y short
       ≡ (signed s (magnitude (exact_of x y)) -ℤ signed s (t.picks.lower * 2 ^ f.scale)) =
-      rest_is f x y short s t.picks.lower short_number ∙ ap (λ (i : ℤ). i -ℤ signed s (t.picks.lower * 2 ^ f.scale))
+      rest_is f x y short s t.picks.lower short_number ∙
+      ap (λ (i : ℤ). i -ℤ signed s (t.picks.lower * 2 ^ f.scale))
       (sym (signed_exact (product_sign (is_negative x) (is_negative y)) (exact_of x y))) in
       let w : (signed (sign_of_product x y) j *ℤ pos (2 ^ f.scale))
       ≡ (rest_of_product f x y short +ℤ rest_of_product f x y short) =
@@ -429,7 +434,8 @@ module _ (f : Format) (x y near short left : Datum) (k : ℕ) (t : IsTiny f x y 
         is = subst (λ (i : Bool). MatchBool i (IsPastLargest f s head tail status)
             (IsWithTail f s (exact_of x y) (2 ^ f.scale) pick head tail status)) (sym w) a;
       }) where
-        tail_within : (mode : Round) (negative : Bool) (amount q : ℕ) → amount ≤ 2 ^ (f.precision - 1) * 2 ^ f.scale
+        tail_within : (mode : Round) (negative : Bool) (amount q : ℕ)
+            → amount ≤ 2 ^ (f.precision - 1) * 2 ^ f.scale
             → IsPick f.precision mode negative amount (2 ^ f.scale) q → q ≤ largest f
         tail_within mode negative amount q a u =
             let g : IsOnGrid f.precision (2 ^ (f.precision - 1)) =
@@ -491,7 +497,8 @@ module _ (f : Format) (x y near short left : Datum) (k : ℕ) (t : IsTiny f x y 
   near_side =
       pick_cases f.precision (sign_of_product x y) (magnitude (exact_of x y)) (2 ^ f.scale) t.picks.even t.picks.is_even
 
-  pub head_is_near_tie : k ≡ ok_bits → (magnitude (number left) ≡ 1 → ⊥) → (head tail : Datum) (status : ℕ)
+  pub head_is_near_tie : k ≡ ok_bits → (magnitude (number left) ≡ 1 → ⊥)
+      → (head tail : Datum) (status : ℕ)
       → HasRoundedTail f TowardZero x y near head tail status → IsAugmentedProduct f x y head tail status
   head_is_near_tie ok other =
       tail_is near t.picks.even TowardZero t.near_in t.picks.near_is t.picks.even_within near_side

@@ -34,7 +34,8 @@ loop-index-preserved g c =
 
 pub returns : goal.returns
 returns g c =
-    let kept : (k : ℕ) → k < g.row.N → slice_index c.loop-index.halves k ≡ number_in (slice_index c.args.halves.now k) =
+    let kept : (k : ℕ) → k < g.row.N
+    → slice_index c.loop-index.halves k ≡ number_in (slice_index c.args.halves.now k) =
     λ k before. c.loop-index.invariant.each k (omega (arith, before, c.loop-index-test.false)) in
     record {
       finite = λ k before. subst (λ (n : ℕ). n % 2 ^ 15 < 255 * 2 ^ 7) (sym (kept k before))

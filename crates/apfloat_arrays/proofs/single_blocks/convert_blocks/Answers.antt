@@ -15,7 +15,8 @@ returns-then-blocks-eq0 g c =
     let from = constants_of g.S.Flagged in
     let to = constants_of g.T.Flagged in
     let none : 0 ≡ c.args.blocks * g.row.N =
-    (let zero : 0 ≡ 0 * g.row.N = omega arith in zero) ∙ ap (λ (n : ℕ). n * g.row.N) (sym c.if-blocks-eq0.true) in
+    (let zero : 0 ≡ 0 * g.row.N = omega arith in zero)
+    ∙ ap (λ (n : ℕ). n * g.row.N) (sym c.if-blocks-eq0.true) in
     subst (λ (n : ℕ). AreConverted from to task c.args.width n c.args.output.now (counts_of [])) none
     (block_none (IsConvertedBy task.overflow from to task.round) 4 c.args.width task.input.now c.args.output.now)
 
@@ -50,7 +51,8 @@ loop-index-preserved g c =
     c.convert_block.auto.output
     ∙ length-between c.loop-index.output (index * count * target) ((index * count + count) * target)
     (omega (arith, size, room))
-    ∙ (let rest : (index * count + count) * target - index * count * target ≡ count * target = omega (arith, ends) in
+    ∙ (let rest : (index * count + count) * target - index * count * target ≡ count * target =
+    omega (arith, ends) in
     rest) in
     rw c.add.ensures
     (block_named Holds 4 target (index * count + count) ((index + 1) * count) task.input.now task.input.now _ _ _

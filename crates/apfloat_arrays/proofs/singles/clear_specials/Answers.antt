@@ -54,7 +54,8 @@ loop-index-preserved g c =
 pub returns : goal.returns
 returns g c =
     let so_far = c.loop-index.invariant in
-    let kept : (k : ℕ) → k < g.row.N → slice_index c.loop-index.uppers k ≡ number_in (slice_index c.args.uppers.now k) =
+    let kept : (k : ℕ) → k < g.row.N
+    → slice_index c.loop-index.uppers k ≡ number_in (slice_index c.args.uppers.now k) =
     λ k before. so_far.each k (omega (arith, before, c.loop-index-test.false)) in
     record {
       finite = λ k before. subst (λ (n : ℕ). n % 2 ^ 15 < 255 * 2 ^ 7) (sym (kept k before))

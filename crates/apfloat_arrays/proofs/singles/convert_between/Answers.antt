@@ -26,7 +26,8 @@ returns g c =
     let short : bytes_of g.T.Flagged.BITS ≤ 2 = narrow g.T.Flagged.BITS c.requires.given.target.bits in
     let given = c.copy_from_slice.new.self in
     let filled : c.copy_from_slice.new.self ≡ c.args.task.input.now = c.copy_from_slice.ensures.after in
-    let size : length c.copy_from_slice.new.self ≡ c.args.task.count * 4 = ap length filled ∙ c.requires.given.input in
+    let size : length c.copy_from_slice.new.self ≡ c.args.task.count * 4 =
+    ap length filled ∙ c.requires.given.input in
     let zeros : c.args.singles.now ≡ replicate 256 0 = c.requires.zeros in
     let singles : List ℕ = given ++ drop (count * 4) c.args.singles.now in
     let old = c.args.room.now in

@@ -11,7 +11,8 @@ use Rattle.apfloat_arrays.proofs.array.ArrayConversion.convert_by_table.Goals as
 pub look_up-requires-clause-table : goal.look_up-requires-clause-table
 look_up-requires-clause-table c =
     let room : (flagged_constants c.args.self.target).bits ≤ 8 * c.widths-width.result.target =
-    subst (λ (w : Widths). (flagged_constants c.args.self.target).bits ≤ 8 * w.target) (sym c.widths-width.ensures.is)
+    subst (λ (w : Widths). (flagged_constants c.args.self.target).bits ≤ 8 * w.target)
+    (sym c.widths-width.ensures.is)
     (flagged_room c.args.self.target) in
     entries_of
     (IsAnswerAt c.args.self.overflow (constants_in c.args.self.source) (flagged_constants c.args.self.target)

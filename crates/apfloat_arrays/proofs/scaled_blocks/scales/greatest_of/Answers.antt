@@ -41,7 +41,8 @@ returns-then-not-is_finite g c =
     c.from_bits-x.ensures.read ∙ ap (value_of k) c.bits_at.ensures in
     one_not_finite (values_in k c.args.width c.args.bytes.now c.args.first c.args.count) c.loop-index.index x
     (values_at k c.args.width c.args.bytes.now c.args.first c.args.count c.loop-index.index c.loop-index-test.true
-    ∙ ap (λ (d : Datum). Some d) (sym read)) (sym (finite_agrees x) ∙ sym c.is_finite.ensures ∙ c.if-not-is_finite.true)
+    ∙ ap (λ (d : Datum). Some d) (sym read))
+    (sym (finite_agrees x) ∙ sym c.is_finite.ensures ∙ c.if-not-is_finite.true)
 
 pub greater-greatest-requires-clause-greatest : goal.greater-greatest-requires-clause-greatest
 greater-greatest-requires-clause-greatest g c = own_quanta c.loop-index.greatest _ c.loop-index.invariant.1

@@ -3,7 +3,8 @@ use Rattle.apfloat_arrays.proofs.ConvertedLanes.{plan_answers}
 use Rattle.apfloat_arrays.proofs.singles.PlanSinglesPlan.convert.Goals as goal
 
 -- a word by its halves
-word_parts : (word upper lower : ℕ) → upper ≡ word / 2 ^ 16 → lower ≡ word % 2 ^ 16 → upper * 2 ^ 16 + lower ≡ word
+word_parts : (word upper lower : ℕ) → upper ≡ word / 2 ^ 16 → lower ≡ word % 2 ^ 16
+    → upper * 2 ^ 16 + lower ≡ word
 word_parts word upper lower upper_is lower_is = omega (arith, upper_is, lower_is)
 
 pub returns-clause-converted : goal.returns-clause-converted

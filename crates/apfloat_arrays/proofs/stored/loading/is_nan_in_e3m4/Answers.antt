@@ -15,4 +15,5 @@ pub returns-in-Zero : goal.returns-in-Zero
 returns-in-Zero c = ap is_nan_category (sym c.in-Zero.is ∙ c.category.ensures) ∙ nan_agrees (e3m4_datum c.args.x)
 
 pub returns-in-Normal : goal.returns-in-Normal
-returns-in-Normal c = ap is_nan_category (sym c.in-Normal.is ∙ c.category.ensures) ∙ nan_agrees (e3m4_datum c.args.x)
+returns-in-Normal c = ap is_nan_category (sym c.in-Normal.is ∙ c.category.ensures)
+    ∙ nan_agrees (e3m4_datum c.args.x)

@@ -60,7 +60,8 @@ returns g c =
     (λ i. rounded i + placed i) in
     let exact : made.result.exact ≡ eqb (t % 2 ^ low) 0 =
     made.ensures.exact ∙ ap (λ (n : ℕ). eqb (n % 2 ^ low) 0) digits in
-    let out : made.result.leads_out ≡ leads_out mode negative = made.ensures.out ∙ ap (leads_out mode) negative_is in
+    let out : made.result.leads_out ≡ leads_out mode negative =
+    made.ensures.out ∙ ap (leads_out mode) negative_is in
     let code_is : IsCodeOf s negative index code = record {
       is = c.code_of.ensures
           ∙ ap (λ (b : Bool). cond b (2 ^ (s.bits - 1)) 0 + min index (2 ^ (s.bits - 1) - 1)) negative_is;

@@ -13,7 +13,8 @@ returns-clause-text c =
       payload_of_some c.args.payload c.digits.result (codes "0x" ++ digits) (omega (arith, none))
           (c.digits.ensures.full count) c.digits.ensures.below refl,
       c.push_digits.ensures ∙ ap (λ (t : List ℕ). t ++ digits)
-          (c.push-2.ensures ∙ ap (λ (t : List ℕ). t ++ (120 ∷ [])) c.push.ensures) ∙ prefixed c.args.line.now digits,
+          (c.push-2.ensures ∙ ap (λ (t : List ℕ). t ++ (120 ∷ [])) c.push.ensures)
+          ∙ prefixed c.args.line.now digits,
     )
 
 pub returns-clause-room : goal.returns-clause-room
@@ -21,7 +22,8 @@ returns-clause-room c =
     let digits = digits_text ((c.digits.result - 1) / 4 + 1) c.args.payload in
     let text : c.push_digits.new.line ≡ c.args.line.now ++ (codes "0x" ++ digits) =
     c.push_digits.ensures ∙ ap (λ (t : List ℕ). t ++ digits)
-    (c.push-2.ensures ∙ ap (λ (t : List ℕ). t ++ (120 ∷ [])) c.push.ensures) ∙ prefixed c.args.line.now digits in
+    (c.push-2.ensures ∙ ap (λ (t : List ℕ). t ++ (120 ∷ [])) c.push.ensures)
+    ∙ prefixed c.args.line.now digits in
     let all = length-append c.args.line.now (codes "0x" ++ digits) in
     let prefix = length-append (codes "0x") digits in
     let places = digits_length ((c.digits.result - 1) / 4 + 1) c.args.payload in

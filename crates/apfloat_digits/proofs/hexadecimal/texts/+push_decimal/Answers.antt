@@ -26,6 +26,7 @@ returns t c =
       | then-number-ge10 w ↦ c.push.ensures
           ∙ ap (λ (x : List ℕ). x ++ ((48 + c.args.number % 10) ∷ [])) (w.line-is ∙ w.push_decimal.ensures)
           ∙ last_digit c.args.line.now c.args.number w.if-number-ge10.true (omega (arith, c.ranges.number.fits))
-      | else-number-ge10 w ↦ c.push.ensures ∙ ap (λ (x : List ℕ). x ++ ((48 + c.args.number % 10) ∷ [])) w.line-is
+      | else-number-ge10 w ↦
+          c.push.ensures ∙ ap (λ (x : List ℕ). x ++ ((48 + c.args.number % 10) ∷ [])) w.line-is
           ∙ only_digit c.args.line.now c.args.number w.if-number-ge10.false
     ]

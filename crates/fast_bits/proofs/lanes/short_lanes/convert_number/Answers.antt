@@ -67,9 +67,11 @@ returns c =
           let read : datum_of single layout x
           ≡ finite (eqb (h / 2 ^ 15) 1) (significand_of (x % 2 ^ 31) * 2 ^ place_of (x % 2 ^ 31)) =
           single_read single layout x is_single both.0 few
-          ∙ ap (λ (n : ℕ). finite (eqb n 1) (significand_of (x % 2 ^ 31) * 2 ^ place_of (x % 2 ^ 31))) (sym sign) in
+          ∙ ap (λ (n : ℕ). finite (eqb n 1) (significand_of (x % 2 ^ 31) * 2 ^ place_of (x % 2 ^ 31)))
+          (sym sign) in
           let lost : c.loses_sign.result ≡ (has_one_zero t.nonfinite && eqb (h / 2 ^ 15) 1 && eqb (x % 2 ^ 31) 0) =
-          c.loses_sign.ensures ∙ ap (λ (b : Bool). has_one_zero t.nonfinite && eqb (h / 2 ^ 15) 1 && b) both.1.zero in
+          c.loses_sign.ensures
+          ∙ ap (λ (b : Bool). has_one_zero t.nonfinite && eqb (h / 2 ^ 15) 1 && b) both.1.zero in
           lane_converted plan.saturates single layout f (layout_at t) plan.round (eqb (h / 2 ^ 15) 1)
           c.loses_sign.result (x % 2 ^ 31) x c.finish-lane.result read is_single.scale (omega (arith, precise)) lost
           (lane_is c x is);

@@ -65,6 +65,7 @@ returns c =
       places = subst
           (λ (n : ℕ). AreInPlaces (IsBlockOf q c.args.values.now) q.length n c.loop-index.codes made.blocks)
           last made.places;
-      scales_are = sym (take_all c.loop-index.index c.loop-index.scales (omega (arith, many, last))) ∙ made.scales_are;
+      scales_are =
+          sym (take_all c.loop-index.index c.loop-index.scales (omega (arith, many, last))) ∙ made.scales_are;
       counted = made.counted;
     }

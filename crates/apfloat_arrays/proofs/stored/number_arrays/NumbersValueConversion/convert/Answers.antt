@@ -7,7 +7,8 @@ use Rattle.apfloat_arrays.specs.stored.NumberCodes.{biased_of}
 use Rattle.apfloat_arrays.proofs.stored_lemmas.NumberCodes.{stored_bits}
 use Rattle.apfloat_arrays.proofs.stored.number_arrays.NumbersValueConversion.convert.Goals as goal
 
-not_special : (biased top : ℕ) (number : Bool) → number ≡ true → number ≡ not (eqb biased top) → biased ≡ top → ⊥
+not_special : (biased top : ℕ) (number : Bool) → number ≡ true → number ≡ not (eqb biased top)
+    → biased ≡ top → ⊥
 not_special biased top number holds is e = true≢false (sym holds ∙ is ∙ ap not (eq-eqb biased top e))
 
 pub store_number-answer-requires-clause-number : goal.store_number-answer-requires-clause-number
