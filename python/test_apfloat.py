@@ -1960,6 +1960,15 @@ class NumpyTests(unittest.TestCase):
         with self.assertRaisesRegex(TypeError, 'convert one of them'):
             row.astype(numpy.float32) + xs
 
+    def test_random_numbers(self):
+        for dtype in 'u1', '<u2', '>u4', 'i8':
+            randoms = numpy.array([[0, 1], [2, 3]], dtype)
+            made = apfloat.float4_e2m1fn.array_randomly([[1.25, 1.25], [1.25, 1.25]], randoms, digits=2)
+            self.assertEqual([float(value) for value in made.reshape(4)], [1, 1, 1.5, 1.5])
+        for randoms in numpy.array([-1]), numpy.array([1 << 32]), numpy.array([0.5]):
+            with self.assertRaises((TypeError, OverflowError)):
+                apfloat.float4_e2m1fn.array_randomly([1.25], randoms)
+
     def test_types_of_numbers(self):
         for format in SMALL:
             every = format.from_bits(numpy.arange(256, dtype=numpy.uint8))
