@@ -2100,13 +2100,31 @@ class Mask(_Elements[bool]):
         made = value if isinstance(value, Mask) else Mask(value)
         return self._like(made._data, made.shape)
 
+    @overload
+    def any(self, axis: None = None, out: None = None) -> bool: ...
+
+    @overload
+    def any(self, axis: int, out: None = None) -> Any: ...
+
     def any(self, axis: int | None = None, out: None = None) -> Any:
         """Whether it holds for any element: of all, or nested lists along an axis. numpy passes `out`, as None."""
         return self._of_rows(lambda row: 1 in row, axis, out)
 
+    @overload
+    def all(self, axis: None = None, out: None = None) -> bool: ...
+
+    @overload
+    def all(self, axis: int, out: None = None) -> Any: ...
+
     def all(self, axis: int | None = None, out: None = None) -> Any:
         """Whether it holds for all elements, likewise."""
         return self._of_rows(lambda row: 0 not in row, axis, out)
+
+    @overload
+    def sum(self, axis: None = None, dtype: None = None, out: None = None) -> int: ...
+
+    @overload
+    def sum(self, axis: int, dtype: None = None, out: None = None) -> Any: ...
 
     def sum(self, axis: int | None = None, dtype: None = None, out: None = None) -> Any:
         """For how many elements it holds, likewise.
@@ -3406,7 +3424,7 @@ def _span(first: int, length: int, stride: int) -> slice:
 def _none_given(*given: Any) -> None:
     """Refuses what functions of numpy are given and arrays lack."""
     if any(each is not None for each in given):
-        raise TypeError('what is made of an array has the type that follows from it, and is new')
+        raise TypeError('no dtype or out is taken: what is made of an array is new, and of a type that follows from it')
 
 
 def _axis(axis: Any, ndim: int) -> int:

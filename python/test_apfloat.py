@@ -1762,7 +1762,7 @@ class TypeTests(unittest.TestCase):
             'xs[0]': 'Value | Array', 'xs[0, 1]': 'Value | Array', 'xs[1:]': 'Array', 'xs[[0, 1]]': 'Array',
             'xs[xs > 1]': 'Array', 'xs > 1': 'Mask', '(xs > 1)[0]': 'bool | Mask', 'xs + 1': 'Array', 'xs.T': 'Array',
             'xs.max()': 'Value', 'xs.sum()': 'Value', 'xs.mean(0)': 'Value | Array', 'xs.numbers()': 'memoryview',
-            'half(1) * 2': 'Value', 'half(1) < 2': 'bool',
+            '(xs > 1).any()': 'bool', '(xs > 1).sum()': 'int', 'half(1) * 2': 'Value', 'half(1) < 2': 'bool',
             'half.from_bits(1)': 'Value', 'half.from_bits([1])': 'Array', 'stored.array([1])[:1]': 'StoredArray',
             'stored.array([1]).to(half)': 'Array', 'mx.quantize([1]).dequantize()': 'Array', 'finfo(half).max': 'Value',
         }
