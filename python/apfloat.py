@@ -749,7 +749,8 @@ class StorageFormat:
         bytes are refused: `from_bits` takes the bits of values.
         """
         given = self._numbers(of)
-        return given if isinstance(given, StoredArray) else given.to(self, saturate)
+        made: StoredArray = given if isinstance(given, StoredArray) else given.to(self, saturate)
+        return made
 
     def _numbers(self, of: Any) -> Any:
         """The numbers of an array of any kind; values of this format as they are."""
@@ -780,7 +781,9 @@ class StorageFormat:
         >>> float4_e2m1fn.array_randomly([1.25] * 4, [0, 1, 2, 3], digits=2)
         float4_e2m1fn.array([1.0, 1.0, 1.5, 1.5])
         """
-        if not isinstance(randoms, (bytes, bytearray, memoryview)):
+        if hasattr(randoms, '__array_interface__') and randoms.dtype.kind == 'u' and randoms.dtype.itemsize <= 4:
+            randoms = randoms.astype('<u4').tobytes()
+        elif not isinstance(randoms, (bytes, bytearray, memoryview)):
             numbers = randoms.reshape(-1).tolist() if hasattr(randoms, 'tolist') else _nested(randoms)[1]
             randoms = b''.join(operator.index(number).to_bytes(4, 'little') for number in numbers)
         return self._by(_RANDOM_DIGITS, of, digits, bytes(randoms))
@@ -1879,6 +1882,18 @@ class _Elements(Generic[_Element]):
         order.insert(to, axis)
         return self if order == list(range(self.ndim)) else self.transpose(order)
 
+    def _rows(self, axis: int | None) -> tuple[Self, tuple[int, ...]]:
+        """The array in rows along an axis, and the shape of what there is one of for each row."""
+        moved = self if axis is None else self._moved(_axis(axis, self.ndim), self.ndim - 1)
+        shape = () if axis is None else moved.shape[:-1]
+        length = self.size if axis is None else moved.shape[-1]
+        return moved.reshape(math.prod(shape), length), shape
+
+    def _last_rows(self) -> list[bytes]:
+        """The bytes of the rows along the last axis."""
+        data, length = self._data, self.shape[-1] * self._width
+        return [data[place * length:(place + 1) * length] for place in range(math.prod(self.shape[:-1]))]
+
     def __len__(self) -> int:
         if not self.shape:
             raise TypeError('an array without axes has no length')
@@ -2085,22 +2100,50 @@ class Mask(_Elements[bool]):
         made = value if isinstance(value, Mask) else Mask(value)
         return self._like(made._data, made.shape)
 
-    def any(self) -> bool:
-        """Whether it holds for any element."""
-        return 1 in self._data
+    @overload
+    def any(self, axis: None = None, out: None = None) -> bool: ...
 
-    def all(self) -> bool:
-        """Whether it holds for all elements."""
-        return 0 not in self._data
+    @overload
+    def any(self, axis: int, out: None = None) -> Any: ...
 
-    def sum(self) -> int:
-        """For how many elements it holds."""
-        return self._data.count(1)
+    def any(self, axis: int | None = None, out: None = None) -> Any:
+        """Whether it holds for any element: of all, or nested lists along an axis. numpy passes `out`, as None."""
+        return self._of_rows(lambda row: 1 in row, axis, out)
+
+    @overload
+    def all(self, axis: None = None, out: None = None) -> bool: ...
+
+    @overload
+    def all(self, axis: int, out: None = None) -> Any: ...
+
+    def all(self, axis: int | None = None, out: None = None) -> Any:
+        """Whether it holds for all elements, likewise."""
+        return self._of_rows(lambda row: 0 not in row, axis, out)
+
+    @overload
+    def sum(self, axis: None = None, dtype: None = None, out: None = None) -> int: ...
+
+    @overload
+    def sum(self, axis: int, dtype: None = None, out: None = None) -> Any: ...
+
+    def sum(self, axis: int | None = None, dtype: None = None, out: None = None) -> Any:
+        """For how many elements it holds, likewise.
+
+        >>> (half.array([[1, -2, 3], [4, 0, -6]]) > 0).sum(axis=1)
+        [2, 1]
+        """
+        return self._of_rows(lambda row: row.count(1), axis, dtype, out)
+
+    def _of_rows(self, what: Callable[[bytes], int], axis: int | None, *given: None) -> Any:
+        """What is found of the bytes of each row along an axis."""
+        _none_given(*given)
+        rows, shape = self._rows(axis)
+        return _listed(map(what, rows._last_rows()), shape)
 
     def __bool__(self) -> bool:
         if self.size != 1:
             raise ValueError(f'a mask of {self.size} elements is neither true nor false: use any() or all()')
-        return self.any()
+        return 1 in self._data
 
     def _combined(self, other: Any, operation: Callable[[int, int], int], then: int = 0) -> Mask:
         """What an operation makes of the elements of two masks, each of them then joined to the same bit."""
@@ -2161,29 +2204,31 @@ class _Numbers(_Elements[Value]):
         return self.format
 
     @overload
-    def max(self, axis: None = None) -> Value: ...
+    def max(self, axis: None = None, out: None = None) -> Value: ...
 
     @overload
-    def max(self, axis: int) -> Value | Self: ...
+    def max(self, axis: int, out: None = None) -> Value | Self: ...
 
-    def max(self, axis: int | None = None) -> Any:
+    def max(self, axis: int | None = None, out: None = None) -> Any:
         """The greatest value, of all or along an axis: the first NaN if there is one, and -0 is below +0.
+
+        numpy passes `out`, as None.
 
         >>> xs = half.array([[1, -2, 3], [4, 0, -6]])
         >>> xs.max(), xs.min(axis=1), xs.argmax(), xs.argmin(axis=0)
         (half('4.0'), half.array(['-2.0', '-6.0']), 3, [0, 0, 1])
         """
-        return self._extreme(True, axis)
+        return self._extreme(True, axis, out)
 
     @overload
-    def min(self, axis: None = None) -> Value: ...
+    def min(self, axis: None = None, out: None = None) -> Value: ...
 
     @overload
-    def min(self, axis: int) -> Value | Self: ...
+    def min(self, axis: int, out: None = None) -> Value | Self: ...
 
-    def min(self, axis: int | None = None) -> Any:
+    def min(self, axis: int | None = None, out: None = None) -> Any:
         """The least value, of all or along an axis: the first NaN if there is one, and -0 is below +0."""
-        return self._extreme(False, axis)
+        return self._extreme(False, axis, out)
 
     def argmax(self, axis: int | None = None) -> Any:
         """The place of the greatest value: in the array as one row, or nested lists of the places along an axis."""
@@ -2193,20 +2238,14 @@ class _Numbers(_Elements[Value]):
         """The place of the least value: in the array as one row, or nested lists of the places along an axis."""
         return self._place_of_extreme(False, axis)
 
-    def _rows(self, axis: int | None) -> tuple[Self, tuple[int, ...]]:
-        """The array in rows along an axis, and the shape of what there is one of for each row."""
-        moved = self if axis is None else self._moved(_axis(axis, self.ndim), self.ndim - 1)
-        shape = () if axis is None else moved.shape[:-1]
-        length = self.size if axis is None else moved.shape[-1]
-        return moved.reshape(math.prod(shape), length), shape
-
     def _places_of_extremes(self, greatest: bool, axis: int | None) -> tuple[Self, tuple[int, ...], list[int]]:
         rows, shape = self._rows(axis)
         if not rows.shape[1]:
             raise ValueError('no value is the greatest or the least of none')
         return rows, shape, _extremes(rows._exact(), greatest)
 
-    def _extreme(self, greatest: bool, axis: int | None) -> Any:
+    def _extreme(self, greatest: bool, axis: int | None, out: None) -> Any:
+        _none_given(out)
         rows, shape, places = self._places_of_extremes(greatest, axis)
         if not shape:
             return rows[0, places[0]]
@@ -2254,6 +2293,17 @@ class _Numbers(_Elements[Value]):
         return self.__array__().__dlpack__()
 
 
+# The functions of numpy behind its operators, with the methods of an array on their left, and of one on their right.
+_OPERATORS_OF_NUMPY = {
+    'add': ('__add__', '__radd__'), 'subtract': ('__sub__', '__rsub__'), 'multiply': ('__mul__', '__rmul__'),
+    'divide': ('__truediv__', '__rtruediv__'), 'true_divide': ('__truediv__', '__rtruediv__'),
+    'remainder': ('__mod__', '__rmod__'), 'matmul': ('__matmul__', '__rmatmul__'), 'equal': ('__eq__', '__eq__'),
+    'not_equal': ('__ne__', '__ne__'), 'less': ('__lt__', '__gt__'), 'less_equal': ('__le__', '__ge__'),
+    'greater': ('__gt__', '__lt__'), 'greater_equal': ('__ge__', '__le__'), 'negative': ('__neg__',),
+    'positive': ('__pos__',), 'absolute': ('__abs__',),
+}
+
+
 class Array(_Numbers, _Arithmetic[Any]):
     """Values of one format in any number of axes. An operation makes a new array, of the results of its elements.
 
@@ -2279,8 +2329,6 @@ class Array(_Numbers, _Arithmetic[Any]):
     format: Format
     counts: Any
 
-    # Operators of numpy leave these arrays to this class.
-    __array_ufunc__ = None
     # As arrays are compared element by element, they are no keys.
     __hash__ = None  # type: ignore[assignment]
 
@@ -2370,6 +2418,18 @@ class Array(_Numbers, _Arithmetic[Any]):
         held = numpy.frombuffer(exact._data if copy is False else bytearray(exact._data), '<' + elements)
         held = held.reshape(self.shape)
         return held.astype(wanted, copy=False) if elements[0] == 'f' else held.view(wanted)
+
+    def __array_ufunc__(self, function: Any, method: str, *operands: Any, **options: Any) -> Any:
+        """Operators of numpy leave these arrays to this class, and its other functions get the numbers."""
+        names = _OPERATORS_OF_NUMPY.get(function.__name__)
+        if names and method == '__call__' and not options:
+            place = 0 if isinstance(operands[0], Array) else 1
+            return getattr(operands[place], names[place])(*operands[:place], *operands[place + 1:])
+        if any(isinstance(each, Array) for each in options.get('out', ())):
+            return NotImplemented
+        import numpy
+        numbers = [numpy.asarray(each) if isinstance(each, Array) else each for each in operands]
+        return getattr(function, method)(*numbers, **options)
 
     def _exactly(self, format: Any) -> Any:
         """The same values in another format, which has to have all of them."""
@@ -2590,6 +2650,12 @@ class Array(_Numbers, _Arithmetic[Any]):
         dtype = numpy.dtype(of)
         return numpy.asarray(self.to(_stored_of(dtype) or _named(dtype), saturate), of)
 
+    @overload
+    def sum(self, axis: None = None, dtype: None = None, out: None = None) -> Value: ...
+
+    @overload
+    def sum(self, axis: int, dtype: None = None, out: None = None) -> Value | Self: ...
+
     def sum(self, axis: int | None = None, dtype: None = None, out: None = None) -> Any:
         """The sum of the values, of all or along an axis: the exact sum, rounded once, whatever their order.
 
@@ -2609,6 +2675,12 @@ class Array(_Numbers, _Arithmetic[Any]):
         """The sum of the squares of the values, likewise: no square is rounded."""
         return self._summed('sum_square', axis)
 
+    @overload
+    def mean(self, axis: None = None, dtype: None = None, out: None = None) -> Value: ...
+
+    @overload
+    def mean(self, axis: int, dtype: None = None, out: None = None) -> Value | Self: ...
+
     def mean(self, axis: int | None = None, dtype: None = None, out: None = None) -> Any:
         """The mean of the values, of all or along an axis: the exact mean, rounded once. There is none of no values.
 
@@ -2619,7 +2691,7 @@ class Array(_Numbers, _Arithmetic[Any]):
         rows, shape = self._rows(axis)
         if not rows.shape[1]:
             raise ValueError('no values have no mean')
-        return self._shaped([rows[place]._mean().bits for place in range(rows.shape[0])], shape)
+        return self._shaped([row._mean().bits for row in rows], shape)
 
     def _mean(self) -> Value:
         """The mean of the values along the only axis."""
@@ -2653,11 +2725,6 @@ class Array(_Numbers, _Arithmetic[Any]):
             raise ValueError(f'arrays of the shapes {self.shape} and {right.shape} have no product')
         return self._reduced('dot', itertools.product(self._last_rows(), right.T._last_rows()),
                              self.shape[:-1] + right.shape[1:])
-
-    def _last_rows(self) -> list[bytes]:
-        """The bytes of the rows along the last axis."""
-        data, length = self._data, self.shape[-1] * self._width
-        return [data[place * length:(place + 1) * length] for place in range(math.prod(self.shape[:-1]))]
 
     def _summed(self, name: str, axis: int | None, *given: None) -> Any:
         _none_given(*given)
@@ -3102,7 +3169,7 @@ def _quantized_by(rule: str, values: Array, elements: Any, block: int) -> tuple[
             numbers[first:first + block] = array.array('d', bytes(8 * block))
             scales.append(255)
             continue
-        significand, exponent = math.frexp(max(map(abs, part)))
+        significand, exponent = math.frexp(max(abs(number) for number in part))
         one_more = significand > largest if rule == 'ceil' else significand >= 1 - 0.5 ** (elements._precision + 1)
         scales.append(min(max(exponent - most + one_more + 127, 0), 254) if significand else 0)
     with Context():
@@ -3357,7 +3424,7 @@ def _span(first: int, length: int, stride: int) -> slice:
 def _none_given(*given: Any) -> None:
     """Refuses what functions of numpy are given and arrays lack."""
     if any(each is not None for each in given):
-        raise TypeError('a sum or a mean is of the format of its array, and a new value or array')
+        raise TypeError('no dtype or out is taken: what is made of an array is new, and of a type that follows from it')
 
 
 def _axis(axis: Any, ndim: int) -> int:

@@ -948,6 +948,8 @@ class ArrayTests(unittest.TestCase):
         xs = apfloat.half.array([[1, 2], [3, 4]])
         mask = xs > 2
         self.assertEqual((mask.any(), mask.all(), mask.sum(), mask.shape), (True, False, 2, (2, 2)))
+        self.assertEqual((mask.any(axis=1), mask.all(axis=1), mask.sum(axis=0)), ([False, True], [False, True], [1, 1]))
+        self.assertEqual((mask[:0].any(), mask[:0].all(), mask[:0].sum(axis=0)), (False, True, [0, 0]))
         self.assertEqual((mask & (xs < 4)).tolist(), [[False, False], [True, False]])
         self.assertEqual((mask | True).all(), True)
         self.assertEqual((~mask == (xs <= 2)).all(), True)
@@ -1759,7 +1761,8 @@ class TypeTests(unittest.TestCase):
         known = {
             'xs[0]': 'Value | Array', 'xs[0, 1]': 'Value | Array', 'xs[1:]': 'Array', 'xs[[0, 1]]': 'Array',
             'xs[xs > 1]': 'Array', 'xs > 1': 'Mask', '(xs > 1)[0]': 'bool | Mask', 'xs + 1': 'Array', 'xs.T': 'Array',
-            'xs.max()': 'Value', 'xs.numbers()': 'memoryview', 'half(1) * 2': 'Value', 'half(1) < 2': 'bool',
+            'xs.max()': 'Value', 'xs.sum()': 'Value', 'xs.mean(0)': 'Value | Array', 'xs.numbers()': 'memoryview',
+            '(xs > 1).any()': 'bool', '(xs > 1).sum()': 'int', 'half(1) * 2': 'Value', 'half(1) < 2': 'bool',
             'half.from_bits(1)': 'Value', 'half.from_bits([1])': 'Array', 'stored.array([1])[:1]': 'StoredArray',
             'stored.array([1]).to(half)': 'Array', 'mx.quantize([1]).dequantize()': 'Array', 'finfo(half).max': 'Value',
         }
@@ -1919,7 +1922,7 @@ class NumpyTests(unittest.TestCase):
 
     def test_functions_take_numbers(self):
         xs = apfloat.e4m3fn.array([[0.5, -1, 2], [3, -4, 0.25]])
-        self.assertEqual((numpy.mean(xs), numpy.argmax(xs)), (0.125, 3))
+        self.assertEqual((numpy.mean(xs), numpy.argmax(xs), numpy.max(xs), numpy.min(xs)), (0.125, 3, 3, -4))
         self.assertAlmostEqual(float(numpy.linalg.norm(xs)), math.sqrt(30.3125), 1)
         self.assertEqual(numpy.concatenate([xs, xs]).tolist(), numpy.asarray(xs).tolist() * 2)
         self.assertEqual(numpy.where(xs > 0, xs, 0).tolist(), [[0.5, 0, 2], [3, 0, 0.25]])
@@ -1927,6 +1930,44 @@ class NumpyTests(unittest.TestCase):
         numpy.save(saved, xs)
         saved.seek(0)
         self.assertEqual(numpy.load(saved).tolist(), [[0.5, -1, 2], [3, -4, 0.25]])
+        self.assertEqual((numpy.any(xs > 3), numpy.all(xs > -5), numpy.sum(xs > 0)), (False, True, 4))
+        with self.assertRaises(TypeError):
+            numpy.max(xs, out=numpy.empty(()))
+
+    def test_functions_and_operators(self):
+        xs, ones = apfloat.half.array([[0.5, -1, 2], [3, -4, math.nan]]), numpy.ones((2, 3), numpy.float16)
+        numbers = numpy.asarray(xs)
+        for function in numpy.isnan, numpy.signbit, numpy.square, numpy.sign:
+            self.assertEqual(str(function(xs)), str(function(numbers)))
+        self.assertEqual(str(numpy.maximum(xs, 0)), str(numpy.maximum(numbers, 0)))
+        self.assertEqual(str(numpy.multiply.reduce(xs)), str(numpy.multiply.reduce(numbers)))
+        ones += xs
+        self.assertEqual(str(ones), str(numbers + 1))
+        with self.assertRaises(TypeError):
+            numpy.add(ones, ones, out=xs)
+        # Operators of numpy are those of the array, which round once, and raise flags.
+        row = numpy.array([1, 3, 8], numpy.float16)
+        for made, wanted in ((row + xs, xs + row), (row - xs[0], [0.5, 4, 6]), (row * xs, xs * row),
+                             (row % xs[:1], [[0.0, -0.0, 0.0]]), (row / xs[:1], [[2, -3, 4]]),
+                             (row @ xs.T[:, :1], [13.5]), (abs(xs), numpy.abs(xs)), (-xs, numpy.negative(xs)),
+                             (numpy.float32(2) * xs, xs * 2)):
+            self.assertIs(type(made), Array)
+            self.assertEqual(repr(made), repr(apfloat.half.array(wanted)))
+        for made, wanted in ((row < xs, xs > row), (row <= xs, xs >= row), (row > xs, xs < row), (row >= xs, xs <= row),
+                             (row == xs, xs == row), (row != xs, xs != row)):
+            self.assertIs(type(made), Mask)
+            self.assertEqual(made.tolist(), wanted.tolist())
+        with self.assertRaisesRegex(TypeError, 'convert one of them'):
+            row.astype(numpy.float32) + xs
+
+    def test_random_numbers(self):
+        for dtype in 'u1', '<u2', '>u4', 'i8':
+            randoms = numpy.array([[0, 1], [2, 3]], dtype)
+            made = apfloat.float4_e2m1fn.array_randomly([[1.25, 1.25], [1.25, 1.25]], randoms, digits=2)
+            self.assertEqual([float(value) for value in made.reshape(4)], [1, 1, 1.5, 1.5])
+        for randoms in numpy.array([-1]), numpy.array([1 << 32]), numpy.array([0.5]):
+            with self.assertRaises((TypeError, OverflowError)):
+                apfloat.float4_e2m1fn.array_randomly([1.25], randoms)
 
     def test_types_of_numbers(self):
         for format in SMALL:
