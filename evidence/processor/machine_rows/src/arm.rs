@@ -112,13 +112,13 @@ fn in_format<S: Semantics>(name: &str, mut control: Control, operands: &[u128]) 
     match name {
         "fadd" => two(x.add_r(y, round)),
         "fsub" => two(x.sub_r(y, round)),
-        "fmul" => two(x.mul_r(y, round)),
+        "fmul" | "fnmul" => two(x.mul_r(y, round)),
         "fdiv" => two(x.div_r(y, round)),
         "fminnm" => valued(least(MinimumRule::Number2008, machine, x, y)),
         "fmaxnm" => valued(greatest(MinimumRule::Number2008, machine, x, y)),
         "fmin" => valued(least(MinimumRule::Propagated, machine, x, y)),
         "fmax" => valued(greatest(MinimumRule::Propagated, machine, x, y)),
-        "fmadd" => {
+        "fmadd" | "fmsub" | "fnmadd" | "fnmsub" => {
             let z = drawn.next().expect("three operands");
             let answer = settled_fused(machine, x, y, z, x.mul_add_r(y, z, round));
             valued(answer.expect("Arm has fused sums"))
