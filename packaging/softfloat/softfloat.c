@@ -1,4 +1,5 @@
-/* The interface of Berkeley SoftFloat 3e, made of calls of libapfloat. README.md here says how to build it. */
+/* The interface of Berkeley SoftFloat 3e, made of calls of libapfloat: with the state of a thread or, by
+ * -DSOFTFLOAT_STATUS, a status that is passed. README.md here says how to build it. */
 #include "softfloat.h"
 
 #include "apfloat.h"
@@ -36,7 +37,28 @@
 #define TININESS softfloat_tininess_afterRounding
 #endif
 
-/* ---- the state of a thread */
+/* ---- the state: that of a thread, or the status that is the last argument
+ *
+ * The five lowest bits of a status of the library are APFLOAT_INVALID_OP, .._DIV_BY_ZERO, .._OVERFLOW, .._UNDERFLOW and
+ * .._INEXACT. SoftFloat has them in the opposite order; a status that is passed has them in the same one, with the flag
+ * of a denormal operand after the first. */
+
+#define AND_STATUS SOFTFLOAT_AND_STATUS
+#ifdef SOFTFLOAT_STATUS
+#define WITH_STATUS , status
+#define BITS(A) (A)
+#define IN_STATE(NAME) status->NAME
+#define DETECTED_TININESS TININESS
+
+INLINE void raise_flags(uint32_t flags AND_STATUS) {
+    const uint32_t first = flags & APFLOAT_INVALID_OP;
+    softfloat_raiseFlags(status, (int)(first | (flags - first) << 1));
+}
+#else
+#define WITH_STATUS
+#define BITS(A) ((A).v)
+#define IN_STATE(NAME) NAME
+#define DETECTED_TININESS softfloat_detectTininess
 
 THREAD_LOCAL uint_fast8_t softfloat_detectTininess = TININESS;
 THREAD_LOCAL uint_fast8_t softfloat_roundingMode = softfloat_round_near_even;
@@ -47,21 +69,16 @@ void softfloat_raiseFlags(uint_fast8_t flags) {
     softfloat_exceptionFlags |= flags;
 }
 
-/* The flags of a status, whose five lowest bits are APFLOAT_INVALID_OP, .._DIV_BY_ZERO, .._OVERFLOW, .._UNDERFLOW and
- * .._INEXACT: SoftFloat has them in the opposite order. */
-static uint_fast8_t flags_of(uint32_t status) {
+INLINE void raise_flags(uint32_t flags) {
     static const uint8_t reversed[32] = {0, 16, 8, 24, 4, 20, 12, 28, 2, 18, 10, 26, 6, 22, 14, 30,
                                          1, 17, 9, 25, 5, 21, 13, 29, 3, 19, 11, 27, 7, 23, 15, 31};
-    return reversed[status & 31];
+    if (flags) softfloat_raiseFlags(reversed[flags & 31]);
 }
-
-static inline void raise_status(uint32_t status) {
-    if (status) softfloat_raiseFlags(flags_of(status));
-}
+#endif
 
 /* The result, with its flags raised. */
-static inline apfloat_halves raised(apfloat_answer answer) {
-    raise_status(answer.status);
+INLINE apfloat_halves raised(apfloat_answer answer AND_STATUS) {
+    raise_flags(answer.status WITH_STATUS);
     return answer.bits;
 }
 
@@ -86,16 +103,16 @@ static apfloat_halves of_low(uint64_t low) {
 }
 
 static apfloat_halves of_f16(float16_t a) {
-    return of_low(a.v);
+    return of_low(BITS(a));
 }
 static apfloat_halves of_bf16(bfloat16_t a) {
-    return of_low(a.v);
+    return of_low(BITS(a));
 }
 static apfloat_halves of_f32(float32_t a) {
-    return of_low(a.v);
+    return of_low(BITS(a));
 }
 static apfloat_halves of_f64(float64_t a) {
-    return of_low(a.v);
+    return of_low(BITS(a));
 }
 static apfloat_halves of_extF80(extFloat80_t a) {
     const apfloat_halves halves = {a.signif, a.signExp};
@@ -137,9 +154,9 @@ static float128_t as_f128(apfloat_halves bits) {
 
 /* ---- calls of the library */
 
-/* The format with the flags of IEEE 754 and the tininess of the thread. */
+/* The format with the flags of IEEE 754 and the tininess of the state. */
 INLINE uint32_t ruled(uint32_t format) {
-    const bool is_before = softfloat_detectTininess == softfloat_tininess_beforeRounding;
+    const bool is_before = DETECTED_TININESS == softfloat_tininess_beforeRounding;
     return format | APFLOAT_IEEE_FLAGS | (is_before ? APFLOAT_TINY_BEFORE_ROUNDING : 0);
 }
 
@@ -235,9 +252,8 @@ static int32_t class_of(uint32_t format, apfloat_halves x) {
  * format of so many digits. Before it, a result near the greatest or the least exponents of extFloat80_t is multiplied
  * by the power of two that takes these to those of the format, and any other by one that takes it near 1; afterwards,
  * by the inverse. These products are exact. */
-static apfloat_answer narrowed(apfloat_answer odd, uint32_t format) {
+static apfloat_answer narrowed(apfloat_answer odd, uint32_t format, uint_fast8_t mode) {
     const int32_t end = format == APFLOAT_DOUBLE ? 16383 - 1023 : 16383 - 127, margin = 64;
-    const uint_fast8_t mode = softfloat_roundingMode;
     apfloat_answer exponent = {{0, 0}, 0, 0}, scaled = exponent, narrow = exponent, wide = exponent, result = exponent;
     int32_t power;
     apfloat_ilogb(APFLOAT_X87, odd.bits, &exponent);
@@ -261,68 +277,169 @@ static bool is_nonzero_number(apfloat_answer truncated) {
     }
 }
 
-/* ---- operations */
-
 /* A result with 53 or 24 digits. */
-OUT_OF_LINE apfloat_halves shortened(uint32_t operation, uint32_t digits, apfloat_halves x, apfloat_halves y) {
-    const uint_fast8_t mode = softfloat_roundingMode;
+OUT_OF_LINE apfloat_answer shortened(uint32_t operation, uint32_t digits, uint_fast8_t mode, apfloat_halves x,
+                                     apfloat_halves y) {
     const apfloat_answer truncated = by_machine(operation, APFLOAT_X87, APFLOAT_TOWARD_ZERO, 0, x, y, y);
     if (is_nonzero_number(truncated)) {
         const apfloat_answer odd = odd_if_asked(truncated, softfloat_round_odd);
-        return raised(narrowed(odd, digits == 64 ? APFLOAT_DOUBLE : APFLOAT_SINGLE));
+        return narrowed(odd, digits == 64 ? APFLOAT_DOUBLE : APFLOAT_SINGLE, mode);
     }
-    return raised(odd_if_asked(by_machine(operation, APFLOAT_X87, direction(mode), 0, x, y, y), mode));
+    return odd_if_asked(by_machine(operation, APFLOAT_X87, direction(mode), 0, x, y, y), mode);
 }
 
-/* A sum, a difference, a product, a quotient, a remainder or a square root in the mode of the thread. */
-INLINE apfloat_halves computed(uint32_t operation, uint32_t format, apfloat_halves x, apfloat_halves y) {
-    const uint_fast8_t mode = softfloat_roundingMode, digits = extF80_roundingPrecision;
-    if (format == APFLOAT_X87 && operation != APFLOAT_REM && (digits == 64 || digits == 32))
-        return shortened(operation, digits, x, y);
-    return raised(odd_if_asked(delivered(operation, format, direction(mode), 0, x, y, y), mode));
+/* ---- denormal operands and results, which only a status that is passed has a say in */
+
+#ifdef SOFTFLOAT_STATUS
+#if defined(SOFTFLOAT_ARM_VFPV2) || defined(SOFTFLOAT_ARM_VFPV2_DEFAULTNAN)
+enum { IS_ARM = true, FLAGS_OF_FLUSHED = APFLOAT_UNDERFLOW };
+#else
+enum { IS_ARM = false, FLAGS_OF_FLUSHED = APFLOAT_UNDERFLOW | APFLOAT_INEXACT };
+#endif
+
+/* The bit of the sign. */
+static apfloat_halves sign_bit(uint32_t format) {
+    apfloat_halves sign = {0, 0};
+    switch (format) {
+    case APFLOAT_HALF:
+    case APFLOAT_BFLOAT: sign.low = 0x8000; break;
+    case APFLOAT_SINGLE: sign.low = UINT32_C(1) << 31; break;
+    case APFLOAT_DOUBLE: sign.low = UINT64_C(1) << 63; break;
+    case APFLOAT_X87: sign.high = 0x8000; break;
+    default: sign.high = UINT64_C(1) << 63;
+    }
+    return sign;
+}
+
+static bool is_denormal(uint32_t format, apfloat_halves bits) {
+    const apfloat_halves sign = sign_bit(format);
+    bits.low &= ~sign.low, bits.high &= ~sign.high;
+    if (bits.low == 0 && bits.high == 0) return false;
+    switch (format) {
+    case APFLOAT_HALF: return bits.low >> 10 == 0;
+    case APFLOAT_BFLOAT: return bits.low >> 7 == 0;
+    case APFLOAT_SINGLE: return bits.low >> 23 == 0;
+    case APFLOAT_DOUBLE: return bits.low >> 52 == 0;
+    case APFLOAT_X87: return bits.high == 0; /* with an integer bit too */
+    default: return bits.high >> 48 == 0;
+    }
+}
+
+static apfloat_halves zero_like(uint32_t format, apfloat_halves bits) {
+    const apfloat_halves sign = sign_bit(format);
+    bits.low &= sign.low, bits.high &= sign.high;
+    return bits;
+}
+
+/* The operand, with the opposite sign if a bit of `op` says so and it is no NaN. */
+#define SIGNED(FORMAT, X, BIT) (op & (BIT) ? negated_number(FORMAT, X) : (X))
+static apfloat_halves negated_number(uint32_t format, apfloat_halves x) {
+    const apfloat_halves sign = sign_bit(format);
+    if (!is_nan(format, x)) x.low ^= sign.low, x.high ^= sign.high;
+    return x;
+}
+
+/* The operand, or the zero that a denormal one is taken for, which ARM alone tells. */
+INLINE apfloat_halves taken(uint32_t format, apfloat_halves x AND_STATUS) {
+    if (!status->softfloat_denormals_are_zeros || !is_denormal(format, x)) return x;
+    if (IS_ARM) softfloat_raiseFlags(status, softfloat_flag_denormal);
+    return zero_like(format, x);
+}
+
+/* Raises the flag of a denormal operand, as x86 does: not beside a NaN, and with no other flag of operands. */
+INLINE void raise_denormal(uint32_t format, uint32_t flags, apfloat_halves x, apfloat_halves y,
+                           apfloat_halves z AND_STATUS) {
+    const bool is_other = (flags & (APFLOAT_INVALID_OP | APFLOAT_DIV_BY_ZERO)) || is_nan(format, x) ||
+                          is_nan(format, y) || is_nan(format, z);
+    if (!IS_ARM && !is_other && (is_denormal(format, x) || is_denormal(format, y) || is_denormal(format, z)))
+        softfloat_raiseFlags(status, softfloat_flag_denormal);
+}
+
+/* A tiny result is flushed if that is asked for and underflow is masked. Where it is not, an exact one underflows too
+ * (IEEE 754-2019 7.5). */
+INLINE apfloat_answer flushed(uint32_t format, apfloat_answer answer AND_STATUS) {
+    if (!(answer.status & APFLOAT_UNDERFLOW) && !is_denormal(format, answer.bits)) return answer;
+    if (!softfloat_isMaskedException(status, softfloat_flag_underflow)) {
+        answer.status |= APFLOAT_UNDERFLOW;
+    } else if (status->softfloat_flush_underflow_to_zero) {
+        answer.bits = zero_like(format, answer.bits);
+        answer.status = FLAGS_OF_FLUSHED;
+    }
+    return answer;
+}
+#else
+#define SIGNED(FORMAT, X, BIT) (X)
+#define taken(FORMAT, X) (X)
+#define raise_denormal(FORMAT, FLAGS, X, Y, Z) ((void)0)
+#define flushed(FORMAT, ANSWER) (ANSWER)
+#endif
+
+/* ---- operations */
+
+/* A sum, a difference, a product, a quotient, a remainder or a square root in the mode of the state. */
+INLINE apfloat_halves computed(uint32_t operation, uint32_t format, apfloat_halves a, apfloat_halves b AND_STATUS) {
+    const uint_fast8_t mode = IN_STATE(softfloat_roundingMode), digits = IN_STATE(extF80_roundingPrecision);
+    const bool is_shortened = format == APFLOAT_X87 && operation != APFLOAT_REM && (digits == 64 || digits == 32);
+    const apfloat_halves x = taken(format, a WITH_STATUS), y = taken(format, b WITH_STATUS);
+    const apfloat_answer answer = is_shortened
+                                      ? shortened(operation, digits, mode, x, y)
+                                      : odd_if_asked(delivered(operation, format, direction(mode), 0, x, y, y), mode);
+    raise_denormal(format, answer.status, x, y, y WITH_STATUS);
+    return raised(flushed(format, answer WITH_STATUS) WITH_STATUS);
 }
 
 /* A product plus a third value of which the result is a NaN. SoftFloat takes the NaN of the two factors, that of an
- * invalid product among them, and then that of this NaN and the third value, on every machine. */
-OUT_OF_LINE apfloat_halves fused_nan(uint32_t format, uint32_t mode, apfloat_halves x, apfloat_halves y,
+ * invalid product among them, and then that of this NaN and the third value, on every machine. With a status that is
+ * passed it is the processor's. */
+OUT_OF_LINE apfloat_answer fused_nan(uint32_t format, uint32_t mode, apfloat_halves x, apfloat_halves y,
                                      apfloat_halves z) {
-    apfloat_answer product, sum;
-    if (!is_nan(format, x) && !is_nan(format, y) && !is_nan(format, z))
-        return raised(by_machine(APFLOAT_FMA, format, mode, 0, x, y, z));
-    product = by_machine(APFLOAT_MUL, format, APFLOAT_TOWARD_ZERO, 0, x, y, y);
-    if (!is_nan(format, product.bits)) product.status = 0; /* the third value is the NaN */
-    if (!is_nan(format, z)) return raised(product);
-    sum = by_machine(APFLOAT_ADD, format, APFLOAT_TOWARD_ZERO, 0, product.bits, z, z);
-    sum.status |= product.status;
-    return raised(sum);
+#ifndef SOFTFLOAT_STATUS
+    if (is_nan(format, x) || is_nan(format, y) || is_nan(format, z)) {
+        apfloat_answer product = by_machine(APFLOAT_MUL, format, APFLOAT_TOWARD_ZERO, 0, x, y, y), sum;
+        if (!is_nan(format, product.bits)) product.status = 0; /* the third value is the NaN */
+        if (!is_nan(format, z)) return product;
+        sum = by_machine(APFLOAT_ADD, format, APFLOAT_TOWARD_ZERO, 0, product.bits, z, z);
+        sum.status |= product.status;
+        return sum;
+    }
+#endif
+    return by_machine(APFLOAT_FMA, format, mode, 0, x, y, z);
 }
 
-INLINE apfloat_halves fused(uint32_t format, apfloat_halves x, apfloat_halves y, apfloat_halves z) {
-    const uint_fast8_t mode = softfloat_roundingMode;
+INLINE apfloat_halves fused(uint32_t format, apfloat_halves a, apfloat_halves b, apfloat_halves c AND_STATUS) {
+    const uint_fast8_t mode = IN_STATE(softfloat_roundingMode);
+    const apfloat_halves x = taken(format, a WITH_STATUS), y = taken(format, b WITH_STATUS);
+    const apfloat_halves z = taken(format, c WITH_STATUS);
     apfloat_answer answer = {{0, 0}, 0, 0};
     apfloat_fma(ruled(format), direction(mode), x, y, z, &answer);
-    if (is_nan(format, answer.bits)) return fused_nan(format, direction(mode), x, y, z);
-    return raised(odd_if_asked(answer, mode));
+    answer = is_nan(format, answer.bits) ? fused_nan(format, direction(mode), x, y, z) : odd_if_asked(answer, mode);
+    raise_denormal(format, answer.status, x, y, z WITH_STATUS);
+    return raised(flushed(format, answer WITH_STATUS) WITH_STATUS);
 }
 
-INLINE apfloat_halves converted(uint32_t format, uint32_t to, apfloat_halves x) {
-    const uint_fast8_t mode = softfloat_roundingMode;
-    return raised(odd_if_asked(delivered(APFLOAT_CONVERT, format, direction(mode), ruled(to), x, x, x), mode));
+/* What x87 stores in another format raises no flag of a denormal operand. */
+INLINE apfloat_halves converted(uint32_t format, uint32_t to, apfloat_halves a AND_STATUS) {
+    const uint_fast8_t mode = IN_STATE(softfloat_roundingMode);
+    const apfloat_halves x = taken(format, a WITH_STATUS);
+    const apfloat_answer answer =
+        odd_if_asked(delivered(APFLOAT_CONVERT, format, direction(mode), ruled(to), x, x, x), mode);
+    if (format != APFLOAT_X87) raise_denormal(format, answer.status, x, x, x WITH_STATUS);
+    return raised(flushed(to, answer WITH_STATUS) WITH_STATUS);
 }
 
-INLINE apfloat_halves of_unsigned(uint32_t format, uint64_t n) {
-    const uint_fast8_t mode = softfloat_roundingMode;
+INLINE apfloat_halves of_unsigned(uint32_t format, uint64_t n AND_STATUS) {
+    const uint_fast8_t mode = IN_STATE(softfloat_roundingMode);
     apfloat_answer answer = {{0, 0}, 0, 0};
     apfloat_from_u128(ruled(format), direction(mode), of_low(n), &answer);
-    return raised(odd_if_asked(answer, mode));
+    return raised(odd_if_asked(answer, mode) WITH_STATUS);
 }
 
-INLINE apfloat_halves of_signed(uint32_t format, int64_t n) {
+INLINE apfloat_halves of_signed(uint32_t format, int64_t n AND_STATUS) {
     const apfloat_halves number = {(uint64_t)n, n < 0 ? UINT64_MAX : 0};
-    const uint_fast8_t mode = softfloat_roundingMode;
+    const uint_fast8_t mode = IN_STATE(softfloat_roundingMode);
     apfloat_answer answer = {{0, 0}, 0, 0};
     apfloat_from_i128(ruled(format), direction(mode), number, &answer);
-    return raised(odd_if_asked(answer, mode));
+    return raised(odd_if_asked(answer, mode) WITH_STATUS);
 }
 
 /* The direction in which a value is rounded to an integer to odd: away from zero if the value lies between two integers
@@ -339,78 +456,92 @@ INLINE uint32_t direction_to_integer(uint32_t format, apfloat_halves x, uint_fas
     return mode == softfloat_round_odd ? direction_to_odd_integer(format, x) : direction(mode);
 }
 
-INLINE apfloat_halves integral(uint32_t format, apfloat_halves x, uint_fast8_t mode, bool exact) {
+/* FRNDINT alone of such instructions raises the flag of a denormal operand. */
+INLINE apfloat_halves integral(uint32_t format, apfloat_halves a, uint_fast8_t mode, bool exact AND_STATUS) {
     const uint32_t operation = exact ? APFLOAT_ROUND_TO_INTEGRAL : APFLOAT_INTEGRAL;
-    return raised(delivered(operation, format, direction_to_integer(format, x, mode), 0, x, x, x));
+    const apfloat_halves x = taken(format, a WITH_STATUS);
+    const apfloat_answer answer = delivered(operation, format, direction_to_integer(format, x, mode), 0, x, x, x);
+    if (format == APFLOAT_X87) raise_denormal(format, answer.status, x, x, x WITH_STATUS);
+    return raised(answer WITH_STATUS);
 }
 
 /* The value as an integer of `width` bits, in the lowest bits. */
-INLINE uint64_t integer(uint32_t operation, uint32_t format, apfloat_halves x, uint32_t width, uint_fast8_t mode,
-                        bool exact) {
+INLINE uint64_t integer(uint32_t operation, uint32_t format, apfloat_halves a, uint32_t width, uint_fast8_t mode,
+                        bool exact AND_STATUS) {
+    const apfloat_halves x = taken(format, a WITH_STATUS);
     apfloat_answer answer = delivered(operation, format, direction_to_integer(format, x, mode), width, x, x, x);
     if (!exact) answer.status &= ~APFLOAT_INEXACT;
-    return raised(answer).low;
+    return raised(answer WITH_STATUS).low;
 }
 
-INLINE bool compared(uint32_t format, uint32_t predicate, uint32_t on_nan, apfloat_halves x, apfloat_halves y) {
-    apfloat_answer answer = {{0, 0}, 0, 0};
-    apfloat_compare(format, x, y, &answer);
-    if (answer.number == APFLOAT_UNORDERED) {
-        apfloat_compare_predicate(format, predicate, on_nan, x, y, &answer);
-        raise_status(answer.status);
-        return answer.number;
+/* APFLOAT_LESS, APFLOAT_EQUAL, APFLOAT_GREATER or APFLOAT_UNORDERED. */
+INLINE int32_t ordered(uint32_t format, uint32_t on_nan, apfloat_halves a, apfloat_halves b AND_STATUS) {
+    const apfloat_halves x = taken(format, a WITH_STATUS), y = taken(format, b WITH_STATUS);
+    apfloat_answer order = {{0, 0}, 0, 0}, equal = {{0, 0}, 0, 0};
+    apfloat_compare(format, x, y, &order);
+    if (order.number == APFLOAT_UNORDERED) {
+        apfloat_compare_predicate(format, APFLOAT_IS_EQUAL, on_nan, x, y, &equal);
+        raise_flags(equal.status WITH_STATUS);
+    } else {
+        raise_denormal(format, 0, x, y, y WITH_STATUS);
     }
+    return order.number;
+}
+
+INLINE bool compared(uint32_t format, uint32_t predicate, uint32_t on_nan, apfloat_halves x,
+                     apfloat_halves y AND_STATUS) {
+    const int32_t order = ordered(format, on_nan, x, y WITH_STATUS);
     switch (predicate) {
-    case APFLOAT_IS_EQUAL: return answer.number == APFLOAT_EQUAL;
-    case APFLOAT_IS_LESS: return answer.number == APFLOAT_LESS;
-    default: return answer.number != APFLOAT_GREATER;
+    case APFLOAT_IS_EQUAL: return order == APFLOAT_EQUAL;
+    case APFLOAT_IS_LESS: return order == APFLOAT_LESS;
+    default: return order == APFLOAT_LESS || order == APFLOAT_EQUAL;
     }
 }
 
 /* ---- the functions of a format F of type T, and those of its pointers */
 
 #define OF_TWO(F, T, NAME, OPERATION) \
-    T F##_##NAME(T a, T b) { \
-        return as_##F(computed(OPERATION, CODE_##F, of_##F(a), of_##F(b))); \
+    T F##_##NAME(T a, T b AND_STATUS) { \
+        return as_##F(computed(OPERATION, CODE_##F, of_##F(a), of_##F(b) WITH_STATUS)); \
     }
 #define COMPARISON(F, T, NAME, PREDICATE, ON_NAN) \
-    bool F##_##NAME(T a, T b) { \
-        return compared(CODE_##F, PREDICATE, ON_NAN, of_##F(a), of_##F(b)); \
+    bool F##_##NAME(T a, T b AND_STATUS) { \
+        return compared(CODE_##F, PREDICATE, ON_NAN, of_##F(a), of_##F(b) WITH_STATUS); \
     }
 #define TO_INTEGER(F, T, I, RETURNED, INTEGER, OPERATION, WIDTH) \
-    RETURNED F##_to_##I(T a, uint_fast8_t mode, bool exact) { \
-        return (INTEGER)integer(OPERATION, CODE_##F, of_##F(a), WIDTH, mode, exact); \
+    RETURNED F##_to_##I(T a, uint_fast8_t mode, bool exact AND_STATUS) { \
+        return (INTEGER)integer(OPERATION, CODE_##F, of_##F(a), WIDTH, mode, exact WITH_STATUS); \
     } \
-    RETURNED F##_to_##I##_r_minMag(T a, bool exact) { \
-        return F##_to_##I(a, softfloat_round_minMag, exact); \
+    RETURNED F##_to_##I##_r_minMag(T a, bool exact AND_STATUS) { \
+        return F##_to_##I(a, softfloat_round_minMag, exact WITH_STATUS); \
     }
 #define OF_FORMAT(F, T) \
-    T ui32_to_##F(uint32_t n) { \
-        return as_##F(of_unsigned(CODE_##F, n)); \
+    T ui32_to_##F(uint32_t n AND_STATUS) { \
+        return as_##F(of_unsigned(CODE_##F, n WITH_STATUS)); \
     } \
-    T ui64_to_##F(uint64_t n) { \
-        return as_##F(of_unsigned(CODE_##F, n)); \
+    T ui64_to_##F(uint64_t n AND_STATUS) { \
+        return as_##F(of_unsigned(CODE_##F, n WITH_STATUS)); \
     } \
-    T i32_to_##F(int32_t n) { \
-        return as_##F(of_signed(CODE_##F, n)); \
+    T i32_to_##F(int32_t n AND_STATUS) { \
+        return as_##F(of_signed(CODE_##F, n WITH_STATUS)); \
     } \
-    T i64_to_##F(int64_t n) { \
-        return as_##F(of_signed(CODE_##F, n)); \
+    T i64_to_##F(int64_t n AND_STATUS) { \
+        return as_##F(of_signed(CODE_##F, n WITH_STATUS)); \
     } \
     TO_INTEGER(F, T, ui32, uint_fast32_t, uint32_t, APFLOAT_TO_U128, 32) \
     TO_INTEGER(F, T, ui64, uint_fast64_t, uint64_t, APFLOAT_TO_U128, 64) \
     TO_INTEGER(F, T, i32, int_fast32_t, int32_t, APFLOAT_TO_I128, 32) \
     TO_INTEGER(F, T, i64, int_fast64_t, int64_t, APFLOAT_TO_I128, 64) \
-    T F##_roundToInt(T a, uint_fast8_t mode, bool exact) { \
-        return as_##F(integral(CODE_##F, of_##F(a), mode, exact)); \
+    T F##_roundToInt(T a, uint_fast8_t mode, bool exact AND_STATUS) { \
+        return as_##F(integral(CODE_##F, of_##F(a), mode, exact WITH_STATUS)); \
     } \
     OF_TWO(F, T, add, APFLOAT_ADD) \
     OF_TWO(F, T, sub, APFLOAT_SUB) \
     OF_TWO(F, T, mul, APFLOAT_MUL) \
     OF_TWO(F, T, div, APFLOAT_DIV) \
     OF_TWO(F, T, rem, APFLOAT_REM) \
-    T F##_sqrt(T a) { \
-        return as_##F(computed(APFLOAT_SQRT, CODE_##F, of_##F(a), of_##F(a))); \
+    T F##_sqrt(T a AND_STATUS) { \
+        return as_##F(computed(APFLOAT_SQRT, CODE_##F, of_##F(a), of_##F(a) WITH_STATUS)); \
     } \
     COMPARISON(F, T, eq, APFLOAT_IS_EQUAL, APFLOAT_QUIET) \
     COMPARISON(F, T, le, APFLOAT_IS_LESS_EQUAL, APFLOAT_SIGNALING) \
@@ -422,8 +553,10 @@ INLINE bool compared(uint32_t format, uint32_t predicate, uint32_t on_nan, apflo
         return class_of(CODE_##F, of_##F(a)) == APFLOAT_SIGNALING_NAN; \
     }
 #define FUSED(F, T) \
-    T F##_mulAdd(T a, T b, T c) { \
-        return as_##F(fused(CODE_##F, of_##F(a), of_##F(b), of_##F(c))); \
+    T F##_mulAdd(T a, T b, T c SOFTFLOAT_AND_OP AND_STATUS) { \
+        const apfloat_halves x = SIGNED(CODE_##F, of_##F(a), softfloat_mulAdd_subProd); \
+        const apfloat_halves z = SIGNED(CODE_##F, of_##F(c), softfloat_mulAdd_subC); \
+        return as_##F(fused(CODE_##F, x, of_##F(b), z WITH_STATUS)); \
     }
 
 OF_FORMAT(f16, float16_t)
@@ -439,8 +572,8 @@ FUSED(f128, float128_t)
 /* ---- conversions between formats */
 
 #define TO_FORMAT(F, T, G, U) \
-    U F##_to_##G(T a) { \
-        return as_##G(converted(CODE_##F, CODE_##G, of_##F(a))); \
+    U F##_to_##G(T a AND_STATUS) { \
+        return as_##G(converted(CODE_##F, CODE_##G, of_##F(a) WITH_STATUS)); \
     }
 
 TO_FORMAT(f16, float16_t, f32, float32_t)
@@ -484,33 +617,58 @@ CLASS(f32, float32_t)
 CLASS(f64, float64_t)
 CLASS(f128, float128_t)
 
+/* With a status that is passed, as MINSS and MAXSS do it. */
+#ifdef SOFTFLOAT_STATUS
+static apfloat_halves extremum(uint32_t format, uint32_t which, uint64_t default_nan, apfloat_halves a,
+                               apfloat_halves b AND_STATUS) {
+    const uint32_t operation = which == APFLOAT_MINIMUM ? APFLOAT_LEAST : APFLOAT_GREATEST;
+    const apfloat_halves x = taken(format, a WITH_STATUS), y = taken(format, b WITH_STATUS);
+    const apfloat_answer answer = by_machine(operation, format, APFLOAT_NEAREST_EVEN, APFLOAT_RULE_SECOND, x, y, y);
+    (void)default_nan;
+    raise_denormal(format, answer.status, x, y, y WITH_STATUS);
+    return raised(answer WITH_STATUS);
+}
+#else
 static apfloat_halves extremum(uint32_t format, uint32_t which, uint64_t default_nan, apfloat_halves x,
                                apfloat_halves y) {
     apfloat_answer answer = {{0, 0}, 0, 0};
     apfloat_extremum(format, which, 1, x, y, &answer);
-    raise_status(answer.status);
+    raise_flags(answer.status);
     return is_nan(format, answer.bits) ? of_low(default_nan) : answer.bits;
 }
+#endif
 
 #define EXTREMA(F, T, DEFAULT) \
-    T F##_min(T a, T b) { \
-        return as_##F(extremum(CODE_##F, APFLOAT_MINIMUM, DEFAULT, of_##F(a), of_##F(b))); \
+    T F##_min(T a, T b AND_STATUS) { \
+        return as_##F(extremum(CODE_##F, APFLOAT_MINIMUM, DEFAULT, of_##F(a), of_##F(b) WITH_STATUS)); \
     } \
-    T F##_max(T a, T b) { \
-        return as_##F(extremum(CODE_##F, APFLOAT_MAXIMUM, DEFAULT, of_##F(a), of_##F(b))); \
+    T F##_max(T a, T b AND_STATUS) { \
+        return as_##F(extremum(CODE_##F, APFLOAT_MAXIMUM, DEFAULT, of_##F(a), of_##F(b) WITH_STATUS)); \
     }
 EXTREMA(f16, float16_t, defaultNaNF16UI)
 EXTREMA(f32, float32_t, defaultNaNF32UI)
 EXTREMA(f64, float64_t, defaultNaNF64UI)
 
+#ifdef SOFTFLOAT_STATUS
+#define RELATION(F, T) \
+    int F##_compare(T a, T b, bool is_quiet, struct softfloat_status_t *status) { \
+        return ordered(CODE_##F, is_quiet ? APFLOAT_QUIET : APFLOAT_SIGNALING, of_##F(a), of_##F(b), status); \
+    }
+RELATION(f16, float16_t)
+RELATION(f32, float32_t)
+RELATION(f64, float64_t)
+RELATION(extF80, extFloat80_t)
+RELATION(f128, float128_t)
+#endif
+
 /* An integer of 8 or 16 bits, from that of 32. Of a number that has the latter alone, the flag is INVALID alone. */
 #define TO_SHORT(F, T, I, RETURNED, WIDE, INTEGER, NAME) \
-    RETURNED F##_to_##I(T a, uint_fast8_t mode, bool exact) { \
-        const uint_fast8_t flags = softfloat_exceptionFlags; \
-        const INTEGER n = (INTEGER)F##_to_##WIDE(a, mode, exact); \
+    RETURNED F##_to_##I(T a, uint_fast8_t mode, bool exact AND_STATUS) { \
+        const int flags = IN_STATE(softfloat_exceptionFlags); \
+        const INTEGER n = (INTEGER)F##_to_##WIDE(a, mode, exact WITH_STATUS); \
         if (n >= NAME##_MIN && n <= NAME##_MAX) return (RETURNED)n; \
-        softfloat_exceptionFlags = flags; \
-        softfloat_raiseFlags(softfloat_flag_invalid); \
+        IN_STATE(softfloat_exceptionFlags) = flags; \
+        raise_flags(APFLOAT_INVALID_OP WITH_STATUS); \
         return n < 0 ? I##_fromNegOverflow : I##_fromPosOverflow; \
     }
 #define UINT8_MIN 0
@@ -522,6 +680,7 @@ TO_SHORT(f16, float16_t, i16, int_fast16_t, i32, int32_t, INT16)
 TO_SHORT(f32, float32_t, ui16, uint_fast16_t, ui32, int64_t, UINT16)
 TO_SHORT(f32, float32_t, i16, int_fast16_t, i32, int32_t, INT16)
 
+#ifndef SOFTFLOAT_STATUS
 /* ---- by pointers */
 
 #define OF_TWO_BY_POINTERS(F, T, NAME) \
@@ -590,3 +749,4 @@ void extF80M_to_f128M(const extFloat80_t *a, float128_t *z) {
 void f128M_to_extF80M(const float128_t *a, extFloat80_t *z) {
     *z = f128_to_extF80(*a);
 }
+#endif

@@ -7,7 +7,19 @@
 #include <stdbool.h>
 #include <stdint.h>
 
+#ifdef SOFTFLOAT_STATUS
+#include "softfloat_status.h"
+#endif
 #include "softfloat_types.h"
+
+/* The last arguments where the state is passed (softfloat_status.h); otherwise it is that of the thread. */
+#ifdef SOFTFLOAT_STATUS
+#define SOFTFLOAT_AND_STATUS , struct softfloat_status_t *status
+#define SOFTFLOAT_AND_OP , uint8_t op
+#else
+#define SOFTFLOAT_AND_STATUS
+#define SOFTFLOAT_AND_OP
+#endif
 
 /* How a variable of each thread is declared. A program that was compiled with a header in which it is empty, as
  * SoftFloat's is unless its maker chose, needs -DTHREAD_LOCAL= here too. */
@@ -29,6 +41,8 @@ extern "C" {
 
 /* When a result counts as tiny. */
 enum { softfloat_tininess_beforeRounding = 0, softfloat_tininess_afterRounding = 1 };
+
+#ifndef SOFTFLOAT_STATUS
 extern THREAD_LOCAL uint_fast8_t softfloat_detectTininess;
 
 /* The rounding mode. */
@@ -55,37 +69,38 @@ enum {
 };
 extern THREAD_LOCAL uint_fast8_t softfloat_exceptionFlags;
 void softfloat_raiseFlags(uint_fast8_t flags);
+#endif
 
 /* ---- functions of the format F, whose values have the type T
  *
  * A value becomes an integer in a mode, with the flag of inexact results if `exact` is true, or truncated (minMag). */
 
 #define softfloat_functions(F, T) \
-    T ui32_to_##F(uint32_t n); \
-    T ui64_to_##F(uint64_t n); \
-    T i32_to_##F(int32_t n); \
-    T i64_to_##F(int64_t n); \
-    uint_fast32_t F##_to_ui32(T a, uint_fast8_t mode, bool exact); \
-    uint_fast64_t F##_to_ui64(T a, uint_fast8_t mode, bool exact); \
-    int_fast32_t F##_to_i32(T a, uint_fast8_t mode, bool exact); \
-    int_fast64_t F##_to_i64(T a, uint_fast8_t mode, bool exact); \
-    uint_fast32_t F##_to_ui32_r_minMag(T a, bool exact); \
-    uint_fast64_t F##_to_ui64_r_minMag(T a, bool exact); \
-    int_fast32_t F##_to_i32_r_minMag(T a, bool exact); \
-    int_fast64_t F##_to_i64_r_minMag(T a, bool exact); \
-    T F##_roundToInt(T a, uint_fast8_t mode, bool exact); \
-    T F##_add(T a, T b); \
-    T F##_sub(T a, T b); \
-    T F##_mul(T a, T b); \
-    T F##_div(T a, T b); \
-    T F##_rem(T a, T b); \
-    T F##_sqrt(T a); \
-    bool F##_eq(T a, T b); \
-    bool F##_le(T a, T b); \
-    bool F##_lt(T a, T b); \
-    bool F##_eq_signaling(T a, T b); \
-    bool F##_le_quiet(T a, T b); \
-    bool F##_lt_quiet(T a, T b); \
+    T ui32_to_##F(uint32_t n SOFTFLOAT_AND_STATUS); \
+    T ui64_to_##F(uint64_t n SOFTFLOAT_AND_STATUS); \
+    T i32_to_##F(int32_t n SOFTFLOAT_AND_STATUS); \
+    T i64_to_##F(int64_t n SOFTFLOAT_AND_STATUS); \
+    uint_fast32_t F##_to_ui32(T a, uint_fast8_t mode, bool exact SOFTFLOAT_AND_STATUS); \
+    uint_fast64_t F##_to_ui64(T a, uint_fast8_t mode, bool exact SOFTFLOAT_AND_STATUS); \
+    int_fast32_t F##_to_i32(T a, uint_fast8_t mode, bool exact SOFTFLOAT_AND_STATUS); \
+    int_fast64_t F##_to_i64(T a, uint_fast8_t mode, bool exact SOFTFLOAT_AND_STATUS); \
+    uint_fast32_t F##_to_ui32_r_minMag(T a, bool exact SOFTFLOAT_AND_STATUS); \
+    uint_fast64_t F##_to_ui64_r_minMag(T a, bool exact SOFTFLOAT_AND_STATUS); \
+    int_fast32_t F##_to_i32_r_minMag(T a, bool exact SOFTFLOAT_AND_STATUS); \
+    int_fast64_t F##_to_i64_r_minMag(T a, bool exact SOFTFLOAT_AND_STATUS); \
+    T F##_roundToInt(T a, uint_fast8_t mode, bool exact SOFTFLOAT_AND_STATUS); \
+    T F##_add(T a, T b SOFTFLOAT_AND_STATUS); \
+    T F##_sub(T a, T b SOFTFLOAT_AND_STATUS); \
+    T F##_mul(T a, T b SOFTFLOAT_AND_STATUS); \
+    T F##_div(T a, T b SOFTFLOAT_AND_STATUS); \
+    T F##_rem(T a, T b SOFTFLOAT_AND_STATUS); \
+    T F##_sqrt(T a SOFTFLOAT_AND_STATUS); \
+    bool F##_eq(T a, T b SOFTFLOAT_AND_STATUS); \
+    bool F##_le(T a, T b SOFTFLOAT_AND_STATUS); \
+    bool F##_lt(T a, T b SOFTFLOAT_AND_STATUS); \
+    bool F##_eq_signaling(T a, T b SOFTFLOAT_AND_STATUS); \
+    bool F##_le_quiet(T a, T b SOFTFLOAT_AND_STATUS); \
+    bool F##_lt_quiet(T a, T b SOFTFLOAT_AND_STATUS); \
     bool F##_isSignalingNaN(T a);
 softfloat_functions(f16, float16_t)
 softfloat_functions(f32, float32_t)
@@ -95,15 +110,15 @@ softfloat_functions(f128, float128_t)
 #undef softfloat_functions
 
 /* a * b + c; extF80 has none. */
-float16_t f16_mulAdd(float16_t a, float16_t b, float16_t c);
-float32_t f32_mulAdd(float32_t a, float32_t b, float32_t c);
-float64_t f64_mulAdd(float64_t a, float64_t b, float64_t c);
-float128_t f128_mulAdd(float128_t a, float128_t b, float128_t c);
+float16_t f16_mulAdd(float16_t a, float16_t b, float16_t c SOFTFLOAT_AND_OP SOFTFLOAT_AND_STATUS);
+float32_t f32_mulAdd(float32_t a, float32_t b, float32_t c SOFTFLOAT_AND_OP SOFTFLOAT_AND_STATUS);
+float64_t f64_mulAdd(float64_t a, float64_t b, float64_t c SOFTFLOAT_AND_OP SOFTFLOAT_AND_STATUS);
+float128_t f128_mulAdd(float128_t a, float128_t b, float128_t c SOFTFLOAT_AND_OP SOFTFLOAT_AND_STATUS);
 
 /* Values of one format in another. */
 #define softfloat_conversions(F, T, G, U) \
-    U F##_to_##G(T a); \
-    T G##_to_##F(U a);
+    U F##_to_##G(T a SOFTFLOAT_AND_STATUS); \
+    T G##_to_##F(U a SOFTFLOAT_AND_STATUS);
 softfloat_conversions(f16, float16_t, f32, float32_t)
 softfloat_conversions(f16, float16_t, f64, float64_t)
 softfloat_conversions(f16, float16_t, extF80, extFloat80_t)
@@ -117,6 +132,7 @@ softfloat_conversions(extF80, extFloat80_t, f128, float128_t)
 softfloat_conversions(f32, float32_t, bf16, bfloat16_t)
 #undef softfloat_conversions
 
+#ifndef SOFTFLOAT_STATUS
 /* ---- the same by pointers: a function whose name has an M after that of a format takes its values, and leaves its
  * result, by them */
 
@@ -161,29 +177,31 @@ softfloat_functions_by_pointers(f128, float128_t)
 void extF80M_to_f128M(const extFloat80_t *a, float128_t *z);
 void f128M_to_extF80M(const float128_t *a, extFloat80_t *z);
 void f128M_mulAdd(const float128_t *a, const float128_t *b, const float128_t *c, float128_t *z);
+#endif
 
 /* ---- functions that simulators add to SoftFloat, and later ones of its own
  *
  * A class is that of RISC-V: one of ten bits, for -infinity, negative normal, negative subnormal, -0, +0, positive
  * subnormal, positive normal, +infinity, signaling NaN and quiet NaN, from the lowest. The minimum and maximum are the
- * number if one operand is a NaN, and the default NaN if both are; -0 is below +0, and a signaling NaN is invalid. */
+ * number if one operand is a NaN, and the default NaN if both are; -0 is below +0, and a signaling NaN is invalid. With
+ * a status that is passed, they are those of MINSS and MAXSS. */
 
 uint_fast16_t f16_classify(float16_t a);
 uint_fast16_t f32_classify(float32_t a);
 uint_fast16_t f64_classify(float64_t a);
 uint_fast16_t f128_classify(float128_t a);
-float16_t f16_min(float16_t a, float16_t b);
-float16_t f16_max(float16_t a, float16_t b);
-float32_t f32_min(float32_t a, float32_t b);
-float32_t f32_max(float32_t a, float32_t b);
-float64_t f64_min(float64_t a, float64_t b);
-float64_t f64_max(float64_t a, float64_t b);
-uint_fast8_t f16_to_ui8(float16_t a, uint_fast8_t mode, bool exact);
-uint_fast16_t f16_to_ui16(float16_t a, uint_fast8_t mode, bool exact);
-int_fast8_t f16_to_i8(float16_t a, uint_fast8_t mode, bool exact);
-int_fast16_t f16_to_i16(float16_t a, uint_fast8_t mode, bool exact);
-uint_fast16_t f32_to_ui16(float32_t a, uint_fast8_t mode, bool exact);
-int_fast16_t f32_to_i16(float32_t a, uint_fast8_t mode, bool exact);
+float16_t f16_min(float16_t a, float16_t b SOFTFLOAT_AND_STATUS);
+float16_t f16_max(float16_t a, float16_t b SOFTFLOAT_AND_STATUS);
+float32_t f32_min(float32_t a, float32_t b SOFTFLOAT_AND_STATUS);
+float32_t f32_max(float32_t a, float32_t b SOFTFLOAT_AND_STATUS);
+float64_t f64_min(float64_t a, float64_t b SOFTFLOAT_AND_STATUS);
+float64_t f64_max(float64_t a, float64_t b SOFTFLOAT_AND_STATUS);
+uint_fast8_t f16_to_ui8(float16_t a, uint_fast8_t mode, bool exact SOFTFLOAT_AND_STATUS);
+uint_fast16_t f16_to_ui16(float16_t a, uint_fast8_t mode, bool exact SOFTFLOAT_AND_STATUS);
+int_fast8_t f16_to_i8(float16_t a, uint_fast8_t mode, bool exact SOFTFLOAT_AND_STATUS);
+int_fast16_t f16_to_i16(float16_t a, uint_fast8_t mode, bool exact SOFTFLOAT_AND_STATUS);
+uint_fast16_t f32_to_ui16(float32_t a, uint_fast8_t mode, bool exact SOFTFLOAT_AND_STATUS);
+int_fast16_t f32_to_i16(float32_t a, uint_fast8_t mode, bool exact SOFTFLOAT_AND_STATUS);
 bool bf16_isSignalingNaN(bfloat16_t a);
 
 #ifdef __cplusplus

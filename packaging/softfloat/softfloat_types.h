@@ -4,6 +4,12 @@
 
 #include <stdint.h>
 
+#ifdef SOFTFLOAT_STATUS
+typedef uint16_t float16_t, float16;
+typedef uint16_t bfloat16_t, bfloat16;
+typedef uint32_t float32_t, float32;
+typedef uint64_t float64_t, float64;
+#else
 typedef struct {
     uint16_t v;
 } float16_t;
@@ -20,6 +26,7 @@ typedef struct {
 typedef struct {
     uint64_t v;
 } float64_t;
+#endif
 
 /* As memory has it: the lower half first on a processor that stores the lowest byte first. */
 typedef struct {

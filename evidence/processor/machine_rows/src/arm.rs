@@ -1,4 +1,4 @@
-//! Compares lines of `evidence/processor/arm.c` with `rustc_apfloat::machines`, as docs/MACHINES.md says that an
+//! Compares lines of AArch64 of `evidence/processor/instructions.c` with `rustc_apfloat::machines`, as docs/MACHINES.md says that an
 //! interpreter calls it: what FZ, FZ16 and DN do, and all flags of FPSR, that of denormal operands too.
 
 use crate::{Outcome, Tally};
@@ -17,13 +17,13 @@ type SingleR = IeeeFlags<TinyBefore<SingleS>>;
 type DoubleR = IeeeFlags<TinyBefore<DoubleS>>;
 type BFloatR = IeeeFlags<TinyBefore<BFloatS>>;
 
-// Controls of FPCR, and the flag of a denormal operand in FPSR.
+// Controls of FPCR, and the flag of a denormal operand in lines.
 const FZ16: u32 = 1 << 19;
 const FZ: u32 = 1 << 24;
 const DN: u32 = 1 << 25;
-const IDC: u32 = 0x80;
+const IDC: u32 = 0x20;
 
-/// The bits of FPSR for a status.
+/// The flags of lines for a status.
 fn flags_of(status: Status) -> u32 {
     [Status::INVALID_OP, Status::DIV_BY_ZERO, Status::OVERFLOW, Status::UNDERFLOW, Status::INEXACT]
         .iter()
@@ -93,13 +93,15 @@ fn in_format<S: Semantics>(name: &str, mut control: Control, operands: &[u128]) 
         "fsqrt" => return unary(x.sqrt_r(round)),
         "frinti" => return unary(round_to_integral_in(x, round)),
         "frintx" => return unary(x.round_to_integral(round)),
-        "fcvtns" => {
-            let answer = x.to_i128_r(32, Round::NearestTiesToEven, &mut is_exact);
+        "fcvtns" | "fcvtzs" => {
+            let round = if name == "fcvtns" { Round::NearestTiesToEven } else { Round::TowardZero };
+            let answer = x.to_i128_r(32, round, &mut is_exact);
             let answer = settled_signed(machine, x, 32, answer);
             return control.outcome(answer.value as u128 & 0xffff_ffff, answer.status);
         }
-        "fcvtzu" => {
-            let answer = x.to_u128_r(32, Round::TowardZero, &mut is_exact);
+        "fcvtzu" | "fcvtau" => {
+            let round = if name == "fcvtau" { Round::NearestTiesToAway } else { Round::TowardZero };
+            let answer = x.to_u128_r(32, round, &mut is_exact);
             let answer = settled_unsigned(machine, x, 32, answer).expect("Arm has them");
             return control.outcome(answer.value, answer.status);
         }
@@ -110,13 +112,13 @@ fn in_format<S: Semantics>(name: &str, mut control: Control, operands: &[u128]) 
     match name {
         "fadd" => two(x.add_r(y, round)),
         "fsub" => two(x.sub_r(y, round)),
-        "fmul" => two(x.mul_r(y, round)),
+        "fmul" | "fnmul" => two(x.mul_r(y, round)),
         "fdiv" => two(x.div_r(y, round)),
         "fminnm" => valued(least(MinimumRule::Number2008, machine, x, y)),
         "fmaxnm" => valued(greatest(MinimumRule::Number2008, machine, x, y)),
         "fmin" => valued(least(MinimumRule::Propagated, machine, x, y)),
         "fmax" => valued(greatest(MinimumRule::Propagated, machine, x, y)),
-        "fmadd" => {
+        "fmadd" | "fmsub" | "fnmadd" | "fnmsub" => {
             let z = drawn.next().expect("three operands");
             let answer = settled_fused(machine, x, y, z, x.mul_add_r(y, z, round));
             valued(answer.expect("Arm has fused sums"))
@@ -125,16 +127,16 @@ fn in_format<S: Semantics>(name: &str, mut control: Control, operands: &[u128]) 
     }
 }
 
-/// The condition flags of a comparison, in the order N, Z, C, V.
+/// The order, from less, 0, to unordered, 3.
 fn compared<S: Semantics>(control: &Control, on_nan: OnNan, x: IeeeFloat<S>, y: IeeeFloat<S>) -> Outcome {
     let holds = |predicate| compare(predicate, OnNan::Quiet, x, y).value;
-    let conditions = match () {
-        _ if holds(Predicate::Less) => 0b1000,
-        _ if holds(Predicate::Equal) => 0b0110,
-        _ if holds(Predicate::Greater) => 0b0010,
-        _ => 0b0011,
+    let order = match () {
+        _ if holds(Predicate::Less) => 0,
+        _ if holds(Predicate::Equal) => 1,
+        _ if holds(Predicate::Greater) => 2,
+        _ => 3,
     };
-    control.outcome(conditions, compare(Predicate::Equal, on_nan, x, y).status)
+    control.outcome(order, compare(Predicate::Equal, on_nan, x, y).status)
 }
 
 /// What the library gives for a conversion. Neither operands nor results of half are flushed.
@@ -177,9 +179,13 @@ pub fn compare_lines(input: impl BufRead, tally: &mut Tally) {
         let (name, numbers) = line.split_once(' ').expect("a name");
         let numbers: Vec<u128> =
             numbers.split(' ').map(|word| u128::from_str_radix(word, 16).expect("a number")).collect();
-        let [word, ref operands @ .., value, flags] = numbers[..] else { panic!("too few words: {line}") };
+        let [machine, _, _, _, mode, controls, ref operands @ .., value, flags] = numbers[..] else {
+            panic!("too few words: {line}")
+        };
         let here = Outcome { value, flags: flags as u32 };
-        let ours = library(name, word as u32, operands);
+        let flushing = if controls & 2 != 0 { FZ } else { 0 } | if controls & 4 != 0 { FZ16 } else { 0 };
+        let default = if machine == 4 { DN } else { 0 };
+        let ours = library(name, (mode as u32 & 3) << 22 | flushing | default, operands);
         if rows.last().is_none_or(|(last, ..)| last != name) {
             rows.push((name.to_string(), 0, 0));
         }

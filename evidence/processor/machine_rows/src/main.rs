@@ -9,7 +9,7 @@
 //! AVX-512 there are no unsigned integers. Prints each difference, at most ten of an operation, and how many rows of
 //! each operation agree; the status is 1 if one differs.
 //!
-//! `cargo run --release -- arm` compares the lines of `evidence/processor/arm.c` on standard input.
+//! `cargo run --release -- arm` compares lines of AArch64 of `evidence/processor/instructions.c`.
 
 mod arm;
 

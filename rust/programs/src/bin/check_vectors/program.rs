@@ -45,10 +45,11 @@ flag too.
 
 With --testfloat FUNCTION may stand -rnear_even -rmax -rmin -rminMag
 -rnear_maxMag -rodd -precision32 -precision64 -precision80 -tininessafter
--tininessbefore -notexact -exact -checkNaNs --any-nan, and with --fpgen
--tininessafter -tininessbefore, before or after it. Of a NaN only that it is
-quiet is compared, with -checkNaNs all bits, with --any-nan nothing. After --,
-the name of FILE may begin with -.
+-tininessbefore -notexact -exact -checkNaNs -checkInvInts -checkAll --any-nan,
+and with --fpgen -tininessafter -tininessbefore, before or after it. Of a NaN
+only that it is quiet is compared, with -checkNaNs all bits, with --any-nan
+nothing, and integers of invalid conversions only with -checkInvInts; -checkAll
+is both. After --, the name of FILE may begin with -.
 
 Empty lines and comments, which begin with #, are skipped. The program writes
 each row that differs and each malformed line with its number, and at the end
@@ -77,6 +78,8 @@ static OPTIONS_OF_TESTFLOAT: &[&str] = &[
     "--testfloat",
     "--any-nan",
     "-checkNaNs",
+    "-checkInvInts",
+    "-checkAll",
     "-rnear_even",
     "-rmax",
     "-rmin",

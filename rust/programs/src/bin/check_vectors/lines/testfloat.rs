@@ -130,6 +130,8 @@ pub struct TestFloat {
     tiny_before_rounding: bool,
     is_exact: bool,
     nan_check: NanCheck,
+    // Whether the integer of an invalid conversion is compared.
+    checks_invalid: bool,
     // The format in which an x87 rounds to fewer digits, if it does.
     fewer_digits: Option<&'static str>,
 }
@@ -162,6 +164,7 @@ impl TestFloat {
             tiny_before_rounding: false,
             is_exact: false,
             nan_check: NanCheck::Quiet,
+            checks_invalid: false,
             fewer_digits: None,
         }
     }
@@ -176,6 +179,8 @@ impl TestFloat {
             "-notexact" => changed.is_exact = false,
             "--any-nan" => changed.nan_check = NanCheck::Any,
             "-checkNaNs" => changed.nan_check = NanCheck::Bits,
+            "-checkInvInts" => changed.checks_invalid = true,
+            "-checkAll" => (changed.nan_check, changed.checks_invalid) = (NanCheck::Bits, true),
             "-precision80" => changed.fewer_digits = None,
             "-precision64" => changed.fewer_digits = self.of_fewer_digits("x87p53"),
             "-precision32" => changed.fewer_digits = self.of_fewer_digits("x87p24"),
@@ -273,7 +278,7 @@ impl TestFloat {
     }
 
     /// Whether two results are the same, or are not compared. The result of an invalid conversion to an integer depends
-    /// on the processor, and so does which NaN is delivered; TestFloat does not compare them either.
+    /// on the processor, and so does which NaN is delivered; TestFloat too compares them only on request.
     fn results_agree(self, given: Columns, stated: Columns) -> bool {
         if given.result == stated.result {
             return true;
@@ -282,7 +287,7 @@ impl TestFloat {
             Kind::Float(_, width, infinity) => {
                 is_nan(given.result, width, infinity) && self.allows_nan(stated.result, width, infinity)
             }
-            Kind::Unsigned(_) | Kind::Signed(_) => stated.flags & 16 != 0,
+            Kind::Unsigned(_) | Kind::Signed(_) => stated.flags & 16 != 0 && !self.checks_invalid,
             Kind::Truth => false,
         }
     }
