@@ -152,6 +152,7 @@ struct Remaining {
 }
 
 /// The rest of `x` by a divisor, and whether the integral quotient is odd.
+#[inline(always)]
 fn remaining_by(precision: u32, x: Magnitude, y: Magnitude) -> Remaining
     requires { AreDivided precision x y }
     ensures rest { units_of result.magnitude ≡ units_of x % units_of y }

@@ -325,9 +325,9 @@ pub fn round_to_integral_here<F: ValueType>(answer: &mut Answer, round: Round, x
     *answer = written(F::from_bits(x).round_to_integral(round));
 }
 
-/// A value rounded to an integral value, in line: with its mode as a constant the call is short enough for that in each
-/// format, where the call for all modes is too long in `x87`.
-#[inline(always)]
+/// A value rounded to an integral value by its mode as a constant: with that the call is short enough to be in line in
+/// each format, where the call for all modes is too long in `x87`.
+#[inline(never)]
 fn round_to_integral_by_mode<F: ValueType>(answer: &mut Answer, round: Round, x: u128)
     requires { F.PRECISION < F.BITS }
     ensures { let of_type = relations_of F.Float.own F.partial_cmp F.takes_root in
@@ -353,9 +353,14 @@ pub fn round_to_integral<F: ValueType>(answer: &mut Answer, round: Round, x: u12
     ensures { let of_type = relations_of F.Float.own F.partial_cmp F.takes_root in
         IsTypeAnswer of_type round (RoundToIntegral x) answer.new }
 {
-    // `x87` alone has so many bits.
+    // `x87` alone has so many bits. The usual mode needs no table of jumps.
     if F::BITS == 80 {
-        round_to_integral_by_mode::<F>(answer, round, x)
+        match round {
+            Round::NearestTiesToEven => {
+                round_to_integral_here::<F>(answer, Round::NearestTiesToEven, x)
+            }
+            _ => round_to_integral_by_mode::<F>(answer, round, x),
+        }
     } else {
         round_to_integral_here::<F>(answer, round, x)
     }

@@ -954,7 +954,7 @@ fn integral_exact_here<S: Flagged>(
         answer.old answer.new result }
 {
     if is_normal::<S>(x) {
-        normal_integral_exact::<S>(answer, round, x);
+        plain_integral_exact::<S>(answer, round, x);
         ANSWERED
     } else {
         usual_integral_exact::<S>(answer, machine, round, x)
@@ -964,7 +964,7 @@ fn integral_exact_here<S: Flagged>(
 /// A value rounded to an integral value, with INEXACT, as the plain call gives it: in line, unless the integer bit is
 /// explicit, where it is too long.
 #[inline(always)]
-fn normal_integral_exact<S: Flagged>(answer: &mut Answer, round: Round, x: u128)
+fn plain_integral_exact<S: Flagged>(answer: &mut Answer, round: Round, x: u128)
     requires { S.PRECISION < S.BITS }
     ensures { IsKindAnswer (of_format (constants_of S.Flagged)) round (PlainIntegral x) answer.new }
 {
@@ -988,7 +988,7 @@ fn usual_integral_exact<S: Flagged>(
         answer.old answer.new result }
 {
     if is_number::<S>(x) {
-        answers::round_to_integral::<IeeeFloat<S>>(answer, round, x);
+        plain_integral_exact::<S>(answer, round, x);
         ANSWERED
     } else {
         integral_exact::<S>(answer, machine, round, x)

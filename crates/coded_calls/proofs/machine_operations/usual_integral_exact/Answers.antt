@@ -6,5 +6,5 @@ use Rattle.coded_calls.proofs.machine_operations.usual_integral_exact.Goals as g
 pub returns-then-is_number : goal.returns-then-is_number
 returns-then-is_number g c = λ infinite.
     usual_integral (constants_of g.S.Flagged) c.args.machine c.args.round c.args.x c.args.answer.now
-    c.round_to_integral.new.answer (sym c.is_number.ensures ∙ c.if-is_number.true)
-    c.round_to_integral.ensures
+    c.plain_integral_exact.new.answer (sym c.is_number.ensures ∙ c.if-is_number.true)
+    c.plain_integral_exact.ensures
