@@ -414,7 +414,8 @@ apfloat_error apfloat_to_format(apfloat_operation_to operation, apfloat_format f
  * Texts and digits of values, conversions and fused sums of pairs, and what a format is. */
 
 /* The value of a text as apfloat_parse_decimal reads it, also in formats with APFLOAT_IEEE_FLAGS: 1e39 toward zero
- * as an APFLOAT_SINGLE with it raises APFLOAT_OVERFLOW. */
+ * as an APFLOAT_SINGLE with it raises APFLOAT_OVERFLOW. The words inf, infinity, nan and snan are read in any case and
+ * with any sign (IEEE 754-2019 5.12.1). */
 apfloat_error apfloat_read_decimal(apfloat_format format, apfloat_mode mode, const uint8_t *text, size_t length,
                                    apfloat_answer *answer);
 
