@@ -9,7 +9,7 @@ Numbers are drawn from a fixed seed.
 import random
 import sys
 
-from decimal_rows import patterns, read
+from decimal_rows import patterns, read, reading as row_of_text
 from exact import bits, decimals, hex_texts, status
 from exact.data import Finite, NaN, number
 from exact.formats import FORMATS, LATER_FORMATS, PROGRAM_FORMATS, NonFinite
@@ -43,6 +43,17 @@ def main():
             rounded, flags = hex_texts.rounded_text(known, mode, places, x)
             print(f"hex_rounded\t{known.name}\t{mode.value}\t{places}\t{word(known, pattern)}\t{rounded}\t"
                   f"{status.names(flags)}")
+    for name in ("half+ieee", "double", "e4m3fn", "e4m3fnuz", "dd"):
+        print(*special_readings(name), sep="\n")
+
+
+# What an infinity or a NaN may be spelled as, with any sign (IEEE 754-2019 5.12.1), by the spelling that is read as it.
+_SPELLINGS = {
+    "inf": ("inf", "Inf", "INF", "inF", "infinity", "Infinity", "INFINITY"),
+    "nan": ("nan", "NaN", "NAN", "Nan"),
+    "snan": ("snan", "sNaN", "SNAN"),
+}
+_NO_SPELLINGS = ("infinit", "INFINITYY", "na", "nann", "s", "--inf", "+-nan", "inf ", "1inf")
 
 
 # The formats whose codes have a rule of flags.
@@ -78,6 +89,17 @@ def reading(choices, known):
         return f"read\t{known.name}\t{mode.value}\t{literal}\tParseError\t-"
     pattern = bits.encoded(known, value)
     return f"read\t{known.name}\t{mode.value}\t{literal}\t{word(known, pattern)}\t{status.names(flags)}"
+
+
+def special_readings(name):
+    """Rows of infinities and NaNs that are read, and of texts that are nearly so."""
+    for sign in ("", "+", "-"):
+        for known, spellings in _SPELLINGS.items():
+            *_, value, flags = row_of_text(name, Mode.EVEN, sign.strip("+") + known).split("\t")
+            for spelling in spellings:
+                yield f"read\t{name}\teven\t{sign}{spelling}\t{value}\t{flags}"
+    for refused in _NO_SPELLINGS:
+        yield f"read\t{name}\teven\t{refused}\tParseError\t-"
 
 
 def has_digits(x):

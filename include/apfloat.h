@@ -311,10 +311,11 @@ typedef struct apfloat_text {
 } apfloat_text;
 
 /* The text of the shortest decimal that gives x when it is rounded to nearest, ties to even: of those with as few
- * digits, the nearest to x, and of two equally near ones the even one. It is written as in 12.5, 0.000001, 1e-7 and
- * 1.5e21: with an exponent unless that of the first digit is from -6 to 20, and otherwise with at least one digit on
- * each side of the dot. A zero is 0.0 or -0.0, an infinity inf or -inf, and every NaN nan. APFLOAT_DOUBLE_PAIR does not
- * have it, but apfloat_pair_shortest. On an error, *text is unchanged; the rules for `answer` hold for `text` too. */
+ * digits, the nearest to x, and of two equally near ones the even one. So 448 in APFLOAT_E4M3FN is 450.0;
+ * apfloat_write_digits writes the digits of x itself. The text is written as in 12.5, 0.000001, 1e-7 and 1.5e21: with
+ * an exponent unless that of the first digit is from -6 to 20, and otherwise with at least one digit on each side of
+ * the dot. A zero is 0.0 or -0.0, an infinity inf or -inf, and every NaN nan. APFLOAT_DOUBLE_PAIR does not have it, but
+ * apfloat_pair_shortest. On an error, *text is unchanged; the rules for `answer` hold for `text` too. */
 apfloat_error apfloat_shortest(apfloat_format format, apfloat_halves x, apfloat_text *text);
 
 /* A text for what a function returned, such as "unknown format"; APFLOAT_ANSWERED has one too. For a number that is no
@@ -413,7 +414,8 @@ apfloat_error apfloat_to_format(apfloat_operation_to operation, apfloat_format f
  * Texts and digits of values, conversions and fused sums of pairs, and what a format is. */
 
 /* The value of a text as apfloat_parse_decimal reads it, also in formats with APFLOAT_IEEE_FLAGS: 1e39 toward zero
- * as an APFLOAT_SINGLE with it raises APFLOAT_OVERFLOW. */
+ * as an APFLOAT_SINGLE with it raises APFLOAT_OVERFLOW. The words inf, infinity, nan and snan are read in any case and
+ * with any sign (IEEE 754-2019 5.12.1). */
 apfloat_error apfloat_read_decimal(apfloat_format format, apfloat_mode mode, const uint8_t *text, size_t length,
                                    apfloat_answer *answer);
 

@@ -26,10 +26,10 @@ flagged_exponents (BeforeRounding format) =
 
 -- what is read in the kind of known codes is what the text is read as
 pub read_in_kind : (kind : Option FlaggedKind) (mode : Option Round) (known : FlaggedKind) (round : Round)
-    (text : List ℕ) (old new : Answer) (code : ℕ) → kind ≡ Some known → mode ≡ Some round
-    → IsReadInto (flagged_kind_of known) round text old new code
+    (text spelled : List ℕ) (old new : Answer) (code : ℕ) → kind ≡ Some known → mode ≡ Some round
+    → text ≡ spelled → IsReadInto (flagged_kind_of known) round spelled old new code
     → IsDecimalRead (known_text kind mode) text old new code
-read_in_kind kind mode known round text old new code k m read = rw (k, m) read
+read_in_kind kind mode known round text spelled old new code k m t read = rw (k, m, t) read
 
 pub decimal_read_once : IsDecimalReadOnce
 decimal_read_once (Err error) text old a b code other x y = (x.0 ∙ sym y.0, unchanged old a b x.1 y.1)

@@ -1,12 +1,27 @@
 -- Decimals with any rule of flags.
-use Rattle.std.specs.Prelude.{◌≡◌, ℕ, List, Option, ok_or, Result, Ok, Err}
+use Rattle.std.specs.Prelude.{◌≡◌, ℕ, ◌||◌, if◌then◌else◌, List, ◌++◌, codes}
+use Rattle.std.specs.Prelude.{Option, ok_or, Result, Ok, Err}
+use Rattle.std.specs.Str.{str_eq_ignore_ascii_case}
+use Rattle.apfloat_model.specs.texts.Specials.{after_mark, is_minus, mark_of}
 use Rattle.rustc_apfloat.specs.declared.Round.{Round}
+use Rattle.apfloat_decimals.specs.Texts.{sign_text}
 use Rattle.formats_at_run_time.specs.declared.FlaggedKind.{FlaggedKind}
 use Rattle.formats_at_run_time.specs.FlaggedKinds.{flagged_kind_of}
 use Rattle.coded_calls.specs.declared.data.Answer.{Answer}
 use Rattle.coded_calls.specs.KnownCalls.{◌>>=◌, unknown_format, unknown_mode}
 use Rattle.apfloat_c.specs.Decimals.{IsReadInto}
 use Rattle.apfloat_c.specs.OneAnswer.{SameAnswer}
+
+-- the text; of an infinity or a NaN in any case and with any sign (IEEE 754-2019 5.12.1), a spelling that is read
+abbrev pub known_spelling : List ℕ → List ℕ
+known_spelling text =
+    let word : List ℕ = after_mark text in
+    let sign : List ℕ = sign_text (is_minus (mark_of text)) in
+    if str_eq_ignore_ascii_case word (codes "inf") || str_eq_ignore_ascii_case word (codes "infinity")
+    then sign ++ codes "inf"
+    else if str_eq_ignore_ascii_case word (codes "nan") then sign ++ codes "nan"
+    else if str_eq_ignore_ascii_case word (codes "snan") then sign ++ codes "snan"
+    else text
 
 pub record KnownText : Type 0 where
   pub kind : FlaggedKind

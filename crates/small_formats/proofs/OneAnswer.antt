@@ -18,7 +18,7 @@ use Rattle.apfloat_model.proofs.bits.EncodedOnce.{encoded_once}
 use Rattle.apfloat_model.proofs.rounding.Picks.{pick_unique}
 use Rattle.small_formats.specs.Codes.{datum_of}
 use Rattle.small_formats.specs.Conversions.{IsGiven, IsSaturated, IsStoredNumber, saturated_value}
-use Rattle.small_formats.specs.Laws.{IsIntoOnce, IsUnsignedOnce}
+use Rattle.small_formats.specs.Laws.{IsCodeOnce, IsIntoOnce, IsUnsignedOnce}
 use Rattle.small_formats.specs.Scales.{IsCode}
 use Rattle.small_formats.specs.Storage.{StorageConstants, IsLawfulStorage, format_with}
 use Rattle.small_formats.specs.Unsigned.{signed_format, signed_layout, unsigned_datum}
@@ -49,8 +49,7 @@ code_is half code l =
     (cases_lt code half)
 
 -- no two codes mean one number
-pub code_once : (c : StorageConstants) (code other : ℕ) (x : Datum) → IsLawfulStorage c → code < 2 ^ c.bits
-    → other < 2 ^ c.bits → datum_of c code ≡ x → datum_of c other ≡ x → code ≡ other
+pub code_once : IsCodeOnce
 code_once c code other x law l k e f =
     let low = law.precision_low in
     let above = law.exponent in

@@ -3,7 +3,7 @@ use Rattle.std.specs.Prelude.{◌≡◌, ℕ, ◌^◌, ◌<◌, ◌≤◌, Bool}
 use Rattle.apfloat_model.specs.declared.kinds.Round.{Round}
 use Rattle.apfloat_model.specs.formats.Datum.{Datum}
 use Rattle.apfloat_model.specs.formats.Format.{Format}
-use Rattle.small_formats.specs.Codes.{point}
+use Rattle.small_formats.specs.Codes.{datum_of, point}
 use Rattle.small_formats.specs.Conversions.{IsInto}
 use Rattle.small_formats.specs.Scales.{IsScale}
 use Rattle.small_formats.specs.Storage.{StorageConstants, IsLawfulStorage}
@@ -12,6 +12,12 @@ use Rattle.small_formats.specs.Unsigned.{IsUnsigned}
 -- the point with the greater number is the greater one
 abbrev pub AreCodesInOrder : Type 0
 AreCodesInOrder = (precision i j : ℕ) → 1 ≤ precision → i < j → point precision i < point precision j
+
+-- no two codes mean one number
+abbrev pub IsCodeOnce : Type 0
+IsCodeOnce =
+    (c : StorageConstants) (code other : ℕ) (x : Datum) → IsLawfulStorage c → code < 2 ^ c.bits
+    → other < 2 ^ c.bits → datum_of c code ≡ x → datum_of c other ≡ x → code ≡ other
 
 -- the code, the flags and the loss of information are determined
 abbrev pub IsIntoOnce : Type 0

@@ -59,8 +59,9 @@ pub use scales::E8M0FNU;
 pub use stored::StoredFloat;
 pub use theorems::{
     codes_are_in_order, conversions_by_mode_have_one_answer, conversions_have_one_answer,
-    e3m4_conversions_have_one_answer, exact_values_never_move, picks_are_those_of_the_model,
-    random_numbers_are_counted, scales_by_mode_are_scales, scales_by_mode_have_one_answer,
-    scales_have_one_answer, stored_results_have_one_answer, unsigned_conversions_have_one_answer,
+    e3m4_conversions_have_one_answer, exact_values_never_move, extrema_have_one_answer,
+    picks_are_those_of_the_model, quotients_have_one_answer, random_numbers_are_counted,
+    scales_by_mode_are_scales, scales_by_mode_have_one_answer, scales_have_one_answer,
+    stored_results_have_one_answer, unsigned_conversions_have_one_answer,
 };
 pub use unsigned::UE4M3;

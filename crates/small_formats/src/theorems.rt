@@ -1,7 +1,7 @@
 //! Theorems about the definitions that the calls cite, as contracts of functions with empty bodies.
 
 ghost use Rattle.small_formats.specs.Arithmetic.{IsStoredOnce};
-ghost use Rattle.small_formats.specs.Laws.{AreCodesInOrder, IsIntoOnce, IsScaleOnce, IsUnsignedOnce};
+ghost use Rattle.small_formats.specs.Laws.{AreCodesInOrder, IsCodeOnce, IsIntoOnce, IsScaleOnce, IsUnsignedOnce};
 ghost use Rattle.small_formats.specs.Float8E3M4.{IsE3M4Once};
 ghost use Rattle.small_formats.specs.ModeLaws.{ArePicksOfModel, AreRandomNumbersCounted, IsIntoByOnce};
 ghost use Rattle.small_formats.specs.ModeLaws.{IsIntoOfModel, StaysExact};
@@ -41,6 +41,11 @@ pub fn e3m4_conversions_have_one_answer()
 /// A quotient in a storage format has one answer.
 pub fn quotients_have_one_answer()
     ensures { IsQuotientOnce }
+{}
+
+/// A minimum and a maximum have one answer, since no two codes mean one number.
+pub fn extrema_have_one_answer()
+    ensures { IsCodeOnce }
 {}
 
 /// Of two codes without a sign, the greater one is the greater number.
