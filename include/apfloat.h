@@ -169,10 +169,10 @@ typedef enum apfloat_error APFLOAT_CODE {
 
 /* What these functions say of results holds in all formats but APFLOAT_DOUBLE_PAIR. There sums, differences and
  * products are chains of operations on doubles, each of which rounds. Signs, orders, classes, exponents, scaling and
- * fractions are by the parts. Everything else is computed in a wide format of 106 binary digits, to which the sum of the
- * parts of an operand is first rounded to nearest, and a pair is its result split into two doubles. So for the pair
- * 1 + 2^-200 the root is 1 in every mode with no flag, the integer is 1 with `number` 1, and the next value up is the
- * one above 1 in the wide format. */
+ * fractions are by the parts. Everything else is computed in a wide format of 106 binary digits, to which the sum of
+ * the parts of an operand is first rounded to nearest, and a pair is its result split into two doubles. So for the
+ * pair 1 + 2^-200 the root is 1 in every mode with no flag, the integer is 1 with `number` 1, and the next value up
+ * is the one above 1 in the wide format. */
 
 /* Operations on two values, rounded once: x + y, x - y, x * y, x / y. */
 apfloat_error apfloat_add(apfloat_format format, apfloat_mode mode, apfloat_halves x, apfloat_halves y,
