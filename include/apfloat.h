@@ -804,8 +804,8 @@ apfloat_error apfloat_unpack_codes(apfloat_format element, const uint8_t *bytes,
 
 /* ---- formats of IEEE P3109, one value
  *
- * A format is told by its constants; with others it is unknown (APFLOAT_UNKNOWN_FORMAT). `bits` is the result, and
- * `number` is 1 if information was lost, as in apfloat_to_format, else 0. There are no conversions of
+ * A format is told by its constants; those that no format has are APFLOAT_UNKNOWN_FORMAT. `bits` is the result, and
+ * `number` is 1 if information was lost, else 0: a NaN loses its payload. There are no conversions of
  * APFLOAT_DOUBLE_PAIR (APFLOAT_NO_SUCH_OPERATION). */
 typedef struct apfloat_p3109 {
     uint32_t bits;        /* the width of a code, 3 to 15 */
@@ -814,9 +814,9 @@ typedef struct apfloat_p3109 {
     uint32_t is_extended; /* 1 if the last code of each sign that is not the NaN is an infinity, else 0 */
 } apfloat_p3109;
 
-/* The code in the format `to` of x, a value of `format`, rounded once. The mode may be APFLOAT_TO_ODD too. Past the
- * largest number is the infinity, or the NaN in its place. The only zero is that of -0, with APFLOAT_INEXACT; in a
- * format without a sign the NaN is what is below zero, with APFLOAT_INVALID_OP (FORMATS.md). */
+/* The code in the format `to` of x, a value of `format`, rounded once. The mode may be APFLOAT_TO_ODD too. A number that
+ * rounds past the largest one gives the infinity, or the NaN where there is none. -0 gives the only zero, with
+ * APFLOAT_INEXACT, and, in a format without a sign, what is below zero the NaN, with APFLOAT_INVALID_OP (FORMATS.md). */
 apfloat_error apfloat_to_p3109(apfloat_format format, apfloat_mode mode, apfloat_p3109 to, apfloat_halves x,
                                apfloat_answer *answer);
 
