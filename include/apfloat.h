@@ -814,9 +814,9 @@ typedef struct apfloat_p3109 {
     uint32_t is_extended; /* 1 if the last code of each sign that is not the NaN is an infinity, else 0 */
 } apfloat_p3109;
 
-/* The code in the format `to` of x, a value of `format`, rounded once. The mode may be APFLOAT_TO_ODD too. What the mode
- * leads past the largest number becomes the infinity, or the NaN where there is none; -0 the only zero, with
- * APFLOAT_INEXACT; and in a format without a sign, what is below zero the NaN, with APFLOAT_INVALID_OP (FORMATS.md). */
+/* The code in the format `to` of x, a value of `format`, rounded once. The mode may be APFLOAT_TO_ODD too. What the
+ * mode leads past the largest number becomes the infinity, or the NaN where there is none; -0 the only zero, with
+ * APFLOAT_INEXACT; and, without a sign, what is below zero the NaN, with APFLOAT_INVALID_OP (FORMATS.md). */
 apfloat_error apfloat_to_p3109(apfloat_format format, apfloat_mode mode, apfloat_p3109 to, apfloat_halves x,
                                apfloat_answer *answer);
 
