@@ -45,16 +45,17 @@ static bool is_projected(char *columns[]) {
 }
 
 static bool is_decoded(char *columns[]) {
-    apfloat_answer answer = before;
+    apfloat_answer answer = before, other = before;
     apfloat_halves code;
     apfloat_p3109 from;
     char *mark = strchr(columns[1], '>');
     if (!mark || !read_form(columns[1], &from) || !read_integer(columns[3], 16, &code)) return false;
+    const uint32_t narrow = (uint32_t)code.low, to = format_of(mark + 1), mode = mode_of(columns[2]);
     /* The bits above those of the format are ignored. */
-    const uint32_t wide = (uint32_t)code.low | UINT32_MAX << from.bits;
-    const uint32_t to = format_of(mark + 1), mode = mode_of(columns[2]);
-    return is_answer(apfloat_from_p3109(from, mode, to, wide, &answer), &answer, columns) &&
-           is_answer(apfloat_from_p3109(from, mode, to, (uint32_t)code.low, &answer), &answer, columns);
+    const uint32_t wide = narrow | UINT32_MAX << from.bits;
+    return is_answer(apfloat_from_p3109(from, mode, to, narrow, &answer), &answer, columns) &&
+           apfloat_from_p3109(from, mode, to, wide, &other) == APFLOAT_ANSWERED &&
+           memcmp(&answer, &other, sizeof answer) == 0;
 }
 
 /* The errors, each of which leaves the answer as it was. */

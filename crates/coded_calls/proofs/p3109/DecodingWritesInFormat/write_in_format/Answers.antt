@@ -1,4 +1,6 @@
 use Rattle.std.proofs.Common.{◌∙◌}
+use Rattle.std.specs.Int.{w32}
+use Rattle.std.proofs.lemmas.Int.{to_z-of_z}
 use Rattle.coded_calls.proofs.p3109.DecodingWritesInFormat.write_in_format.Goals as goal
 
 pub returns : goal.returns
@@ -10,6 +12,7 @@ returns g c =
       is_written = record {
         is_encoded = rw c.of.ensures.bits c.to_bits.ensures.written;
         status_is = c.of.ensures.status;
-        number_is = c.of.ensures.number ∙ c.one_if.ensures;
+        number_is =
+            c.of.ensures.number ∙ to_z-of_z w32 c.one_if.result (record { sfits = c.one_if.type_inv }) ∙ c.one_if.ensures;
       };
     }
