@@ -851,7 +851,7 @@ class p3109:
 
     >>> form = p3109(8, 4)
     >>> form.encode(0.1), form.encode(300), form.decode(0x7e), form.decode(0x25, half)
-    (37, 127, single('224.0'), half('0.1015625'))
+    (37, 127, single('224.0'), half('0.10156'))
     """
 
     bits: int

@@ -1,6 +1,6 @@
 -- Calls that convert one value into a format of IEEE P3109 or out of it.
-use Rattle.std.specs.Prelude.{◌≡◌, ℕ, ◌%◌, ◌^◌, ◌<◌, ◌==◌, Bool, true, false, if◌then◌else◌, Option, Some, None, ok_or}
-use Rattle.std.specs.Prelude.{option_and_then, option_map, Result, Ok, Err}
+use Rattle.std.specs.Prelude.{◌≡◌, ℕ, ◌%◌, ◌^◌, ◌<◌, ◌==◌, Bool, true, false, if◌then◌else◌, Option}
+use Rattle.std.specs.Prelude.{Some, None, ok_or, option_and_then, option_map, Result, Ok, Err}
 use Rattle.rustc_apfloat.specs.declared.Round.{Round}
 use Rattle.rustc_apfloat.specs.Conversions.{IsConversion}
 use Rattle.rustc_apfloat.specs.Datum.{Datum}
@@ -52,7 +52,8 @@ out_of_by source mode (OfFormat target) code = Ok (OutOf source mode target code
 out_of_by source mode Pairs code = Err no_such_operation
 
 -- The faults in their order: the format, the mode, the format converted to, that there is no conversion.
-abbrev pub known_into : Option FlaggedKind → Option ConversionRound → Option Descriptor → ℕ → Result P3109Call ℕ
+abbrev pub known_into : Option FlaggedKind → Option ConversionRound → Option Descriptor → ℕ
+    → Result P3109Call ℕ
 known_into source mode target bits =
     ok_or source unknown_format >>= λ from. ok_or mode unknown_mode >>= λ rounding.
     ok_or target unknown_format >>= λ to. into_by from rounding to bits

@@ -11,6 +11,7 @@ pub returns : goal.returns
 returns g c =
     let it = c.args.self in
     let made = c.from_value_by-made.result in
+    let told = to_z-of_z w32 c.one_if.result (record { sfits = c.one_if.type_inv }) in
     record {
       code = made.value;
       status = bits_of made.status;
@@ -24,6 +25,5 @@ returns g c =
       below = c.from_value_by-made.ensures.below;
       bits_are = c.of.ensures.bits ∙ c.from.ensures;
       status_is = c.of.ensures.status;
-      number_is =
-          c.of.ensures.number ∙ to_z-of_z w32 c.one_if.result (record { sfits = c.one_if.type_inv }) ∙ c.one_if.ensures;
+      number_is = c.of.ensures.number ∙ told ∙ c.one_if.ensures;
     }
