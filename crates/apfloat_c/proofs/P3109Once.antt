@@ -1,5 +1,5 @@
 -- A call that converts one value into a format of P3109 or out of it has one answer.
-use Rattle.std.proofs.Common.{◌≡◌, ◌%◌, ◌^◌, Ok, Err, sym, ap, ◌∙◌}
+use Rattle.std.proofs.Common.{◌%◌, ◌^◌, Ok, Err, sym, ap, ◌∙◌}
 use Rattle.rustc_apfloat.specs.Lawful.{format_with}
 use Rattle.apfloat_model.proofs.Once.{conversion_once}
 use Rattle.formats_at_run_time.specs.BuiltIns.{constants_in}
