@@ -134,7 +134,7 @@ typedef enum apfloat_mode APFLOAT_CODE {
     APFLOAT_SATURATE_FINITE = 0x300,
     APFLOAT_SATURATE_ALL = 0x700,
 
-    /* Of apfloat_to_storage_by and apfloat_convert_array_by alone. */
+    /* Of apfloat_to_storage_by and apfloat_convert_array_by alone, and the first one of apfloat_to_p3109. */
     APFLOAT_TO_ODD = 5,
     APFLOAT_RANDOM_DIGITS = 6,
     APFLOAT_MODE_BITS = 0x7fffffff
@@ -803,6 +803,29 @@ apfloat_error apfloat_pack_codes(apfloat_format element, const uint8_t *codes, s
                                  size_t bytes_length);
 apfloat_error apfloat_unpack_codes(apfloat_format element, const uint8_t *bytes, size_t bytes_length, uint8_t *codes,
                                    size_t codes_length);
+
+/* ---- formats of IEEE P3109, one value
+ *
+ * A format is told by its constants; those that no format has are APFLOAT_UNKNOWN_FORMAT. `bits` is the result, and
+ * `number` is 1 if information was lost, else 0: a NaN loses its payload. There are no conversions of
+ * APFLOAT_DOUBLE_PAIR (APFLOAT_NO_SUCH_OPERATION). */
+typedef struct apfloat_p3109 {
+    uint32_t bits;        /* the width of a code, 3 to 15 */
+    uint32_t precision;   /* the binary digits of a significand, at least 1, with a bit left for the exponent */
+    uint32_t is_signed;   /* 1 if there is a sign, and the NaN is the code of -0; 0 if not, and it is the last code */
+    uint32_t is_extended; /* 1 if the last code of each sign that is not the NaN is an infinity, else 0 */
+} apfloat_p3109;
+
+/* The code in the format `to` of x, a value of `format`, rounded once. The mode may be APFLOAT_TO_ODD too. What the
+ * mode leads past the largest number becomes the infinity, or the NaN where there is none; -0 the only zero, with
+ * APFLOAT_INEXACT; and, without a sign, what is below zero the NaN, with APFLOAT_INVALID_OP (FORMATS.md). */
+apfloat_error apfloat_to_p3109(apfloat_format format, apfloat_mode mode, apfloat_p3109 to, apfloat_halves x,
+                               apfloat_answer *answer);
+
+/* The value in the format `to` of a code of the format `format`, rounded once; the bits of `code` above those of its
+ * format are ignored. */
+apfloat_error apfloat_from_p3109(apfloat_p3109 format, apfloat_mode mode, apfloat_format to, uint32_t code,
+                                 apfloat_answer *answer);
 
 /* ---- storage formats, one value
  *

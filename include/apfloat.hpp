@@ -3013,6 +3013,53 @@ expected<array_counts> dequantize_blocks(const stored<e8m0fnu> *scales, const Co
     return detail::counts_of(code, answer);
 }
 
+// ---- formats of IEEE P3109, one value
+
+/// A format of IEEE P3109 by its constants: its width, its precision, whether there is a sign, and whether there are
+/// infinities. Constants that no format has are refused with the error unknown_format.
+struct p3109 {
+    std::uint32_t bits;
+    std::uint32_t precision;
+    bool is_signed = true;
+    bool is_extended = true;
+
+    /// The code of a value, rounded once: p3109{8, 4}.encode(x).
+    template <class From>
+    expected<result<std::uint16_t>> encode(const value<From> &x,
+                                           rounding mode = rounding::nearest_even) const noexcept {
+        return encoded(x, detail::code_of(mode));
+    }
+
+    /// The code of a value, rounded to odd.
+    template <class From>
+    expected<result<std::uint16_t>> encode_odd(const value<From> &x) const noexcept {
+        return encoded(x, APFLOAT_TO_ODD);
+    }
+
+    /// The value of a code in another format, rounded once: p3109{8, 4}.decode<binary32>(code). The bits above those of
+    /// this format are ignored. The rule of the format `To` decides the flags.
+    template <class To>
+    expected<result<value<To>>> decode(std::uint16_t code, rounding mode = rounding::nearest_even) const noexcept {
+        static_assert(!To::is_pair, "there is no conversion to pairs of doubles");
+        apfloat_answer answer = {{0, 0}, 0, 0};
+        const apfloat_error error = apfloat_from_p3109(constants(), detail::code_of(mode), To::code, code, &answer);
+        if (error != APFLOAT_ANSWERED) return static_cast<errc>(error);
+        return detail::result_of<To>(answer);
+    }
+
+private:
+    apfloat_p3109 constants() const noexcept { return {bits, precision, is_signed ? 1u : 0u, is_extended ? 1u : 0u}; }
+
+    template <class From>
+    expected<result<std::uint16_t>> encoded(const value<From> &x, apfloat_mode mode) const noexcept {
+        static_assert(!From::is_pair, "there is no conversion from pairs of doubles");
+        apfloat_answer answer = {{0, 0}, 0, 0};
+        const apfloat_error error = apfloat_to_p3109(From::code, mode, constants(), x.halves(), &answer);
+        if (error != APFLOAT_ANSWERED) return static_cast<errc>(error);
+        return result<std::uint16_t>{static_cast<std::uint16_t>(answer.bits.low), flags::of_code(answer.status)};
+    }
+};
+
 // ---- storage formats, one value
 
 /// A value in a storage format, rounded once: to_storage<e2m1fn>(x).

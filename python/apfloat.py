@@ -70,6 +70,7 @@ import array
 import collections
 import contextvars
 import ctypes
+import dataclasses
 import decimal
 import enum
 import fractions
@@ -95,7 +96,7 @@ __all__ = [
     'e5m2fnuz',
     'float4_e2m1fn', 'float6_e2m3fn', 'float6_e3m2fn', 'float8_e3m4', 'float8_e4m3', 'float8_e4m3b11fnuz',
     'float8_e4m3fn', 'float8_e4m3fnuz', 'float8_e5m2', 'float8_e5m2fnuz', 'float8_e8m0fnu', 'finfo', 'half',
-    'machine', 'made_by', 'mx', 'quad', 'report', 'single', 'tf32', 'ue4m3', 'x87',
+    'machine', 'made_by', 'mx', 'p3109', 'quad', 'report', 'single', 'tf32', 'ue4m3', 'x87',
 ]
 
 
@@ -198,6 +199,10 @@ class _Answer(ctypes.Structure):
     _fields_ = [('bits', _Halves), ('status', ctypes.c_uint32), ('number', ctypes.c_int32)]
 
 
+class _P3109(ctypes.Structure):
+    _fields_ = [(name, ctypes.c_uint32) for name in ('bits', 'precision', 'is_signed', 'is_extended')]
+
+
 class _Text(ctypes.Structure):
     bytes: bytes
     length: int
@@ -230,6 +235,8 @@ def _parameters() -> dict[str, list[Any]]:
         'convert': [code, code, code, _Halves, answer],
         'to_storage': [code, code, code, _Halves, answer],
         'from_storage': [code, code, code, code, answer],
+        'to_p3109': [code, code, _P3109, _Halves, answer],
+        'from_p3109': [_P3109, code, code, code, answer],
         'to_storage_by': [code, code, code, code, code, _Halves, answer],
         'convert_array_by': [code, code, code, code, *array * 3, ctypes.POINTER(_ArrayAnswer)],
         'to_i128': [code, code, _Halves, code, answer],
@@ -809,7 +816,7 @@ class StorageFormat:
         return self._encoded_by(_RANDOM_DIGITS, number, digits, random)
 
     def _encoded_by(self, mode: int, number: Any, digits: int, random: int) -> int:
-        x = self._number(number)
+        x = _number(number)
         return _call('to_storage_by', x.format.code, mode, self.code, digits, random, _halves(x.bits)).bits.low
 
     def encode(self, number: Any, saturate: bool | str = False) -> int:
@@ -818,15 +825,8 @@ class StorageFormat:
         >>> float4_e2m1fn.encode(0.7), float8_e3m4.encode(double(1000), saturate=True)
         (1, 111)
         """
-        x, mode = self._number(number), context().mode | _saturation(saturate)
+        x, mode = _number(number), context().mode | _saturation(saturate)
         return _call('to_storage', x.format.code, mode, self.code, _halves(x.bits)).bits.low
-
-    def _number(self, number: Any) -> Value:
-        """A value, or any other number as one of `quad`, which has to have it."""
-        x = number if isinstance(number, Value) else quad.from_bits(0)._converted(number)
-        if x is NotImplemented:
-            raise TypeError(f'{number!r} is no number')
-        return cast(Value, x)
 
     def decode(self, code: int, format: Format | None = None, saturate: bool | str = False) -> Value:
         """The value of a code in another format, or in `single`, rounded once in the mode of the context.
@@ -838,6 +838,55 @@ class StorageFormat:
             raise ValueError(f'{self.name} has {self.width} bits')
         target, mode = single if format is None else format, context().mode | _saturation(saturate)
         return Value(target, _whole(_call('from_storage', self.code, mode, target.code, code).bits))
+
+
+def _number(number: Any) -> Value:
+    """A value, or any other number as one of `quad`, which has to have it."""
+    x = number if isinstance(number, Value) else quad.from_bits(0)._converted(number)
+    if x is NotImplemented:
+        raise TypeError(f'{number!r} is no number')
+    return cast(Value, x)
+
+
+@dataclasses.dataclass(frozen=True)
+class p3109:
+    """A format of IEEE P3109: its width of 3 to 15 bits, its precision, whether it has a sign, and infinities.
+
+    >>> form = p3109(8, 4)
+    >>> form.encode(0.1), form.encode(300), form.decode(0x7e), form.decode(0x25, half)
+    (37, 127, single('224.0'), half('0.10156'))
+    """
+
+    bits: int
+    precision: int
+    signed: bool = True
+    extended: bool = True
+
+    def __post_init__(self) -> None:
+        if not 3 <= self.bits <= 15 or not 1 <= self.precision <= self.bits - bool(self.signed):
+            raise ValueError(f'P3109 has no {self}')
+
+    def encode(self, number: Any) -> int:
+        """The code of a value, rounded once in the mode of the context; any other number has to be one of `quad`."""
+        return self._encoded(context().mode, number)
+
+    def encode_to_odd(self, number: Any) -> int:
+        """The code of a value, rounded to odd."""
+        return self._encoded(_TO_ODD, number)
+
+    def decode(self, code: int, format: Format | None = None) -> Value:
+        """The value of a code in another format, or in `single`, rounded once in the mode of the context."""
+        if not 0 <= operator.index(code) < 1 << self.bits:
+            raise ValueError(f'{self} has {self.bits} bits')
+        target = single if format is None else format
+        return Value(target, _whole(_call('from_p3109', self._constants(), context().mode, target.code, code).bits))
+
+    def _encoded(self, mode: int, number: Any) -> int:
+        x = _number(number)
+        return _call('to_p3109', x.format.code, mode, self._constants(), _halves(x.bits)).bits.low
+
+    def _constants(self) -> _P3109:
+        return _P3109(self.bits, self.precision, self.signed, self.extended)
 
 
 # ---- numpy

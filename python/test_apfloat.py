@@ -18,6 +18,7 @@ import operator
 import os
 import pickle
 import random
+import re
 import shutil
 import struct
 import subprocess
@@ -1440,7 +1441,8 @@ class StoredTests(unittest.TestCase):
 
 
 class StorageRowTests(unittest.TestCase):
-    """Single values of storage formats, by the rows of tests/c/storage, which evidence/storage_calls.py computes."""
+    """Single values of storage formats and of P3109, by the rows of tests/c/storage, which evidence/storage_calls.py
+    computes, and of tests/c/p3109, by evidence/p3109_calls.py."""
 
     MODES = {'even': apfloat.NEAREST_EVEN, 'up': apfloat.UPWARD, 'down': apfloat.DOWNWARD, 'zero': apfloat.TOWARD_ZERO,
              'away': apfloat.NEAREST_AWAY}
@@ -1448,15 +1450,23 @@ class StorageRowTests(unittest.TestCase):
     NAMES = {format.name.rpartition('_')[2]: format for format in StoredTests.STORED}
 
     def format_of(self, name):
+        constants = re.fullmatch(r'binary(\d+)p(\d+)([su])([ef])', name)
+        if constants:
+            width, precision, sign, ends = constants.groups()
+            return apfloat.p3109(int(width), int(precision), sign == 's', ends == 'e')
         format, *rule = name.split('+')
         return functools.reduce(getattr, rule, self.NAMES.get(format) or getattr(apfloat, format))
 
     def made(self, call, source, target, mode, bits):
         """The bits that a row's call gives."""
         mode, _, saturation = mode.partition('+')
+        if call == 'from_p3109':
+            return source.decode(bits, target).bits
         if call == 'from_storage':
             return source.decode(bits, target, self.SATURATIONS[saturation]).bits
         x = source.from_bits(bits)
+        if call == 'to_p3109':
+            return target.encode_to_odd(x) if mode == 'odd' else target.encode(x)
         if call == 'to_storage':
             return target.encode(x, self.SATURATIONS[saturation])
         if mode == 'odd':
@@ -1470,10 +1480,10 @@ class StorageRowTests(unittest.TestCase):
 
     def test_rows(self):
         count = 0
-        with open(os.path.join(HERE, '..', 'tests', 'c', 'storage'), encoding='utf-8') as rows:
+        for name in 'storage', 'p3109':
+            with open(os.path.join(HERE, '..', 'tests', 'c', name), encoding='utf-8') as file:
+                rows = [row for row in file if not row.startswith('#')]
             for row in rows:
-                if row.startswith('#'):
-                    continue
                 call, kind, mode, given, result, status, _ = row.rstrip('\n').split('\t')
                 source, target = map(self.format_of, kind.split('>'))
                 with Context(mode=self.MODES.get(mode.split('+')[0], apfloat.NEAREST_EVEN)) as context:
@@ -1482,7 +1492,22 @@ class StorageRowTests(unittest.TestCase):
                                          Flags(0))
                 self.assertEqual((made, context.flags), (int(result, 16), flags), row)
                 count += 1
-        self.assertGreater(count, 5000)
+        self.assertGreater(count, 7000)
+
+    def test_formats_of_p3109(self):
+        form = apfloat.p3109(8, 4)
+        self.assertEqual(form, pickle.loads(pickle.dumps(form)))
+        self.assertNotEqual(form, apfloat.p3109(8, 4, extended=False))
+        for constants in ((2, 1), (16, 3), (8, 0), (8, 8), (8, 9, False), (-8, 3), (8 + (1 << 32), 3)):
+            with self.subTest(constants), self.assertRaises(ValueError):
+                apfloat.p3109(*constants)
+        for code in -1, 256:
+            with self.subTest(code), self.assertRaises(ValueError):
+                form.decode(code)
+        with self.assertRaises(TypeError):
+            form.encode(b'1')
+        with self.assertRaises(apfloat.Refused):
+            form.encode(apfloat.double_pair(1))
 
     def test_refused(self):
         with self.assertRaises(ValueError):

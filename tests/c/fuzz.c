@@ -155,10 +155,17 @@ static size_t width_of(uint32_t of) {
         answered += error == APFLOAT_ANSWERED;                                                                         \
     } while (0)
 
+/* The constants of a format of P3109, mostly. */
+static apfloat_p3109 constants(void) {
+    const uint32_t width = code(17);
+    const apfloat_p3109 made = {width, below(16) ? 1 + below(width % 16 + 1) : code(20), code(2), code(2)};
+    return made;
+}
+
 static void values(void) {
     uint32_t f = format(), m = mode();
     apfloat_halves x = bits(), y = bits(), z = bits();
-    switch (below(50)) {
+    switch (below(52)) {
     case 0: ONE(apfloat_add, f, m, x, y); break;
     case 1: ONE(apfloat_sub, f, m, x, y); break;
     case 2: ONE(apfloat_mul, f, m, x, y); break;
@@ -227,6 +234,8 @@ static void values(void) {
         }
         break;
     }
+    case 48: ONE(apfloat_to_p3109, f, code(6), constants(), x); break;
+    case 49: ONE(apfloat_from_p3109, constants(), m, f, (uint32_t)random_word()); break;
     default: ONE(apfloat_machine, code(10), code(17), f, m, below(2) ? format() : code(130), x, y, z);
     }
 }

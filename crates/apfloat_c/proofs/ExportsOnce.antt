@@ -156,7 +156,7 @@ module _ (constants : Constants) (has : HasLaw constants) (mode : Round) where
       (scale_some constants has.law) (lawful_interchange constants has.law)
 
   -- a value converted to another format has one result
-  converted_once : (Holds : Datum → ℕ → Bool → Type 0) → OnceWith Holds
+  pub converted_once : (Holds : Datum → ℕ → Bool → Type 0) → OnceWith Holds
       → OnceAnswer (IsAnswerConverted constants Holds)
   converted_once Holds determines a b x y =
       let same = determines x.given.value y.given.value (bits_of x.given.status) (bits_of y.given.status) x.loses

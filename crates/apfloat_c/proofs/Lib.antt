@@ -8,6 +8,7 @@ pub mod ParsedOnce
 pub mod FlaglessOnce
 pub mod IeeeOnce
 pub mod MachineOnce
+pub mod P3109Once
 pub mod OperationTables
 pub mod NormalElements
 pub mod DecimalReadings

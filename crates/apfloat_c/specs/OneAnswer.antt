@@ -16,6 +16,7 @@ use Rattle.coded_calls.specs.declared.exported_call.ExportedCall.{ExportedCall}
 use Rattle.coded_calls.specs.declared.flagless_call.FlaglessCall.{FlaglessCall}
 use Rattle.coded_calls.specs.declared.ieee_call.IeeeCall.{IeeeCall}
 use Rattle.coded_calls.specs.declared.ieee_call.InAnotherCall.{InAnotherCall}
+use Rattle.coded_calls.specs.declared.p3109.P3109Call.{P3109Call}
 use Rattle.apfloat_c.specs.About.{IsErrorText}
 use Rattle.coded_calls.specs.Answers.{IsReturned, whole}
 use Rattle.apfloat_c.specs.Arrays.{IsConvertedArray, IsMappedArray}
@@ -25,6 +26,7 @@ use Rattle.coded_calls.specs.FlaglessCalls.{IsFlaglessReply}
 use Rattle.coded_calls.specs.IeeeCalls.{IsIeeeReply, IsInAnotherReply}
 use Rattle.coded_calls.specs.KnownCalls.{known_call}
 use Rattle.coded_calls.specs.MachineCalls.{IsMachineReply, MachineRequest}
+use Rattle.coded_calls.specs.P3109.{IsP3109Reply}
 
 -- two results with the same number of 128 bits, the same flags, and the same extra number
 pub record SameAnswer (first second : Answer) : Type 0 where
@@ -84,6 +86,13 @@ abbrev pub IsMachineReplyOnce : Type 0
 IsMachineReplyOnce =
     (known : Result MachineRequest ℕ) (old first second : Answer) (code other : ℕ)
     → IsMachineReply known old first code → IsMachineReply known old second other
+    → (code ≡ other) × SameAnswer first second
+
+-- a conversion into a format of P3109 or out of it
+abbrev pub IsP3109ReplyOnce : Type 0
+IsP3109ReplyOnce =
+    (known : Result P3109Call ℕ) (old first second : Answer) (code other : ℕ)
+    → IsP3109Reply known old first code → IsP3109Reply known old second other
     → (code ≡ other) × SameAnswer first second
 
 -- the text for a code

@@ -22,6 +22,7 @@ mod maps;
 mod normal_elements;
 mod one_answer;
 mod operation_tables;
+mod p3109_exports;
 mod pairs;
 mod readings;
 mod reductions;

@@ -3,3 +3,4 @@ pub mod Answers
 pub mod FlaglessCalls
 pub mod IeeeCalls
 pub mod MachineCalls
+pub mod P3109

@@ -3,8 +3,8 @@
 //!
 //! Each call returns 0, or the code of the first error and leaves the answer unchanged; it requires nothing of codes
 //! and bits. None looks into a value: each makes a public call of the library, or one from bits to bits. Arrays,
-//! blocks and storage formats do not belong here, and no export can: all that needs them stands above, so that these
-//! calls are proved beside them.
+//! blocks and storage formats do not belong here, and no export can: all that needs `apfloat_arrays` stands above, so
+//! that these calls are proved beside it.
 #![tactic(auto)]
 
 pub mod answers;
@@ -21,5 +21,6 @@ pub mod ieee_call;
 pub mod machine_call;
 pub mod machine_operations;
 pub mod operations;
+pub mod p3109;
 pub mod standard_operations;
 pub mod usual_operands;

@@ -1,0 +1,29 @@
+use Rattle.std.proofs.Common.{subst, ◌∙◌}
+use Rattle.std.specs.Int.{w32}
+use Rattle.std.proofs.lemmas.Int.{to_z-of_z}
+use Rattle.rustc_apfloat.specs.Datum.{Datum}
+use Rattle.rustc_apfloat.specs.Flags.{bits_of}
+use Rattle.rustc_apfloat.specs.Types.{format_of}
+use Rattle.p3109_formats.specs.ModeConversions.{IsIntoProjectionBy}
+use Rattle.coded_calls.proofs.p3109.ProjectingInFormat.in_format.Goals as goal
+
+pub returns : goal.returns
+returns g c =
+    let it = c.args.self in
+    let made = c.from_value_by-made.result in
+    let told = to_z-of_z w32 c.one_if.result (record { sfits = c.one_if.type_inv }) in
+    record {
+      code = made.value;
+      status = bits_of made.status;
+      loses = c.from_value_by-made.new.loses_info;
+      lawful = c.requires.can;
+      is_into =
+          subst
+          (λ (x : Datum). IsIntoProjectionBy it.target (format_of g.S.Semantics) it.mode x made.value
+          (bits_of made.status) c.from_value_by-made.new.loses_info)
+          c.from_bits-x.ensures.read c.from_value_by-made.ensures.into;
+      below = c.from_value_by-made.ensures.below;
+      bits_are = c.of.ensures.bits ∙ c.from.ensures;
+      status_is = c.of.ensures.status;
+      number_is = c.of.ensures.number ∙ told ∙ c.one_if.ensures;
+    }

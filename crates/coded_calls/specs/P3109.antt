@@ -1,0 +1,100 @@
+-- Calls that convert one value into a format of IEEE P3109 or out of it.
+use Rattle.std.specs.Prelude.{◌≡◌, ℕ, ◌%◌, ◌^◌, ◌<◌, ◌==◌, Bool, true, false, if◌then◌else◌, Option}
+use Rattle.std.specs.Prelude.{Some, None, ok_or, option_and_then, option_map, Result, Ok, Err}
+use Rattle.rustc_apfloat.specs.declared.Round.{Round}
+use Rattle.rustc_apfloat.specs.Conversions.{IsConversion}
+use Rattle.rustc_apfloat.specs.Datum.{Datum}
+use Rattle.rustc_apfloat.specs.Format.{Format}
+use Rattle.rustc_apfloat.specs.Lawful.{Constants, format_with}
+use Rattle.formats_at_run_time.specs.declared.FlaggedKind.{FlaggedKind}
+use Rattle.formats_at_run_time.specs.declared.FlaggedKind.TheVariants.{OfFormat, Pairs}
+use Rattle.formats_at_run_time.specs.BuiltIns.{constants_in}
+use Rattle.formats_at_run_time.specs.FlaggedKinds.{flagged_constants, format_without_rule}
+use Rattle.formats_at_run_time.specs.ValueKinds.{value_of}
+use Rattle.formats_at_run_time.specs.Modes.{mode_coded}
+use Rattle.small_formats.specs.declared.ConversionRound.{ConversionRound}
+use Rattle.small_formats.specs.declared.ConversionRound.TheVariants.{Ieee, ToOdd}
+use Rattle.p3109_formats.specs.declared.descriptor.Descriptor.{Descriptor}
+use Rattle.p3109_formats.specs.LawTest.{descriptor_with}
+use Rattle.p3109_formats.specs.ModeConversions.{IsIntoProjectionBy}
+use Rattle.p3109_formats.specs.Projections.{IsProjection, projected_datum, projected_format}
+use Rattle.coded_calls.specs.declared.data.Answer.{Answer}
+use Rattle.coded_calls.specs.declared.p3109.P3109Call.{P3109Call}
+use Rattle.coded_calls.specs.declared.p3109.P3109Call.TheVariants.{Into, OutOf}
+use Rattle.coded_calls.specs.declared.p3109.P3109Format.{P3109Format}
+use Rattle.coded_calls.specs.Answers.{IsAnswerConverted, one_if, whole}
+use Rattle.coded_calls.specs.KnownCalls.{◌>>=◌, answered, no_such_operation, unknown_format, unknown_mode}
+
+-- ---- what is asked for
+
+abbrev pub flag_coded : ℕ → Option Bool
+flag_coded code = if code == 0 then Some false else if code == 1 then Some true else None
+
+abbrev pub descriptor_coded : P3109Format → Option Descriptor
+descriptor_coded format =
+    option_and_then
+    (λ signed. option_and_then (λ extended. descriptor_with format.bits format.precision signed extended)
+    (flag_coded format.is_extended))
+    (flag_coded format.is_signed)
+
+-- after the codes of the modes of IEEE 754 that of rounding to odd
+abbrev pub conversion_round_coded : ℕ → Option ConversionRound
+conversion_round_coded mode =
+    if mode == 5 then Some ToOdd else option_map (λ (round : Round). Ieee round) (mode_coded mode)
+
+-- there are no conversions of pairs of doubles
+abbrev pub into_by : FlaggedKind → ConversionRound → Descriptor → ℕ → Result P3109Call ℕ
+into_by (OfFormat source) mode target bits = Ok (Into (format_without_rule source) mode target bits)
+into_by Pairs mode target bits = Err no_such_operation
+
+abbrev pub out_of_by : Descriptor → Round → FlaggedKind → ℕ → Result P3109Call ℕ
+out_of_by source mode (OfFormat target) code = Ok (OutOf source mode target code)
+out_of_by source mode Pairs code = Err no_such_operation
+
+-- The faults in their order: the format, the mode, the format converted to, that there is no conversion.
+abbrev pub known_into : Option FlaggedKind → Option ConversionRound → Option Descriptor → ℕ
+    → Result P3109Call ℕ
+known_into source mode target bits =
+    ok_or source unknown_format >>= λ from. ok_or mode unknown_mode >>= λ rounding.
+    ok_or target unknown_format >>= λ to. into_by from rounding to bits
+
+abbrev pub known_out_of : Option Descriptor → Option Round → Option FlaggedKind → ℕ → Result P3109Call ℕ
+known_out_of source mode target code =
+    ok_or source unknown_format >>= λ from. ok_or mode unknown_mode >>= λ rounding.
+    ok_or target unknown_format >>= λ to. out_of_by from rounding to code
+
+abbrev pub IsLawful : P3109Call → Type 0
+IsLawful (Into source mode target bits) = IsProjection target
+IsLawful (OutOf source mode target code) = IsProjection source
+
+-- ---- what a call leaves
+
+-- the code, its flags, and whether information was lost
+pub record IsProjectedAnswer (c : Descriptor) (f : Format) (mode : ConversionRound) (x : Datum) (answer : Answer)
+    : Type 0 where
+  pub code : ℕ
+  pub status : ℕ
+  pub loses : Bool
+  pub lawful : IsProjection c
+  pub is_into : IsIntoProjectionBy c f mode x code status loses
+  pub below : code < 2 ^ c.bits
+  pub bits_are : whole answer.bits ≡ code
+  pub status_is : answer.status ≡ status
+  pub number_is : answer.number ≡ one_if loses
+
+-- the value of the code that the lowest bits are, its flags, and whether information was lost
+abbrev pub IsDecodedAnswer : Descriptor → Constants → Round → ℕ → Answer → Type 0
+IsDecodedAnswer c d mode code answer =
+    IsAnswerConverted d (IsConversion (projected_format c) (format_with d) mode (projected_datum c (code % 2 ^ c.bits)))
+    answer
+
+abbrev pub IsP3109Answer : P3109Call → Answer → Type 0
+IsP3109Answer (Into source mode target bits) answer =
+    IsProjectedAnswer target (format_with (constants_in source)) mode (value_of (constants_in source) bits) answer
+IsP3109Answer (OutOf source mode target code) answer =
+    IsDecodedAnswer source (flagged_constants target) mode code answer
+
+-- the code 0 and the conversion, or the code of the error and the previous answer
+abbrev pub IsP3109Reply : Result P3109Call ℕ → Answer → Answer → ℕ → Type 0
+IsP3109Reply (Ok call) before after code = (code ≡ answered) × IsP3109Answer call after
+IsP3109Reply (Err error) before after code = (code ≡ error) × (after ≡ before)
