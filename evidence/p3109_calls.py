@@ -12,10 +12,10 @@ from exact.data import Finite, Infinite
 from exact.drawing import Generator
 from exact.formats import E4M3FNUZ, FORMATS, HALF
 from exact.rounding import Mode, delivered
-from exact.status import OK, names
+from exact.status import OK
 from projections import INFINITY, NEGATIVE_INFINITY, NOT_A_NUMBER, Projection
 from row_files import MODES, hexes
-from storage_calls import SOURCES, TARGETS
+from storage_calls import SOURCES, TARGETS, line, operands
 from storage_formats import convert
 
 FORMS = (
@@ -41,32 +41,19 @@ def load(form, target, code, mode):
     return made, status, status != OK
 
 
-def operands(form, source, draw):
-    """Bits of values of a format: beside numbers, midpoints and the largest number of the form, and any others."""
+def magnitudes_of(form, draw):
+    """Numbers of a form, the largest one among them, and midpoints above them."""
     places = [draw.between(0, form.largest_index) for _ in range(2)] + [form.largest_index]
-    found = {0, 1} | ({encoded(source, Infinite(False))} if source.has_infinity else set())
     for place in places:
         below, above = form.magnitude(place), form.magnitude(place + 1)
-        for exact in (below, (below + above) / 2):
-            amount = exact * (1 << source.scale)
-            value, _ = delivered(source, Mode.EVEN, False, amount.numerator, amount.denominator)
-            bits = encoded(source, value)
-            found |= {bits - 1, bits, bits + 1}
-    greatest = 1 << source.bits - 1
-    found |= {draw.wide_word() % greatest for _ in range(3)}
-    return [negative << source.bits - 1 | bits % greatest for bits in sorted(found) for negative in (0, 1)]
-
-
-def line(call, kind, mode, given, made, status, loses):
-    """A row."""
-    return "\t".join((call, kind, mode, given, made, names(status), str(int(loses))))
+        yield from (below, (below + above) / 2)
 
 
 def into_projections(form, sources, draw):
     """Rows of values that become codes, each in a mode by turns."""
     for name in sources:
         source = FORMATS[name]
-        for bits in operands(form, source, draw):
+        for bits in operands(source, magnitudes_of(form, draw), draw):
             mode, x = [*MODES, None][draw.between(0, 5)], decoded(source, bits)
             code, status, loses = project(form, source, x, None) if mode is None else form.store(source, x, mode)
             yield line("to_p3109", f"{name}>{form.name}", mode.value if mode else "odd", hexes(source, bits),

@@ -97,26 +97,30 @@ def load(word, saturation, target, code, mode):
     return value, status
 
 
-def operands(word, source, draw):
-    """Bits of values of a format."""
-    form = FORMS[word]
-    points = form.points
+def operands(source, magnitudes, draw):
+    """Bits of values of a format: those beside some magnitudes, both signs of each, and any others."""
     found = {0, 1} | ({encoded(source, Infinite(False))} if source.has_infinity else set())
-    for _ in range(3):
-        place = draw.between(1, len(points) - 2)
-        for exact in (points[place], (points[place] + points[place + 1]) / 2):
-            amount = exact * (1 << source.scale)
-            value, _ = delivered(source, Mode.EVEN, False, amount.numerator, amount.denominator)
-            bits = encoded(source, value)
-            found |= {bits - 1, bits, bits + 1}
+    for exact in magnitudes:
+        amount = exact * (1 << source.scale)
+        value, _ = delivered(source, Mode.EVEN, False, amount.numerator, amount.denominator)
+        bits = encoded(source, value)
+        found |= {bits - 1, bits, bits + 1}
     greatest = 1 << source.bits - 1
     found |= {draw.wide_word() % greatest for _ in range(3)}
     return [negative << source.bits - 1 | bits % greatest for bits in sorted(found) for negative in (0, 1)]
 
 
-def line(call, kind, mode, given, made, status, is_not_a_number):
-    """A row."""
-    return "\t".join((call, kind, mode, given, made, names(status), str(int(is_not_a_number))))
+def near_points(word, draw):
+    """Numbers of a storage format, and midpoints above them."""
+    points = FORMS[word].points
+    for _ in range(3):
+        place = draw.between(1, len(points) - 2)
+        yield from (points[place], (points[place] + points[place + 1]) / 2)
+
+
+def line(call, kind, mode, given, made, status, number):
+    """A row. The number is the answer's third field."""
+    return "\t".join((call, kind, mode, given, made, names(status), str(int(number))))
 
 
 def conversions(draw):
@@ -125,7 +129,7 @@ def conversions(draw):
     for word, form in FORMS.items():
         for name in SOURCES:
             source = FORMATS[name]
-            for bits in operands(word, source, draw):
+            for bits in operands(source, near_points(word, draw), draw):
                 mode, saturation = turns[draw.between(0, len(turns) - 1)]
                 code, status = store(word, saturation, source, decoded(source, bits), mode)
                 yield line("to_storage", f"{name}>{word}", mode.value + saturation, hexes(source, bits),
@@ -145,7 +149,7 @@ def conversions_by_mode(draw):
     for word, form in FORMS.items():
         for name in SOURCES:
             source = FORMATS[name]
-            for bits in operands(word, source, draw):
+            for bits in operands(source, near_points(word, draw), draw):
                 digits = draw.between(0, 32)
                 mode = (digits, draw.between(0, (1 << digits) - 1)) if digits else None
                 code, status = store_by(word, source, decoded(source, bits), mode)

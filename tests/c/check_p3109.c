@@ -25,15 +25,6 @@ static bool read_form(const char *name, apfloat_p3109 *form) {
     return true;
 }
 
-/* Whether the call left this, and nothing else. */
-static bool is_answer(uint32_t code, const apfloat_answer *answer, char *columns[]) {
-    apfloat_halves bits;
-    uint32_t status;
-    return code == APFLOAT_ANSWERED && read_integer(columns[4], 16, &bits) && read_flags(columns[5], &status) &&
-           answer->bits.low == bits.low && answer->bits.high == bits.high && answer->status == status &&
-           answer->number == atoi(columns[6]);
-}
-
 static bool is_projected(char *columns[]) {
     apfloat_answer answer = before;
     apfloat_halves x;

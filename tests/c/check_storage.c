@@ -42,15 +42,6 @@ static uint32_t mode_of(char *word) {
     return code_of(modes, COUNT(modes), word) | (large ? code_of(overflows, COUNT(overflows), large) : 0);
 }
 
-/* Whether the call left this, and nothing else. */
-static bool is_answer(uint32_t code, const apfloat_answer *answer, char *columns[]) {
-    apfloat_halves bits;
-    uint32_t status;
-    return code == APFLOAT_ANSWERED && read_integer(columns[4], 16, &bits) && read_flags(columns[5], &status) &&
-           answer->bits.low == bits.low && answer->bits.high == bits.high && answer->status == status &&
-           answer->number == atoi(columns[6]);
-}
-
 static bool is_stored(char *columns[]) {
     apfloat_answer answer = before;
     apfloat_halves x;

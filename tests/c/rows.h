@@ -6,6 +6,7 @@
 #include "../../examples/c/names.h"
 
 #include <stdbool.h>
+#include <stdlib.h>
 #include <string.h>
 
 /* Memory that no call left as it is. */
@@ -63,6 +64,15 @@ static bool read_flags(char *names, uint32_t *status) {
         *status |= flag;
     }
     return true;
+}
+
+/* Whether a call was answered with the bits, flags and number of the last three of seven columns. */
+static inline bool is_answer(uint32_t code, const apfloat_answer *answer, char *columns[]) {
+    apfloat_halves bits;
+    uint32_t status;
+    return code == APFLOAT_ANSWERED && read_integer(columns[4], 16, &bits) && read_flags(columns[5], &status) &&
+           answer->bits.low == bits.low && answer->bits.high == bits.high && answer->status == status &&
+           answer->number == atoi(columns[6]);
 }
 
 #endif
