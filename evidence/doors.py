@@ -64,7 +64,6 @@ ROWS = (
 REASONS = {
     'decimals with these flags': {'Programs': 'rows lack them'},
     'exact reductions': {'Programs': 'rows lack them'},
-    'blocks of NVFP4': {'C': 'no array has the scale of a tensor'},
     'formats of P3109': {'C': 'four constants have no code'},
     "a format's constants": {'Programs': '`docs/FORMATS.md` has them'},
 }
