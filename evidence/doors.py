@@ -64,7 +64,6 @@ ROWS = (
 REASONS = {
     'decimals with these flags': {'Programs': 'rows lack them'},
     'exact reductions': {'Programs': 'rows lack them'},
-    'blocks of NVFP4': {'C': 'no array has the scale of a tensor'},
     "a format's constants": {'Programs': '`docs/FORMATS.md` has them'},
 }
 

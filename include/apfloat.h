@@ -795,6 +795,22 @@ apfloat_error apfloat_dequantize_blocks(apfloat_format element, apfloat_mode mod
                                         size_t codes_length, uint8_t *results, size_t results_length,
                                         apfloat_array_answer *answer);
 
+/* The same in NVFP4: elements of APFLOAT_E2M1FN, 16 in a block of that format, and two scales. That of the tensor is
+ * the bits of a positive single (APFLOAT_NO_SUCH_OPERATION if `tensor` is not one); NVFP4 takes the greatest magnitude
+ * of the tensor over 2688, or 1 in place of 0. That of a block is a code of APFLOAT_E4M3FN, its greatest magnitude
+ * divided by 6 and by `tensor`, rounded once and at most 448, at least the least number, and 0 for zeros alone. An
+ * element is divided by both scales, in a block of zeros by the least one. */
+apfloat_error apfloat_quantize_nvfp4(apfloat_format format, apfloat_mode mode, uint32_t tensor, size_t length,
+                                     const uint8_t *values, size_t values_length, uint8_t *scales,
+                                     size_t scales_length, uint8_t *codes, size_t codes_length,
+                                     apfloat_array_answer *answer);
+
+/* The product of each element and both scales. A scale with a sign is APFLOAT_WIDE_OPERAND too. */
+apfloat_error apfloat_dequantize_nvfp4(uint32_t tensor, apfloat_mode mode, apfloat_format to, size_t length,
+                                       const uint8_t *scales, size_t scales_length, const uint8_t *codes,
+                                       size_t codes_length, uint8_t *results, size_t results_length,
+                                       apfloat_array_answer *answer);
+
 /* Codes of 4 bits two in a byte, the first one in its low half, and of 6 bits four in three bytes, from the lowest bit
  * of the first byte on; and the codes again, one in a byte. There is nothing to pack of elements of 8 bits
  * (APFLOAT_NO_SUCH_OPERATION). APFLOAT_WRONG_LENGTH says that the codes do not fill whole groups, or that there are not

@@ -3013,6 +3013,64 @@ expected<array_counts> dequantize_blocks(const stored<e8m0fnu> *scales, const Co
     return detail::counts_of(code, answer);
 }
 
+/// How many elements a block of NVFP4 has.
+inline constexpr std::size_t nvfp4_block = 16;
+
+/// Quantizes `count` values in blocks of NVFP4 (apfloat.h) with the scale of their tensor: the scale of each block, and
+/// the code of each element. The arrays do not overlap; if the scale of the tensor is not positive, the error is
+/// no_such_operation, and wrong_length as for quantize_blocks.
+template <class From>
+expected<array_counts> quantize_nvfp4(const value<From> *values, std::size_t count, const value<binary32> &tensor,
+                                      value<e4m3fn> *scales, stored<e2m1fn> *codes,
+                                      rounding mode = rounding::nearest_even) noexcept {
+    static_assert(!From::is_pair, "there are no blocks of pairs of doubles");
+    if (!detail::has_lowest_byte_first()) return errc::no_such_operation;
+    const bool is_missing = count != 0 && (values == nullptr || scales == nullptr || codes == nullptr);
+    const std::size_t present = is_missing ? 0 : count;
+    apfloat_array_answer answer = {0, 0, 0, 0, 0, 0, 0, 0, 0};
+    const apfloat_error code = apfloat_quantize_nvfp4(
+        From::code, detail::code_of(mode), tensor.bits(), nvfp4_block, detail::bytes_of(values),
+        present * sizeof(value<From>), detail::bytes_of(scales), present / nvfp4_block, detail::bytes_of(codes),
+        present, &answer);
+    if (code == APFLOAT_ANSWERED && is_missing) return errc::wrong_length;
+    return detail::counts_of(code, answer);
+}
+
+/// Takes `count` values out of blocks of NVFP4: each element times both scales, rounded once. If a scale has a sign,
+/// the error is wide_operand.
+template <class To>
+expected<array_counts> dequantize_nvfp4(const value<e4m3fn> *scales, const stored<e2m1fn> *codes, std::size_t count,
+                                        const value<binary32> &tensor, value<To> *results,
+                                        rounding mode = rounding::nearest_even) noexcept {
+    static_assert(!To::is_pair, "there are no blocks of pairs of doubles");
+    if (!detail::has_lowest_byte_first()) return errc::no_such_operation;
+    const bool is_missing = count != 0 && (scales == nullptr || codes == nullptr || results == nullptr);
+    const std::size_t present = is_missing ? 0 : count;
+    apfloat_array_answer answer = {0, 0, 0, 0, 0, 0, 0, 0, 0};
+    const apfloat_error code = apfloat_dequantize_nvfp4(
+        tensor.bits(), detail::code_of(mode), To::code, nvfp4_block, detail::bytes_of(scales), present / nvfp4_block,
+        detail::bytes_of(codes), present, detail::bytes_of(results), present * sizeof(value<To>), &answer);
+    if (code == APFLOAT_ANSWERED && is_missing) return errc::wrong_length;
+    return detail::counts_of(code, answer);
+}
+
+/// The scale of a tensor of NVFP4: the greatest magnitude over 2688, rounded once to nearest, at most the largest
+/// value, and 1 in place of 0. If a value is an infinity or a NaN, the error is no_such_operation.
+template <class From>
+expected<value<binary32>> nvfp4_tensor_scale(const value<From> *values, std::size_t count) noexcept {
+    static_assert(!From::is_pair, "there are no blocks of pairs of doubles");
+    if (count != 0 && values == nullptr) return errc::wrong_length;
+    value<From> greatest;
+    for (std::size_t i = 0; i < count; i++) {
+        if (!is_finite(values[i])) return errc::no_such_operation;
+        if (abs(values[i]) > greatest) greatest = abs(values[i]);
+    }
+    const auto exact = convert<binary128>(greatest).value, most = value<binary128>::from_double(2688).value;
+    const auto scale = div_to<binary32>(exact, most).value;
+    if (!is_finite(scale)) return value<binary32>::from_bits(binary32::constants.largest);
+    return is_zero(scale) ? value<binary32>(1.0f) : scale;
+}
+
 // ---- formats of IEEE P3109, one value
 
 /// A format of IEEE P3109 by its constants: its width, its precision, whether there is a sign, and whether there are

@@ -91,12 +91,13 @@ __version__ = '0.1.0'
 
 __all__ = [
     'Array', 'Blocks', 'Context', 'DOWNWARD', 'Fate', 'Flags', 'Format', 'Machine', 'Mask', 'NEAREST_AWAY',
-    'NEAREST_EVEN', 'Refused', 'Report', 'Rounding', 'StorageFormat', 'StoredArray', 'TOWARD_ZERO', 'UPWARD', 'Value',
+    'NEAREST_EVEN', 'Nvfp4Blocks', 'Refused', 'Report', 'Rounding', 'StorageFormat', 'StoredArray', 'TOWARD_ZERO',
+    'UPWARD', 'Value',
     'bfloat', 'bfloat16', 'context', 'double', 'double_pair', 'e4m3', 'e4m3b11fnuz', 'e4m3fn', 'e4m3fnuz', 'e5m2',
     'e5m2fnuz',
     'float4_e2m1fn', 'float6_e2m3fn', 'float6_e3m2fn', 'float8_e3m4', 'float8_e4m3', 'float8_e4m3b11fnuz',
     'float8_e4m3fn', 'float8_e4m3fnuz', 'float8_e5m2', 'float8_e5m2fnuz', 'float8_e8m0fnu', 'finfo', 'half',
-    'machine', 'made_by', 'mx', 'p3109', 'quad', 'report', 'single', 'tf32', 'ue4m3', 'x87',
+    'machine', 'made_by', 'mx', 'nvfp4', 'p3109', 'quad', 'report', 'single', 'tf32', 'ue4m3', 'x87',
 ]
 
 
@@ -262,8 +263,8 @@ def _parameters() -> dict[str, list[Any]]:
         'map_array_by_table': [code, code, code, *array * 5, ctypes.POINTER(_ArrayAnswer)],
         **dict.fromkeys(('sum', 'sum_abs', 'sum_square'), [code, code, *array, answer]),
         'dot': [code, code, *array * 2, answer],
-        'quantize_blocks': [code, code, code, length, *array * 3, ctypes.POINTER(_ArrayAnswer)],
-        'dequantize_blocks': [code, code, code, length, *array * 3, ctypes.POINTER(_ArrayAnswer)],
+        **dict.fromkeys(('quantize_blocks', 'dequantize_blocks', 'quantize_nvfp4', 'dequantize_nvfp4'),
+                        [code, code, code, length, *array * 3, ctypes.POINTER(_ArrayAnswer)]),
         **dict.fromkeys(('pack_codes', 'unpack_codes'), [code, *array * 2]),
     }
 
@@ -3034,11 +3035,14 @@ class Blocks:
     def dequantize(self, format: Format | None = None) -> Array:
         """The values, each the product of an element and its scale, rounded once to the format, `single` if none is
         given."""
-        made = mx.dequantize(self.scales, self.codes, self.block, format, self.axis)
+        made = self._dequantized(format)
         if made.shape != self.shape:
             part = made[tuple(slice(length) for length in self.shape)]
             made = Array(made.format, bytes(cast(Array, part)), made.counts, self.shape)
         return made
+
+    def _dequantized(self, format: Format | None) -> Array:
+        return mx.dequantize(self.scales, self.codes, self.block, format, self.axis)
 
     def packed(self) -> bytes:
         """The codes packed: of 4 bits two in a byte, of 6 bits four in three bytes, and those of 8 bits as they are."""
@@ -3084,24 +3088,9 @@ class mx:
         if scale not in _SCALE_RULES:
             raise ValueError(f'scale is {scale!r}, and none of {", ".join(map(repr, _SCALE_RULES))}')
         values, elements = _values_of(of), _element_of(element)
-        place = _axis(axis, values.ndim)
-        given, moved = values.shape, values._moved(place, values.ndim - 1)
-        lacking = -moved.shape[-1] % block if pad and block > 0 else 0
-        if lacking:
-            moved = _with_zeros(moved, lacking)
-        shape = moved.shape
-        blocks = _blocked(shape, block)
-        if scale == 'floor':
-            made, codes, counts = _quantized(moved, elements, block, math.prod(blocks))
-        else:
-            made, codes, counts = _quantized_by(scale, moved, elements, block)
-        if lacking:
-            # What fills the blocks is not counted: zeros, of which those with a NaN beside them count as NaNs.
-            counts['values'] -= lacking * math.prod(shape[:-1])
-            counts['nans'] -= lacking * made[blocks[-1] - 1::blocks[-1]].count(255)
-        last = values.ndim - 1
-        return Blocks(StoredArray(float8_e8m0fnu, made, shape=blocks)._moved(last, place),
-                      elements._made(codes, counts, shape)._moved(last, place), block, counts, place, given)
+        made = (functools.partial(_quantized, 'quantize_blocks', elements.code) if scale == 'floor' else
+                functools.partial(_quantized_by, scale, elements))
+        return Blocks(*_in_blocks(values, elements, float8_e8m0fnu, 255, block, axis, pad, made))
 
     @staticmethod
     def dequantize(scales: Any, codes: Any, block: int = 32, format: Format | None = None, axis: int = -1) -> Array:
@@ -3111,26 +3100,11 @@ class mx:
         Scales are an array of `float8_e8m0fnu`, or their codes as bytes or a numpy array of uint8, in the order in
         which the blocks lie in the array, and codes an array of an element format.
         """
-        target = single if format is None else format
         if not isinstance(codes, (Array, StoredArray)) or codes.format not in _ELEMENT_FORMATS.values():
             formats = ', '.join(map(repr, _ELEMENT_FORMATS.values()))
             raise TypeError(f'codes are an array of an element format: {formats}')
-        place, last = _axis(axis, codes.ndim), codes.ndim - 1
-        moved = codes._moved(place, last)
-        blocks = _blocked(moved.shape, block)
-        count, lying = math.prod(blocks), [*blocks[:-1]]
-        lying.insert(place, blocks[-1])
-        are_codes = isinstance(scales, (bytes, bytearray)) or getattr(scales, 'dtype', None) == 'uint8'
-        held = float8_e8m0fnu.from_bits(scales) if are_codes else float8_e8m0fnu.array(scales)
-        if held.size != count:
-            raise ValueError(f'{held.size} scales for {count} blocks')
-        by, data = bytes(held.reshape(lying)._moved(place, last)), bytes(moved)
-        length = len(data) * target._bytes
-        room = ctypes.create_string_buffer(max(length, 1))
-        counts = _block_call('dequantize_blocks', codes.format.code, context().mode, target.code, block, by, count,
-                             data, len(data), room, length)
-        made = target._made(room.raw[:length], counts, moved.shape)
-        return made if place == last else Array(target, bytes(made._moved(last, place)), counts, codes.shape)
+        return _out_of_blocks('dequantize_blocks', codes.format.code, scales, float8_e8m0fnu, codes, block, format,
+                              axis)
 
     @staticmethod
     def pack(codes: Any) -> bytes:
@@ -3153,6 +3127,80 @@ class mx:
         data = _repacked('unpack_codes', elements, packed, count)
         made: Array | StoredArray = elements._made(data, None, (count,) if shape is None else shape)
         return made
+
+
+class Nvfp4Blocks(Blocks):
+    """An array in blocks of NVFP4, as `nvfp4.quantize` makes it: `Blocks` of 16 values of `float4_e2m1fn` whose scales
+    are values of `e4m3fn`, with `tensor`, the scale of all, a value of `single`."""
+
+    __slots__ = ('tensor',)
+
+    scales: Any
+    tensor: Value
+
+    def _dequantized(self, format: Format | None) -> Array:
+        return nvfp4.dequantize(self.scales, self.codes, self.tensor, format, self.axis)
+
+
+class nvfp4:
+    """NVFP4: blocks of 16 elements of `float4_e2m1fn`, each with a scale of `e4m3fn`, and one of their tensor.
+
+    >>> made = nvfp4.quantize(single.array([0.5, -1, 3, 24] * 4), tensor=1)
+    >>> made.scales, made.codes[:4]
+    (e4m3fn.array(['4.0']), float4_e2m1fn.array([0.0, -0.0, 1.0, 6.0]))
+    >>> made.dequantize()[:4]
+    single.array(['0.0', '-0.0', '4.0', '24.0'])
+    """
+
+    @staticmethod
+    def tensor_scale(of: Any) -> Value:
+        """The scale of a tensor: its greatest magnitude over 2688, rounded once to the nearest value of `single`, the
+        largest one in place of what is past it, and 1 in place of 0.
+
+        >>> nvfp4.tensor_scale([[1.0, -5376], [0, 3]]), nvfp4.tensor_scale([0.0])
+        (single('2.0'), single('1.0'))
+        """
+        with Context():
+            values = _values_of(of).to(quad)
+            greatest = quad.from_bits(max((bits % (1 << 127) for bits in values._patterns()), default=0))
+            if not greatest.is_finite:
+                raise ValueError('a tensor with an infinity or a NaN has no scale')
+            scale = greatest.to_format('div', single, 2688)
+        return finfo(single).max if scale.is_infinite else scale or single(1)
+
+    @staticmethod
+    def quantize(of: Any, tensor: Any = None, axis: int = -1, pad: bool = False) -> Nvfp4Blocks:
+        """An array in blocks along an axis, the last one if no other is named, rounded in the mode of the context, by
+        the scale of their tensor, `tensor_scale` if none is given. What an array is, and what `pad` does, `mx.quantize`
+        says."""
+        values = _values_of(of)
+        scale = nvfp4.tensor_scale(values) if tensor is None else _single_of(tensor)
+        made = Nvfp4Blocks(*_in_blocks(values, float4_e2m1fn, e4m3fn, 127, _NVFP4_BLOCK, axis, pad,
+                                       functools.partial(_quantized, 'quantize_nvfp4', scale.bits)))
+        made.tensor = scale
+        return made
+
+    @staticmethod
+    def dequantize(scales: Any, codes: Any, tensor: Any, format: Format | None = None, axis: int = -1) -> Array:
+        """The values of blocks along an axis: each code times the scale of its block and that of the tensor, rounded
+        once to the format, `single` if none is given, in the mode of the context. Scales are an array of `e4m3fn`, or
+        their codes as bytes or a numpy array of uint8, in the order in which the blocks lie in the array."""
+        if not isinstance(codes, StoredArray) or codes.format is not float4_e2m1fn:
+            raise TypeError(f'codes are an array of {float4_e2m1fn}')
+        return _out_of_blocks('dequantize_nvfp4', _single_of(tensor).bits, scales, e4m3fn, codes, _NVFP4_BLOCK, format,
+                              axis)
+
+
+_NVFP4_BLOCK = 16
+
+
+def _single_of(number: Any) -> Value:
+    """A number as the value of `single` that it is."""
+    with Context() as exact:
+        made = single(number)
+    if exact.inexact:
+        raise ValueError(f'{number!r} is no value of {single}')
+    return made
 
 
 _SCALE_RULES = 'floor', 'ceil', 'even'
@@ -3198,16 +3246,59 @@ def _blocked(shape: tuple[int, ...], block: int) -> tuple[int, ...]:
     return (*shape[:-1], shape[-1] // block)
 
 
-def _quantized(values: Array, elements: Any, block: int, count: int) -> tuple[bytes, bytes, dict[str, int]]:
-    """The scales and the codes of so many blocks, by the rule of the library, with the counts."""
+def _in_blocks(values: Array, elements: Any, scales: Any, nan: int, block: int, axis: int, pad: bool,
+               quantized: Callable[[Array, int], tuple[bytes, bytes, dict[str, int]]]) -> tuple[Any, ...]:
+    """What `Blocks` are made of: an array in blocks along an axis. `nan` is the code of the scale that is a NaN, and
+    `quantized` makes scales and codes, with the counts, of an array in blocks along the last axis."""
+    place = _axis(axis, values.ndim)
+    given, moved = values.shape, values._moved(place, values.ndim - 1)
+    lacking = -moved.shape[-1] % block if pad and block > 0 else 0
+    if lacking:
+        moved = _with_zeros(moved, lacking)
+    shape = moved.shape
+    blocks = _blocked(shape, block)
+    made, codes, counts = quantized(moved, block)
+    if lacking:
+        # What fills the blocks is not counted: zeros, of which those with a NaN beside them count as NaNs.
+        counts['values'] -= lacking * math.prod(shape[:-1])
+        counts['nans'] -= lacking * made[blocks[-1] - 1::blocks[-1]].count(nan)
+    last = values.ndim - 1
+    return (scales._made(made, None, blocks)._moved(last, place),
+            elements._made(codes, counts, shape)._moved(last, place), block, counts, place, given)
+
+
+def _out_of_blocks(name: str, by: int, scales: Any, of_scales: Any, codes: Any, block: int, format: Format | None,
+                   axis: int) -> Array:
+    """The values of blocks along an axis, by a call whose first argument is `by`."""
+    target = single if format is None else format
+    place, last = _axis(axis, codes.ndim), codes.ndim - 1
+    moved = codes._moved(place, last)
+    blocks = _blocked(moved.shape, block)
+    count, lying = math.prod(blocks), [*blocks[:-1]]
+    lying.insert(place, blocks[-1])
+    are_codes = isinstance(scales, (bytes, bytearray)) or getattr(scales, 'dtype', None) == 'uint8'
+    held = of_scales.from_bits(scales) if are_codes else of_scales.array(scales)
+    if held.size != count:
+        raise ValueError(f'{held.size} scales for {count} blocks')
+    each, data = bytes(held.reshape(lying)._moved(place, last)), bytes(moved)
+    length = len(data) * target._bytes
+    room = ctypes.create_string_buffer(max(length, 1))
+    counts = _block_call(name, by, context().mode, target.code, block, each, count, data, len(data), room, length)
+    made = target._made(room.raw[:length], counts, moved.shape)
+    return made if place == last else Array(target, bytes(made._moved(last, place)), counts, codes.shape)
+
+
+def _quantized(name: str, by: int, values: Array, block: int) -> tuple[bytes, bytes, dict[str, int]]:
+    """The scales and the codes of blocks, by a rule of the library, with the counts."""
     data, size = bytes(values), values.size
+    count = size // block
     scales, codes = ctypes.create_string_buffer(max(count, 1)), ctypes.create_string_buffer(max(size, 1))
-    counts = _block_call('quantize_blocks', values.format.code, context().mode, elements.code, block, data, len(data),
-                         scales, count, codes, size)
+    counts = _block_call(name, values.format.code, context().mode, by, block, data, len(data), scales, count, codes,
+                         size)
     return scales.raw[:count], codes.raw[:size], counts
 
 
-def _quantized_by(rule: str, values: Array, elements: Any, block: int) -> tuple[bytes, bytes, dict[str, int]]:
+def _quantized_by(rule: str, elements: Any, values: Array, block: int) -> tuple[bytes, bytes, dict[str, int]]:
     """The same by another rule. Quotients by scales are exact in `quad`, and rounded once."""
     numbers = _unpacked('d', values._exactly(double)._data)
     largest, most = math.frexp(float(finfo(elements).max))

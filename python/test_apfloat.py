@@ -1778,6 +1778,85 @@ class ReportTests(unittest.TestCase):
             apfloat.report([1.0] * 33, 'mxfp4')
 
 
+class Nvfp4Tests(unittest.TestCase):
+    """Blocks of NVFP4."""
+
+    MODES = dict(zip(('even', 'up', 'down', 'zero', 'away'), MODES))
+
+    @staticmethod
+    def rows(*name):
+        with open(os.path.join(HERE, '..', 'tests', *name), encoding='utf-8') as file:
+            return [line.rstrip('\n').split('\t') for line in file if not line.startswith('#')]
+
+    @staticmethod
+    def format(word):
+        name, *rules = word.split('+')
+        form = getattr(apfloat, name)
+        for rule in rules:
+            form = getattr(form, rule)
+        return form
+
+    def test_rows(self):
+        # The calls of C (tests/c/check_nvfp4.c has what the columns say).
+        for call, name, mode, by, *numbers, counted, nans, flags in self.rows('c', 'nvfp4'):
+            given, scales, codes = [[int(word, 16) for word in words.split()] for words in numbers]
+            if len(given) != 16 * len(scales):
+                continue
+            form, tensor = self.format(name), apfloat.single.from_bits(int(by, 16))
+            with self.subTest(call=call, name=name, mode=mode, given=numbers), \
+                    Context(mode=self.MODES[mode]) as context:
+                if call == 'quantize_nvfp4':
+                    data = b''.join(bits.to_bytes(form._bytes, 'little') for bits in given)
+                    blocks = apfloat.nvfp4.quantize(Array(form, data), tensor)
+                    self.assertEqual([*blocks.scales._patterns()], scales)
+                    self.assertEqual([*bytes(blocks.codes)], codes)
+                    counts = blocks.counts
+                else:
+                    elements = apfloat.float4_e2m1fn.from_bits(bytes(codes))
+                    values = apfloat.nvfp4.dequantize(bytes(scales), elements, tensor, form)
+                    self.assertEqual([*values._patterns()], given)
+                    counts = values.counts
+                found = [counts[name] for name in ('inexact', 'underflow', 'overflow', 'nans', 'values')]
+                self.assertEqual(found, [*map(int, counted.split()), int(nans), 32])
+                raised = [] if flags == 'OK' else [Flags[name] for name in flags.split('|')]
+                self.assertEqual(context.flags, sum(raised))
+
+    def test_axes(self):
+        values = [[float(row * column) for column in range(16)] for row in range(20)]
+        across = apfloat.nvfp4.quantize(values, 1)
+        along = apfloat.nvfp4.quantize(apfloat.double.array(values).T, 1, axis=0)
+        self.assertEqual((across.scales.shape, along.scales.shape), ((20, 1), (1, 20)))
+        self.assertEqual(along.dequantize().T.tolist(), across.dequantize().tolist())
+        padded = apfloat.nvfp4.quantize(values, 1, axis=0, pad=True)
+        self.assertEqual((padded.counts['values'], padded.codes.shape), (320, (32, 16)))
+        self.assertEqual(padded.dequantize(apfloat.double).shape, (20, 16))
+        self.assertEqual(len(across.packed()), 160)
+        with_nan = apfloat.nvfp4.quantize([math.nan] + [1.0] * 18, 1, pad=True)
+        self.assertEqual((with_nan.counts['values'], with_nan.counts['nans']), (19, 16))
+        self.assertRaises(ValueError, apfloat.nvfp4.quantize, values, 1, axis=0)
+        for scale in (0, -1, float('inf'), float('nan')):
+            self.assertRaises(apfloat.Refused, apfloat.nvfp4.quantize, [0.0] * 16, scale)
+        self.assertRaises(ValueError, apfloat.nvfp4.quantize, [0.0] * 16, 0.1)
+        codes = apfloat.float4_e2m1fn.from_bits([1] * 16)
+        self.assertRaises(apfloat.Refused, apfloat.nvfp4.dequantize, b'\x80', codes, 1)
+        self.assertRaises(TypeError, apfloat.nvfp4.dequantize, b'1', apfloat.float8_e3m4.from_bits([1] * 16), 1)
+        self.assertRaises(ValueError, apfloat.nvfp4.dequantize, b'11', codes, 1)
+
+    def test_tensor_scales(self):
+        # The stored rows of scales (evidence/blocks.py).
+        rows = [row for row in self.rows('rows', 'blocks.tsv') if row[0] == 'tensor_scale']
+        self.assertGreater(len(rows), 20)
+        for _, _, _, operands, wanted, *_ in rows:
+            values = apfloat.single.from_bits([int(word, 16) for word in operands.split()])
+            if wanted == 'None':
+                self.assertRaises(ValueError, apfloat.nvfp4.tensor_scale, values)
+            else:
+                self.assertEqual(apfloat.nvfp4.tensor_scale(values).bits, int(wanted, 16))
+        tensor = [[3.0, -5376.0]] * 8
+        made = apfloat.nvfp4.quantize(tensor, axis=0, pad=True)
+        self.assertEqual((made.tensor, made.dequantize(apfloat.double).tolist()), (apfloat.single(2), tensor))
+
+
 class TypeTests(unittest.TestCase):
     """What mypy finds out."""
 

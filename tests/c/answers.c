@@ -269,15 +269,21 @@ static void call_on_blocks(uint32_t kind) {
     size_t lengths[] = {count * width, blocks, count, bits == 4 ? 2 * below(8) : 4 * below(4), 0};
     lengths[4] = lengths[3] * bits / 8;
     if (below(16) == 0) lengths[below(5)] = below(16);
-    uint32_t code;
+    /* The scale of a tensor makes the blocks those of NVFP4. */
+    uint32_t code, has_tensor = below(2), tensor = (uint32_t)draw() >> (below(16) ? 1 : 0);
+    for (size_t i = 0; has_tensor && i < sizeof scales; i++) scales[i] &= 127;
     switch (kind) {
     case 0:
-        code = apfloat_quantize_blocks(format, mode, element, length, values, lengths[0], scales, lengths[1], codes,
-                                       lengths[2], &answer);
+        code = has_tensor ? apfloat_quantize_nvfp4(format, mode, tensor, length, values, lengths[0], scales, lengths[1],
+                                                   codes, lengths[2], &answer)
+                          : apfloat_quantize_blocks(format, mode, element, length, values, lengths[0], scales,
+                                                    lengths[1], codes, lengths[2], &answer);
         break;
     case 1:
-        code = apfloat_dequantize_blocks(element, mode, format, length, scales, lengths[1], codes, lengths[2], values,
-                                         lengths[0], &answer);
+        code = has_tensor ? apfloat_dequantize_nvfp4(tensor, mode, format, length, scales, lengths[1], codes,
+                                                     lengths[2], values, lengths[0], &answer)
+                          : apfloat_dequantize_blocks(element, mode, format, length, scales, lengths[1], codes,
+                                                      lengths[2], values, lengths[0], &answer);
         break;
     case 2: code = apfloat_pack_codes(element, codes, lengths[3], packed, lengths[4]); break;
     default: code = apfloat_unpack_codes(element, packed, lengths[4], codes, lengths[3]); break;

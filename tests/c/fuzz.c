@@ -301,7 +301,7 @@ static void texts(void) {
 static void arrays(void) {
     size_t count = below(3) ? below(20) : below(600);
     uint32_t from = format(), to = format(), element = below(8) ? 32 + below(3) : format();
-    uint32_t operation = code(10);
+    uint32_t operation = code(10), tensor = (uint32_t)random_word() >> below(2);
     area *xs = lend(0, fitting(count, width_of(from))), *results = lend(1, fitting(count, width_of(to)));
     area *ys = lend(2, operation == APFLOAT_SQRT ? 0 : below(8) ? xs->length : below(40));
     area *zs = lend(3, operation == APFLOAT_FMA ? xs->length : 0);
@@ -349,8 +349,13 @@ static void arrays(void) {
         xs = lend(0, fitting(codes->length, width_of(from)));
         area *scales = lend(1, fitting(blocks, 1));
         remember();
-        error = apfloat_quantize_blocks(from, mode(), element, length, LENT(xs), LENT(scales), LENT(codes), &answer);
-        returned("apfloat_quantize_blocks", error, scales, codes, NULL);
+        if (below(2)) {
+            error = apfloat_quantize_nvfp4(from, mode(), tensor, length, LENT(xs), LENT(scales), LENT(codes), &answer);
+        } else {
+            error = apfloat_quantize_blocks(from, mode(), element, length, LENT(xs), LENT(scales), LENT(codes),
+                                            &answer);
+        }
+        returned("blocks", error, scales, codes, NULL);
         break;
     }
     case 5: {
@@ -360,11 +365,20 @@ static void arrays(void) {
         for (size_t at = 0; at < codes->length; at++) {
             codes->first[at] &= below(2000) ? 15 : 255;
         }
+        const uint32_t has_tensor = below(2);
+        for (size_t at = 0; has_tensor && at < scales->length; at++) {
+            scales->first[at] &= below(200) ? 127 : 255;
+        }
         results = lend(1, fitting(codes->length, width_of(to)));
         remember();
-        error = apfloat_dequantize_blocks(element, mode(), to, length, LENT(scales), LENT(codes), LENT(results),
-                                          &answer);
-        returned("apfloat_dequantize_blocks", error, results, NULL, NULL);
+        if (has_tensor) {
+            error = apfloat_dequantize_nvfp4(tensor, mode(), to, length, LENT(scales), LENT(codes), LENT(results),
+                                             &answer);
+        } else {
+            error = apfloat_dequantize_blocks(element, mode(), to, length, LENT(scales), LENT(codes), LENT(results),
+                                              &answer);
+        }
+        returned("values of blocks", error, results, NULL, NULL);
         break;
     }
     default: {

@@ -1,4 +1,5 @@
 pub mod Fitting
+pub mod Formats
 pub mod Listed
 pub mod Made
 pub mod Scaled

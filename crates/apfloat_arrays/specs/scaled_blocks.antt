@@ -1,3 +1,4 @@
+pub mod Formats
 pub mod Lengths
 pub mod Values
 pub mod Quantized

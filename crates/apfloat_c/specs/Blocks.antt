@@ -13,11 +13,13 @@ use Rattle.small_formats.specs.packing.Packed.{IsPackedBy, IsUnpackedBy}
 use Rattle.small_formats.specs.declared.blocks.ElementFormat.{ElementFormat}
 use Rattle.small_formats.specs.declared.blocks.ElementFormat.TheVariants.{E5M2, E4M3FN, E3M2FN, E2M3FN, E2M1FN}
 use Rattle.apfloat_arrays.specs.declared.scaled_blocks.ArrayError.{ArrayError}
-use Rattle.apfloat_arrays.specs.declared.scaled_blocks.ArrayError.TheVariants.{CodeTooWide}
+use Rattle.apfloat_arrays.specs.declared.scaled_blocks.ArrayError.TheVariants.{TensorScale, CodeTooWide}
+use Rattle.apfloat_arrays.specs.declared.scaled_blocks.BlockFormat.{BlockFormat}
+use Rattle.apfloat_arrays.specs.declared.scaled_blocks.BlockFormat.TheVariants.{Mx, Nvfp4}
 use Rattle.apfloat_arrays.specs.declared.scaled_blocks.Quantization.{Quantization}
 use Rattle.apfloat_arrays.specs.declared.scaled_blocks.Dequantization.{Dequantization}
 use Rattle.apfloat_arrays.specs.scaled_blocks.Dequantized.{IsDequantizedArray, width_out}
-use Rattle.apfloat_arrays.specs.scaled_blocks.Lengths.{blocks_of}
+use Rattle.apfloat_arrays.specs.scaled_blocks.Lengths.{blocks_in}
 use Rattle.apfloat_arrays.specs.scaled_blocks.Quantized.{IsQuantizedArray, width_in}
 use Rattle.apfloat_c.specs.declared.array_data.ArrayAnswer.{ArrayAnswer}
 use Rattle.apfloat_c.specs.ArrayCalls.{wrong_length}
@@ -36,8 +38,19 @@ element_coded code =
     else if code == 34 then Some E3M2FN
     else None
 
+abbrev pub mx_of : Option ElementFormat → Option BlockFormat
+mx_of (Some element) = Some (Mx element)
+mx_of None = None
+
+abbrev pub mx_coded : ℕ → Option BlockFormat
+mx_coded code = mx_of (element_coded code)
+
+abbrev pub nvfp4_coded : ℕ → Option BlockFormat
+nvfp4_coded tensor = Some (Nvfp4 tensor)
+
 abbrev pub array_error : ArrayError → ℕ
 array_error CodeTooWide = wide_operand
+array_error TensorScale = no_such_operation
 array_error error = wrong_length
 
 abbrev pub packing_error : PackingError → ℕ
@@ -46,28 +59,28 @@ packing_error error = wrong_length
 
 -- ---- what is asked for
 
-abbrev pub quantization_of : FlaggedKind → Round → ElementFormat → ℕ → Result Quantization ℕ
-quantization_of (OfFormat format) round element block =
-    Ok (record { source = format_without_rule format; element = element; length = block; round = round })
-quantization_of Pairs round element block = Err no_such_operation
+abbrev pub quantization_of : FlaggedKind → Round → BlockFormat → ℕ → Result Quantization ℕ
+quantization_of (OfFormat format) round blocks length =
+    Ok (record { source = format_without_rule format; format = blocks; length = length; round = round })
+quantization_of Pairs round blocks length = Err no_such_operation
 
 -- The faults in their order: both formats, the mode, that there are no blocks of pairs.
-abbrev pub known_quantization : Option FlaggedKind → Option Round → Option ElementFormat → ℕ
+abbrev pub known_quantization : Option FlaggedKind → Option Round → Option BlockFormat → ℕ
     → Result Quantization ℕ
-known_quantization kind mode element block =
-    ok_or kind unknown_format >>= λ known. ok_or element unknown_format >>= λ elements.
-    ok_or mode unknown_mode >>= λ round. quantization_of known round elements block
+known_quantization kind mode format block =
+    ok_or kind unknown_format >>= λ known. ok_or format unknown_format >>= λ blocks.
+    ok_or mode unknown_mode >>= λ round. quantization_of known round blocks block
 
-abbrev pub dequantization_of : ElementFormat → Round → FlaggedKind → ℕ → Result Dequantization ℕ
-dequantization_of element round (OfFormat format) block =
-    Ok (record { element = element; length = block; target = format; round = round })
-dequantization_of element round Pairs block = Err no_such_operation
+abbrev pub dequantization_of : BlockFormat → Round → FlaggedKind → ℕ → Result Dequantization ℕ
+dequantization_of blocks round (OfFormat target) length =
+    Ok (record { format = blocks; length = length; target = target; round = round })
+dequantization_of blocks round Pairs length = Err no_such_operation
 
-abbrev pub known_dequantization : Option ElementFormat → Option Round → Option FlaggedKind → ℕ
+abbrev pub known_dequantization : Option BlockFormat → Option Round → Option FlaggedKind → ℕ
     → Result Dequantization ℕ
-known_dequantization element mode kind block =
-    ok_or element unknown_format >>= λ elements. ok_or kind unknown_format >>= λ known.
-    ok_or mode unknown_mode >>= λ round. dequantization_of elements round known block
+known_dequantization format mode kind block =
+    ok_or format unknown_format >>= λ blocks. ok_or kind unknown_format >>= λ known.
+    ok_or mode unknown_mode >>= λ round. dequantization_of blocks round known block
 
 -- ---- what a call leaves
 
@@ -80,7 +93,7 @@ IsReply (Err error) before after code = (code ≡ array_error error) × (after �
 pub record IsQuantizedReply (q : Quantization) (values before scales old codes : List ℕ) (answer reply : ArrayAnswer)
     (code : ℕ) : Type 0 where
   pub made : Result Counts ArrayError
-  pub is_made : IsQuantizedArray q (blocks_of q.length (width_in q) (length values) (length before) (length old))
+  pub is_made : IsQuantizedArray q (blocks_in q.format q.length (width_in q) (length values) (length before) (length old))
       values before scales old codes made
   pub is_reply : IsReply made answer reply code
 
@@ -94,7 +107,7 @@ IsQuantizedCall (Err error) values before scales old codes answer reply code =
 pub record IsDequantizedReply (q : Dequantization) (scales codes before after : List ℕ) (answer reply : ArrayAnswer)
     (code : ℕ) : Type 0 where
   pub made : Result Counts ArrayError
-  pub is_made : IsDequantizedArray q (blocks_of q.length (width_out q) (length before) (length scales) (length codes))
+  pub is_made : IsDequantizedArray q (blocks_in q.format q.length (width_out q) (length before) (length scales) (length codes))
       scales codes before after made
   pub is_reply : IsReply made answer reply code
 

@@ -1,15 +1,15 @@
 //! The exports that quantize arrays to blocks with a common scale, dequantize them, and pack their codes, declared for
 //! C programs in `include/apfloat.h`.
 
-ghost use Rattle.std.specs.Prelude.{◌≡◌};
+ghost use Rattle.std.specs.Prelude.{◌≡◌, Some};
 ghost use Rattle.formats_at_run_time.specs.FlaggedKinds.{flagged_kind_coded};
 ghost use Rattle.formats_at_run_time.specs.Modes.{mode_coded};
 ghost use Rattle.apfloat_c.specs.Blocks.{IsDequantizedCall, IsPackedCall, IsQuantizedCall, IsUnpackedCall};
 ghost use Rattle.apfloat_c.specs.Blocks.{array_error, element_coded, known_dequantization, known_quantization};
-ghost use Rattle.apfloat_c.specs.Blocks.{packing_error};
+ghost use Rattle.apfloat_c.specs.Blocks.{mx_coded, nvfp4_coded, packing_error};
 
 use crate::array_data::{ArrayAnswer, ElementCounts};
-use apfloat_arrays::scaled_blocks::{ArrayError, Dequantization, Quantization};
+use apfloat_arrays::scaled_blocks::{ArrayError, BlockFormat, Dequantization, Quantization};
 use coded_calls::codes::{
     ANSWERED, NO_SUCH_OPERATION, UNKNOWN_FORMAT, UNKNOWN_MODE, WIDE_OPERAND, WRONG_LENGTH,
 };
@@ -32,6 +32,23 @@ fn element_coded(code: u32) -> Option<ElementFormat>
     }
 }
 
+/// The microscaling format whose elements have this code.
+fn mx_coded(code: u32) -> Option<BlockFormat>
+    ensures { result ≡ mx_coded code }
+{
+    match element_coded(code) {
+        None => None,
+        Some(element) => Some(BlockFormat::Mx(element)),
+    }
+}
+
+/// NVFP4 with the scale of a tensor, the bits of a single.
+fn nvfp4_coded(tensor: u32) -> Option<BlockFormat>
+    ensures { result ≡ nvfp4_coded tensor }
+{
+    Some(BlockFormat::Nvfp4(tensor))
+}
+
 /// The code of an error of an array.
 fn array_error(error: ArrayError) -> u32
     ensures { result ≡ array_error error }
@@ -40,6 +57,7 @@ fn array_error(error: ArrayError) -> u32
         ArrayError::EmptyBlock => WRONG_LENGTH,
         ArrayError::Uneven => WRONG_LENGTH,
         ArrayError::Lengths => WRONG_LENGTH,
+        ArrayError::TensorScale => NO_SUCH_OPERATION,
         ArrayError::CodeTooWide => WIDE_OPERAND,
     }
 }
@@ -59,15 +77,15 @@ fn packing_error(error: PackingError) -> u32
 fn known_quantization(
     kind: Option<FlaggedKind>,
     mode: Option<Round>,
-    element: Option<ElementFormat>,
+    blocks: Option<BlockFormat>,
     length: usize,
 ) -> Result<Quantization, u32>
-    ensures { result ≡ known_quantization kind mode element length }
+    ensures { result ≡ known_quantization kind mode blocks length }
 {
     let Some(kind) = kind else {
         return Err(UNKNOWN_FORMAT);
     };
-    let Some(element) = element else {
+    let Some(blocks) = blocks else {
         return Err(UNKNOWN_FORMAT);
     };
     let Some(round) = mode else {
@@ -76,7 +94,7 @@ fn known_quantization(
     match kind {
         FlaggedKind::OfFormat(format) => Ok(Quantization {
             source: format.built_in(),
-            element,
+            format: blocks,
             length,
             round,
         }),
@@ -86,14 +104,14 @@ fn known_quantization(
 
 /// The dequantization that these codes ask for, or the code of the first error.
 fn known_dequantization(
-    element: Option<ElementFormat>,
+    blocks: Option<BlockFormat>,
     mode: Option<Round>,
     kind: Option<FlaggedKind>,
     length: usize,
 ) -> Result<Dequantization, u32>
-    ensures { result ≡ known_dequantization element mode kind length }
+    ensures { result ≡ known_dequantization blocks mode kind length }
 {
-    let Some(element) = element else {
+    let Some(blocks) = blocks else {
         return Err(UNKNOWN_FORMAT);
     };
     let Some(kind) = kind else {
@@ -104,12 +122,64 @@ fn known_dequantization(
     };
     match kind {
         FlaggedKind::OfFormat(target) => Ok(Dequantization {
-            element,
+            format: blocks,
             length,
             target,
             round,
         }),
         FlaggedKind::Pairs => Err(NO_SUCH_OPERATION),
+    }
+}
+
+/// Quantizes an array, as the decoded arguments ask.
+fn quantize(
+    known: Result<Quantization, u32>,
+    values: &[u8],
+    scales: &mut [u8],
+    codes: &mut [u8],
+    answer: &mut ArrayAnswer,
+) -> u32
+    ensures { IsQuantizedCall known values.now scales.old scales.new codes.old codes.new answer.old
+        answer.new result }
+{
+    match known {
+        Err(error) => error,
+        Ok(quantization) => match quantization.quantize(values, scales, codes) {
+            Err(error) => array_error(error),
+            Ok(counts) => {
+                *answer = ArrayAnswer::of(ElementCounts {
+                    counts,
+                    div_by_zero: 0,
+                });
+                ANSWERED
+            }
+        },
+    }
+}
+
+/// Dequantizes an array, as the decoded arguments ask.
+fn dequantize(
+    known: Result<Dequantization, u32>,
+    scales: &[u8],
+    codes: &[u8],
+    results: &mut [u8],
+    answer: &mut ArrayAnswer,
+) -> u32
+    ensures { IsDequantizedCall known scales.now codes.now results.old results.new answer.old
+        answer.new result }
+{
+    match known {
+        Err(error) => error,
+        Ok(dequantization) => match dequantization.dequantize(scales, codes, results) {
+            Err(error) => array_error(error),
+            Ok(counts) => {
+                *answer = ArrayAnswer::of(ElementCounts {
+                    counts,
+                    div_by_zero: 0,
+                });
+                ANSWERED
+            }
+        },
     }
 }
 
@@ -126,29 +196,35 @@ pub extern "C" fn apfloat_quantize_blocks(
     answer: &mut ArrayAnswer,
 ) -> u32
     ensures { let known = known_quantization (flagged_kind_coded format) (mode_coded mode)
-        (element_coded element) length in
+        (mx_coded element) length in
         IsQuantizedCall known values.now scales.old scales.new codes.old codes.new answer.old
         answer.new result }
 {
-    let known = known_quantization(
-        FlaggedKind::coded(format),
-        mode_coded(mode),
-        element_coded(element),
-        length,
-    );
-    match known {
-        Err(error) => error,
-        Ok(quantization) => match quantization.quantize(values, scales, codes) {
-            Err(error) => array_error(error),
-            Ok(counts) => {
-                *answer = ArrayAnswer::of(ElementCounts {
-                    counts,
-                    div_by_zero: 0,
-                });
-                ANSWERED
-            }
-        },
-    }
+    let (kind, round) = (FlaggedKind::coded(format), mode_coded(mode));
+    let known = known_quantization(kind, round, mx_coded(element), length);
+    quantize(known, values, scales, codes, answer)
+}
+
+/// Quantizes an array to blocks of NVFP4.
+#[unsafe(no_mangle)]
+pub extern "C" fn apfloat_quantize_nvfp4(
+    format: u32,
+    mode: u32,
+    tensor: u32,
+    length: usize,
+    values: &[u8],
+    scales: &mut [u8],
+    codes: &mut [u8],
+    answer: &mut ArrayAnswer,
+) -> u32
+    ensures { let known = known_quantization (flagged_kind_coded format) (mode_coded mode)
+        (nvfp4_coded tensor) length in
+        IsQuantizedCall known values.now scales.old scales.new codes.old codes.new answer.old
+        answer.new result }
+{
+    let (kind, round) = (FlaggedKind::coded(format), mode_coded(mode));
+    let known = known_quantization(kind, round, nvfp4_coded(tensor), length);
+    quantize(known, values, scales, codes, answer)
 }
 
 /// Dequantizes: writes the product of each element and the scale of its block in the format `to`, rounded once. A block
@@ -164,30 +240,36 @@ pub extern "C" fn apfloat_dequantize_blocks(
     results: &mut [u8],
     answer: &mut ArrayAnswer,
 ) -> u32
-    ensures { let known = known_dequantization (element_coded element) (mode_coded mode)
+    ensures { let known = known_dequantization (mx_coded element) (mode_coded mode)
         (flagged_kind_coded to) length in
         IsDequantizedCall known scales.now codes.now results.old results.new answer.old answer.new
         result }
 {
-    let known = known_dequantization(
-        element_coded(element),
-        mode_coded(mode),
-        FlaggedKind::coded(to),
-        length,
-    );
-    match known {
-        Err(error) => error,
-        Ok(dequantization) => match dequantization.dequantize(scales, codes, results) {
-            Err(error) => array_error(error),
-            Ok(counts) => {
-                *answer = ArrayAnswer::of(ElementCounts {
-                    counts,
-                    div_by_zero: 0,
-                });
-                ANSWERED
-            }
-        },
-    }
+    let (kind, round) = (FlaggedKind::coded(to), mode_coded(mode));
+    let known = known_dequantization(mx_coded(element), round, kind, length);
+    dequantize(known, scales, codes, results, answer)
+}
+
+/// Dequantizes blocks of NVFP4: writes the product of each element and both scales, rounded once.
+#[unsafe(no_mangle)]
+pub extern "C" fn apfloat_dequantize_nvfp4(
+    tensor: u32,
+    mode: u32,
+    to: u32,
+    length: usize,
+    scales: &[u8],
+    codes: &[u8],
+    results: &mut [u8],
+    answer: &mut ArrayAnswer,
+) -> u32
+    ensures { let known = known_dequantization (nvfp4_coded tensor) (mode_coded mode)
+        (flagged_kind_coded to) length in
+        IsDequantizedCall known scales.now codes.now results.old results.new answer.old answer.new
+        result }
+{
+    let (kind, round) = (FlaggedKind::coded(to), mode_coded(mode));
+    let known = known_dequantization(nvfp4_coded(tensor), round, kind, length);
+    dequantize(known, scales, codes, results, answer)
 }
 
 /// Packs codes into bytes.

@@ -1,19 +1,21 @@
 -- The lengths of one block fit.
 use Rattle.std.proofs.Common.{◌≡◌, ℕ, ◌*◌, ◌/◌, ◌%◌, ◌^◌, ◌<◌, ◌≤◌}
 use Rattle.std.proofs.Common.{◌==◌, ◌&&◌, true, false, refl, sym, ap, ◌∙◌, subst, arith, List}
-use Rattle.std.specs.Prelude.{All, Err, IsOk, Ok, Result}
+use Rattle.std.specs.Prelude.{Err, IsOk, Ok, Result}
 use Rattle.std.proofs.Math.Nat.{mul-div_cancel, mul-mod_left}
 use Rattle.std.proofs.lemmas.Bool.{and_from, eq-eqb, ne_eqb}
 use Rattle.apfloat_arrays.specs.declared.Counts.{Counts}
-use Rattle.small_formats.specs.blocks.Elements.{width}
 use Rattle.apfloat_arrays.specs.declared.scaled_blocks.ArrayError.{ArrayError}
-use Rattle.apfloat_arrays.specs.declared.scaled_blocks.ArrayError.TheVariants.{CodeTooWide, EmptyBlock, Lengths, Uneven}
+use Rattle.apfloat_arrays.specs.declared.scaled_blocks.ArrayError.TheVariants.{CodeTooWide, EmptyBlock, Lengths, TensorScale, Uneven}
+use Rattle.apfloat_arrays.specs.declared.scaled_blocks.BlockFormat.TheVariants.{Mx}
 use Rattle.apfloat_arrays.specs.declared.scaled_blocks.Dequantization.{Dequantization}
 use Rattle.apfloat_arrays.specs.declared.scaled_blocks.Quantization.{Quantization}
 use Rattle.apfloat_arrays.specs.scaled_blocks.Dequantized.{IsDequantizedArray}
-use Rattle.apfloat_arrays.specs.scaled_blocks.Lengths.{blocks_of}
+use Rattle.apfloat_arrays.specs.scaled_blocks.Lengths.{blocks_in, blocks_of, if_scaled}
 use Rattle.apfloat_arrays.specs.scaled_blocks.Quantized.{AreQuantized, IsQuantizedArray}
-use Rattle.convert_values.proofs.NarrowCodes.{not_both}
+use Rattle.apfloat_arrays.specs.scaled_blocks.Formats.{AreNarrow}
+use Rattle.apfloat_arrays.proofs.scaled_blocks_lemmas.Formats.{not_both_in}
+use Rattle.small_formats.specs.declared.blocks.ElementFormat.{ElementFormat}
 
 one_block : (block width : ℕ) → 1 ≤ block → 1 ≤ width
     → blocks_of block width (block * width) 1 block ≡ Ok 1
@@ -32,13 +34,15 @@ one_block block width some wide =
     (eq-eqb 1 (block * width / width / block) (sym (ap (λ (n : ℕ). n / block) count ∙ one))) in
     rw (none, even, split, same) refl
 
-pub one_block_of : (block width values scales codes : ℕ) → 1 ≤ block → 1 ≤ width → values ≡ block * width
-    → scales ≡ 1 → codes ≡ block → blocks_of block width values scales codes ≡ Ok 1
-one_block_of block width values scales codes some wide v s c =
-    ap (λ (n : ℕ). blocks_of block width n scales codes) v
-    ∙ ap (λ (n : ℕ). blocks_of block width (block * width) n codes) s
-    ∙ ap (λ (n : ℕ). blocks_of block width (block * width) 1 n) c
-    ∙ one_block block width some wide
+pub one_block_of : (element : ElementFormat) (block width values scales codes : ℕ) → 1 ≤ block → 1 ≤ width
+    → values ≡ block * width → scales ≡ 1 → codes ≡ block
+    → blocks_in (Mx element) block width values scales codes ≡ Ok 1
+one_block_of element block width values scales codes some wide v s c =
+    let format = Mx element in
+    ap (λ (n : ℕ). blocks_in format block width n scales codes) v
+    ∙ ap (λ (n : ℕ). blocks_in format block width (block * width) n codes) s
+    ∙ ap (λ (n : ℕ). blocks_in format block width (block * width) 1 n) c
+    ∙ ap (if_scaled format) (one_block block width some wide)
 
 -- a block is quantized without an error
 pub quantized : (q : Quantization) (values before scales old codes : List ℕ) (known : Result ℕ ArrayError)
@@ -57,12 +61,13 @@ quantized_parts q values before scales old codes known answer counts e f h =
 
 -- and taken apart without one, if its codes are narrow
 pub dequantized : (q : Dequantization) (scales codes before after : List ℕ) (known : Result ℕ ArrayError)
-    (answer : Result Counts ArrayError) → known ≡ Ok 1 → All (λ code. code < 2 ^ width q.element) codes
+    (answer : Result Counts ArrayError) → known ≡ Ok 1 → AreNarrow q.format scales codes
     → IsDequantizedArray q known scales codes before after answer → IsOk answer
 dequantized q scales codes before after (Ok n) (Ok counts) e narrow h = refl
 dequantized q scales codes before after (Ok n) (Err CodeTooWide) e narrow h =
-    absurd (not_both (2 ^ width q.element) codes narrow h.0)
+    absurd (not_both_in q.format scales codes narrow h.0)
 dequantized q scales codes before after (Ok n) (Err EmptyBlock) e narrow h = absurd h
 dequantized q scales codes before after (Ok n) (Err Uneven) e narrow h = absurd h
 dequantized q scales codes before after (Ok n) (Err Lengths) e narrow h = absurd h
+dequantized q scales codes before after (Ok n) (Err TensorScale) e narrow h = absurd h
 dequantized q scales codes before after (Err fault) answer e narrow h = cc

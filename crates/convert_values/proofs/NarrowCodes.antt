@@ -1,8 +1,8 @@
 -- The codes of a quantized block have only the bits of their format.
-use Rattle.std.proofs.Common.{◌≡◌, ℕ, zero, suc, ◌+◌, ◌-◌, ◌*◌, ◌^◌, ◌<◌, ◌≤◌, Bool}
+use Rattle.std.proofs.Common.{◌≡◌, ℕ, zero, suc, ◌+◌, ◌-◌, ◌*◌, ◌^◌, ◌<◌, Bool}
 use Rattle.std.proofs.Common.{true, false, ap, ◌∙◌, sym, subst, arith}
 use Rattle.std.proofs.Common.{List, [], ◌∷◌, length, get_or, replicate, take, drop}
-use Rattle.std.specs.Prelude.{All, Any, IfSome, slice_get}
+use Rattle.std.specs.Prelude.{All, IfSome, slice_get}
 use Rattle.std.specs.Bool.{MatchBool}
 use Rattle.std.proofs.lemmas.List.{take_all}
 use Rattle.std.proofs.lemmas.Nat.{pow_pos}
@@ -18,7 +18,13 @@ use Rattle.small_formats.specs.declared.blocks.Block.{Block}
 use Rattle.small_formats.specs.declared.blocks.ElementFormat.{ElementFormat}
 use Rattle.small_formats.specs.blocks.Elements.{IsQuotientBy, width}
 use Rattle.small_formats.specs.blocks.Magnitudes.{are_finite}
+use Rattle.small_formats.specs.declared.blocks.ElementFormat.TheVariants.{E2M1FN}
 use Rattle.small_formats.specs.blocks.MxBlocks.{IsBlockOfNan, IsBlockOfNumbers}
+use Rattle.small_formats.specs.blocks.Nvfp4.{IsNvBlockOfNumbers}
+use Rattle.apfloat_model.specs.order.Classes.{quanta_of}
+use Rattle.apfloat_arrays.specs.declared.scaled_blocks.BlockFormat.{BlockFormat}
+use Rattle.apfloat_arrays.specs.declared.scaled_blocks.BlockFormat.TheVariants.{Mx, Nvfp4}
+use Rattle.apfloat_arrays.specs.scaled_blocks.Formats.{IsBlockIn, tensor_of}
 use Rattle.small_formats.specs.blocks.Places.{AreElementsInPlaces}
 use Rattle.apfloat_arrays.specs.declared.scaled_blocks.Quantization.{Quantization}
 use Rattle.apfloat_arrays.specs.scaled_blocks.Quantized.{AreQuantized, IsBlockOf, width_in}
@@ -41,15 +47,26 @@ zeros zero bound some k d within = absurd (omega (arith, within))
 zeros (suc n) bound some zero d within = some
 zeros (suc n) bound some (suc k) d within = zeros n bound some k d (omega (arith, within))
 
-of_block : (element : ElementFormat) (f : Format) (mode : Round) (values : List Datum) (codes : List ℕ)
-    (block : Block) (nan : ℕ) (finite : Bool)
-    → MatchBool finite (IsBlockOfNumbers element f mode values codes block) (IsBlockOfNan nan values codes block)
-    → All (λ code. code < 2 ^ width element) codes
-of_block element f mode values codes block nan true numbers =
-    quotients element f mode _ _ values codes numbers.elements.flags numbers.elements.in_places
-of_block element f mode values codes block nan false zeroed =
+of_block : (element : ElementFormat) (Numbers : Type 0) (values : List Datum) (codes : List ℕ) (block : Block) (nan : ℕ)
+    (finite : Bool) → (Numbers → All (λ code. code < 2 ^ width element) codes)
+    → MatchBool finite Numbers (IsBlockOfNan nan values codes block) → All (λ code. code < 2 ^ width element) codes
+of_block element Numbers values codes block nan true narrow numbers = narrow numbers
+of_block element Numbers values codes block nan false narrow zeroed =
     subst (λ (xs : List ℕ). All (λ code. code < 2 ^ width element) xs) (sym zeroed.codes_are)
     (zeros (length values) (2 ^ width element) (pow_pos (width element)))
+
+abbrev pub elements_of : BlockFormat → ElementFormat
+elements_of (Mx element) = element
+elements_of (Nvfp4 tensor) = E2M1FN
+
+in_format : (format : BlockFormat) (f : Format) (mode : Round) (values : List Datum) (codes : List ℕ) (block : Block)
+    → IsBlockIn format f mode values codes block → All (λ code. code < 2 ^ width (elements_of format)) codes
+in_format (Mx element) f mode values codes block h =
+    of_block element (IsBlockOfNumbers element f mode values codes block) values codes block _ (are_finite values)
+    (λ k. quotients element f mode _ _ values codes k.elements.flags k.elements.in_places) h
+in_format (Nvfp4 tensor) f mode values codes block h =
+    of_block E2M1FN (IsNvBlockOfNumbers f mode (quanta_of (tensor_of tensor)) values codes block) values codes block _
+    (are_finite values) (λ k. quotients E2M1FN f mode _ _ values codes k.elements.flags k.elements.in_places) h
 
 -- the only place
 whole : (size : ℕ) (codes : List ℕ) → length codes ≡ size → value_at size 0 codes ≡ codes
@@ -64,22 +81,16 @@ first_block : (q : Quantization) (values codes : List ℕ) (blocks : List Block)
     → length blocks ≡ 1
     → ((index : ℕ) → IfSome (slice_get blocks index)
     (λ block. IsBlockOf q values index (value_at q.length index codes) block))
-    → All (λ code. code < 2 ^ width q.element) codes
+    → All (λ code. code < 2 ^ width (elements_of q.format)) codes
 first_block q values codes [] long one each = absurd (omega (arith, one))
 first_block q values codes (block ∷ rest) long one each =
     let c = constants_in q.source in
     let xs = values_in c (width_in q) values (0 * q.length) q.length in
-    subst (λ (part : List ℕ). All (λ code. code < 2 ^ width q.element) part) (whole q.length codes long)
-    (of_block q.element (format_with c) q.round xs (value_at q.length 0 codes) block _ (are_finite xs) (each 0))
+    subst (λ (part : List ℕ). All (λ code. code < 2 ^ width (elements_of q.format)) part) (whole q.length codes long)
+    (in_format q.format (format_with c) q.round xs (value_at q.length 0 codes) block (each 0))
 
 pub quantized_narrow : (q : Quantization) (values scales codes : List ℕ) (counts : Counts)
     → length codes ≡ q.length → AreQuantized q values 1 scales codes counts
-    → All (λ code. code < 2 ^ width q.element) codes
+    → All (λ code. code < 2 ^ width (elements_of q.format)) codes
 quantized_narrow q values scales codes counts long made =
     first_block q values codes made.blocks long made.places.size made.places.each
-
-pub not_both : (bound : ℕ) (codes : List ℕ) → All (λ code. code < bound) codes
-    → Any (λ code. bound ≤ code) codes → ⊥
-not_both bound codes few (place, code, within, is, wide) =
-    let low : code < bound = subst (λ (n : ℕ). n < bound) is (few place code within) in
-    omega (arith, low, wide)

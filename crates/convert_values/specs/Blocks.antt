@@ -8,6 +8,7 @@ use Rattle.apfloat_arrays.specs.declared.Widths.{Widths}
 use Rattle.apfloat_arrays.specs.Blocks.{AreInPlaces, value_at}
 use Rattle.apfloat_arrays.specs.Outcomes.{sum_of}
 use Rattle.apfloat_arrays.specs.Widths.{width_of}
+use Rattle.apfloat_arrays.specs.declared.scaled_blocks.BlockFormat.TheVariants.{Mx}
 use Rattle.apfloat_arrays.specs.declared.scaled_blocks.Dequantization.{Dequantization}
 use Rattle.apfloat_arrays.specs.declared.scaled_blocks.Quantization.{Quantization}
 use Rattle.apfloat_arrays.specs.scaled_blocks.Dequantized.{AreDequantized, width_out}
@@ -52,11 +53,11 @@ block_widths q = widths_by q.way (values_size q) (block_size q.form)
 
 abbrev pub quantization_of : BlockConversion → Quantization
 quantization_of q =
-    record { source = q.format; element = q.form.element; length = q.form.length; round = q.round }
+    record { source = q.format; format = Mx q.form.element; length = q.form.length; round = q.round }
 
 abbrev pub dequantization_of : BlockConversion → Dequantization
 dequantization_of q =
-    record { element = q.form.element; length = q.form.length; target = BuiltIn q.format; round = q.round }
+    record { format = Mx q.form.element; length = q.form.length; target = BuiltIn q.format; round = q.round }
 
 -- the values are quantized to the block in these bytes
 pub record IsQuantizedIn (q : BlockConversion) (values bytes : List ℕ) (counts : Counts) : Type 0 where

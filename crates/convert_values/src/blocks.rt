@@ -3,7 +3,7 @@
 ghost use Rattle.std.specs.Prelude.{◌≡◌, ◌+◌, ◌*◌, ◌/◌, ◌≤◌, length, take};
 
 use crate::block_form::{BlockForm, LONGEST};
-use apfloat_arrays::scaled_blocks::{Dequantization, Quantization};
+use apfloat_arrays::scaled_blocks::{BlockFormat, Dequantization, Quantization};
 use apfloat_arrays::{ConvertedBlock, Counts, Extended, Widths, width};
 use formats_at_run_time::{BuiltInFormat, FlaggedFormat};
 use rustc_apfloat::Round;
@@ -141,7 +141,7 @@ impl BlockConversion {
         let BlockForm { element, length } = self.form;
         let quantization = Quantization {
             source: self.format,
-            element,
+            format: BlockFormat::Mx(element),
             length,
             round: self.round,
         };
@@ -161,7 +161,7 @@ impl BlockConversion {
     {
         let BlockForm { element, length } = self.form;
         let dequantization = Dequantization {
-            element,
+            format: BlockFormat::Mx(element),
             length,
             target: FlaggedFormat::BuiltIn(self.format),
             round: self.round,

@@ -24,9 +24,9 @@ pub use errors::BlockError;
 pub use magnitudes::greater;
 pub use mx::{BLOCK, Block, dequantize_block, quantize_block, scaled};
 pub use mx_scales::{power_of, scale_for};
-pub use nvfp4::{NVFP4_BLOCK, dequantize_nvfp4_block, quantize_nvfp4_block};
+pub use nvfp4::{NVFP4_BLOCK, dequantize_nvfp4_block, nvfp4_scaled, quantize_nvfp4_block};
 pub use nvfp4_errors::Nvfp4Error;
-pub use nvfp4_scales::tensor_scale;
+pub use nvfp4_scales::{is_positive, nvfp4_scale, tensor_scale};
 pub use theorems::{
     blocks_are_exact_in_bfloat, blocks_are_exact_in_double, blocks_are_exact_in_single,
     blocks_quantized_again_keep_their_values, dequantized_blocks_have_one_answer,

@@ -6,8 +6,10 @@ use Rattle.std.proofs.Math.Nat.{le-mul_of_pos_right, mod-add-div, mul-le-mul_rig
 use Rattle.std.proofs.lemmas.Bool.{and_parts, eqb-false, eqb-true}
 use Rattle.apfloat_arrays.proofs.Places.{place_below}
 use Rattle.apfloat_arrays.specs.declared.scaled_blocks.errors.ArrayError.{ArrayError}
-use Rattle.apfloat_arrays.specs.declared.scaled_blocks.errors.ArrayError.TheVariants.{EmptyBlock, Uneven, Lengths}
-use Rattle.apfloat_arrays.specs.scaled_blocks.Lengths.{blocks_of}
+use Rattle.apfloat_arrays.specs.declared.scaled_blocks.errors.ArrayError.TheVariants.{EmptyBlock, Uneven, Lengths, TensorScale}
+use Rattle.apfloat_arrays.specs.declared.scaled_blocks.formats.BlockFormat.{BlockFormat}
+use Rattle.apfloat_arrays.specs.scaled_blocks.Formats.{has_scale}
+use Rattle.apfloat_arrays.specs.scaled_blocks.Lengths.{blocks_in, blocks_of, if_scaled}
 
 -- ---- values and blocks
 
@@ -85,8 +87,20 @@ by_tests block width values scales codes count false true true true e f g h said
       values_are = whole values width (eqb-true (values % width) 0 f) ∙ ap (λ (n : ℕ). n * width) (sym as_many);
     }
 
-pub fitting : (block width values scales codes count : ℕ) → blocks_of block width values scales codes ≡ Ok count
-    → AreFitting block width values scales codes count
-fitting block width values scales codes count said =
+-- whatever the scale of the tensor
+by_scale : (test : Bool) (known : Result ℕ ArrayError) (count : ℕ)
+    → (if test then known else Err TensorScale) ≡ Ok count → known ≡ Ok count
+by_scale true known count e = e
+by_scale false known count e = cc
+
+unscaled : (format : BlockFormat) (known : Result ℕ ArrayError) (count : ℕ) → if_scaled format known ≡ Ok count
+    → known ≡ Ok count
+unscaled format (Err error) count said = cc
+unscaled format (Ok blocks) count said = by_scale (has_scale format) (Ok blocks) count said
+
+pub fitting : (format : BlockFormat) (block width values scales codes count : ℕ)
+    → blocks_in format block width values scales codes ≡ Ok count → AreFitting block width values scales codes count
+fitting format block width values scales codes count said =
     by_tests block width values scales codes count (block == 0) (values % width == 0) (values / width % block == 0)
-    ((codes == values / width) && (scales == values / width / block)) refl refl refl refl said
+    ((codes == values / width) && (scales == values / width / block)) refl refl refl refl
+    (unscaled format (blocks_of block width values scales codes) count said)

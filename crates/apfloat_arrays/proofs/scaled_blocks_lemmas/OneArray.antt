@@ -18,21 +18,20 @@ use Rattle.apfloat_arrays.specs.Bytes.{number_of}
 use Rattle.apfloat_arrays.specs.Outcomes.{counts_of}
 use Rattle.apfloat_arrays.proofs.OneBlock.{same_outcome}
 use Rattle.apfloat_arrays.proofs.PlacesOnce.{FixesPlaces, places_once}
-use Rattle.small_formats.specs.declared.blocks.elements.ElementFormat.{ElementFormat}
 use Rattle.small_formats.specs.declared.blocks.mx.Block.{Block}
-use Rattle.small_formats.specs.blocks.Elements.{width}
-use Rattle.small_formats.proofs.blocks_lemmas.OneBlock.{block_once, not_both, scaled_once}
 use Rattle.apfloat_arrays.specs.declared.scaled_blocks.dequantizing.Dequantization.{Dequantization}
 use Rattle.apfloat_arrays.specs.declared.scaled_blocks.errors.ArrayError.{ArrayError}
-use Rattle.apfloat_arrays.specs.declared.scaled_blocks.errors.ArrayError.TheVariants.{EmptyBlock, Uneven, Lengths, CodeTooWide}
+use Rattle.apfloat_arrays.specs.declared.scaled_blocks.errors.ArrayError.TheVariants.{EmptyBlock, Uneven, Lengths, TensorScale, CodeTooWide}
+use Rattle.apfloat_arrays.specs.declared.scaled_blocks.formats.BlockFormat.{BlockFormat}
 use Rattle.apfloat_arrays.specs.declared.scaled_blocks.quantizing.Quantization.{Quantization}
 use Rattle.apfloat_arrays.specs.scaled_blocks.Dequantized.{AreDequantized, IsDequantizedArray, IsScaledAt, IsScaledCode, width_out}
-use Rattle.apfloat_arrays.specs.scaled_blocks.Lengths.{blocks_of}
+use Rattle.apfloat_arrays.specs.scaled_blocks.Lengths.{blocks_in}
 use Rattle.apfloat_arrays.specs.scaled_blocks.OneArray.{AreLeftIn, IsDequantizedArrayOnce, IsQuantizedArrayOnce}
 use Rattle.apfloat_arrays.specs.scaled_blocks.Quantized.{AreQuantized, IsBlockOf, IsQuantizedArray, no_counts, total_of, width_in}
 use Rattle.apfloat_arrays.specs.scaled_blocks.Values.{values_in}
 use Rattle.apfloat_arrays.proofs.scaled_blocks_lemmas.Fitting.{fitting}
 use Rattle.apfloat_arrays.proofs.scaled_blocks_lemmas.FormatLaws.{HasLaw, format_law}
+use Rattle.apfloat_arrays.proofs.scaled_blocks_lemmas.Formats.{block_in_once, not_both_in, scaled_in_once}
 
 -- bytes that are all determined are equal
 whole_once : (width count : ℕ) (before after other : List ℕ) → length before ≡ count * width
@@ -47,7 +46,7 @@ whole_once width count before after other size a b same =
 blocks_fixed : (q : Quantization) (values : List ℕ) → FixesPlaces (IsBlockOf q values)
 blocks_fixed q values index codes other block also h k =
     let c = constants_in q.source in
-    let same = block_once q.element (format_with c) q.round
+    let same = block_in_once q.format (format_with c) q.round
     (values_in c (width_in q) values (index * q.length) q.length) codes other block also h k in
     (ap number_of same.0, same.1)
 
@@ -83,18 +82,18 @@ quantized_by q values before scales other_scales old codes other (Err e) (Err f)
 pub quantized_once : IsQuantizedArrayOnce
 quantized_once q values before scales other_scales old codes other answer reply a b x y =
     quantized_by q values before scales other_scales old codes other
-    (blocks_of q.length (width_in q) (length values) (length before) (length old)) answer reply
+    (blocks_in q.format q.length (width_in q) (length values) (length before) (length old)) answer reply
     (λ count said.
-    (fitting q.length (width_in q) (length values) (length before) (length old) count said).codes_are) a b x y
+    (fitting q.format q.length (width_in q) (length values) (length before) (length old) count said).codes_are) a b x y
 
 -- ---- out of blocks
 
-scaled_code_once : (element : ElementFormat) (d : Constants) (mode : Round) (scale code : ℕ) (bytes other : List ℕ)
-    (outcome also : Outcome) → HasLaw d → IsScaledCode element d mode scale code bytes outcome
-    → IsScaledCode element d mode scale code other also
+scaled_code_once : (format : BlockFormat) (d : Constants) (mode : Round) (scale code : ℕ) (bytes other : List ℕ)
+    (outcome also : Outcome) → HasLaw d → IsScaledCode format d mode scale code bytes outcome
+    → IsScaledCode format d mode scale code other also
     → (number_of bytes ≡ number_of other) × (outcome ≡ also)
-scaled_code_once element d mode scale code bytes other outcome also has x y =
-    let same = scaled_once element (format_with d) mode scale code x.value y.value (bits_of outcome.status)
+scaled_code_once format d mode scale code bytes other outcome also has x y =
+    let same = scaled_in_once format (format_with d) mode scale code x.value y.value (bits_of outcome.status)
     (bits_of also.status) x.is_scaled y.is_scaled in
     let encodes = λ (v : Datum). IsEncodedBy (format_with d) (layout_with d) (number_of bytes) v in (
       encoded_once (format_with d) (layout_with d) y.value (number_of bytes) (number_of other)
@@ -108,7 +107,7 @@ values_once : (q : Dequantization) (d : Constants) (width : ℕ) (scales codes b
     → AreDequantized q d width scales codes other more → (after ≡ other) × (counts ≡ more)
 values_once q d width scales codes before after other counts more has size a b x y =
     let fixes : FixesPlaces (IsScaledAt q d scales codes) = λ index bytes written outcome also h k.
-    scaled_code_once q.element d q.round _ _ bytes written outcome also has h k in
+    scaled_code_once q.format d q.round _ _ bytes written outcome also has h k in
     let same = places_once (IsScaledAt q d scales codes) width (length codes) after other x.outcomes y.outcomes fixes
     a.are_bytes b.are_bytes (a.size ∙ sym b.size) x.places y.places in (
       whole_once width (length codes) before after other size a b same.0,
@@ -126,17 +125,19 @@ dequantized_by q scales codes before after other (Ok count) (Ok counts) (Ok more
     (format_law q.target) (fits count refl) a b x.1 y.1 in
     (same.0, ap (λ (k : Counts). Ok k) same.1)
 dequantized_by q scales codes before after other (Ok count) (Ok counts) (Err CodeTooWide) fits a b x y =
-    absurd (not_both (width q.element) codes x.0 y.0)
+    absurd (not_both_in q.format scales codes x.0 y.0)
 dequantized_by q scales codes before after other (Ok count) (Err CodeTooWide) (Ok more) fits a b x y =
-    absurd (not_both (width q.element) codes y.0 x.0)
+    absurd (not_both_in q.format scales codes y.0 x.0)
 dequantized_by q scales codes before after other (Ok count) (Err CodeTooWide) (Err CodeTooWide) fits a b x y =
     (x.1 ∙ sym y.1, refl)
 dequantized_by q scales codes before after other (Ok count) answer (Err EmptyBlock) fits a b x y = absurd y
 dequantized_by q scales codes before after other (Ok count) answer (Err Uneven) fits a b x y = absurd y
 dequantized_by q scales codes before after other (Ok count) answer (Err Lengths) fits a b x y = absurd y
+dequantized_by q scales codes before after other (Ok count) answer (Err TensorScale) fits a b x y = absurd y
 dequantized_by q scales codes before after other (Ok count) (Err EmptyBlock) reply fits a b x y = absurd x
 dequantized_by q scales codes before after other (Ok count) (Err Uneven) reply fits a b x y = absurd x
 dequantized_by q scales codes before after other (Ok count) (Err Lengths) reply fits a b x y = absurd x
+dequantized_by q scales codes before after other (Ok count) (Err TensorScale) reply fits a b x y = absurd x
 dequantized_by q scales codes before after other (Err e) (Ok counts) reply fits a b x y = absurd x
 dequantized_by q scales codes before after other (Err e) (Err f) (Ok more) fits a b x y = absurd y
 dequantized_by q scales codes before after other (Err e) (Err f) (Err g) fits a b x y =
@@ -145,6 +146,6 @@ dequantized_by q scales codes before after other (Err e) (Err f) (Err g) fits a 
 pub dequantized_once : IsDequantizedArrayOnce
 dequantized_once q scales codes before after other answer reply a b x y =
     dequantized_by q scales codes before after other
-    (blocks_of q.length (width_out q) (length before) (length scales) (length codes)) answer reply
+    (blocks_in q.format q.length (width_out q) (length before) (length scales) (length codes)) answer reply
     (λ count said.
-    (fitting q.length (width_out q) (length before) (length scales) (length codes) count said).values_are) a b x y
+    (fitting q.format q.length (width_out q) (length before) (length scales) (length codes) count said).values_are) a b x y

@@ -1,5 +1,5 @@
 -- Arrays of values out of blocks.
-use Rattle.std.specs.Prelude.{◌≡◌, ℕ, ◌/◌, ◌^◌, ◌<◌, ◌≤◌, get_or, List, length, All, Any}
+use Rattle.std.specs.Prelude.{◌≡◌, ℕ, ◌/◌, get_or, List, length}
 use Rattle.std.specs.Prelude.{Result, Ok, Err}
 use Rattle.rustc_apfloat.specs.declared.Round.{Round}
 use Rattle.rustc_apfloat.specs.Classes.{is_nan}
@@ -15,22 +15,21 @@ use Rattle.apfloat_arrays.specs.Blocks.{AreInPlaces}
 use Rattle.apfloat_arrays.specs.Bytes.{number_of}
 use Rattle.apfloat_arrays.specs.Outcomes.{counts_of}
 use Rattle.apfloat_arrays.specs.Widths.{width_of}
-use Rattle.small_formats.specs.declared.blocks.ElementFormat.{ElementFormat}
-use Rattle.small_formats.specs.blocks.Elements.{width}
-use Rattle.small_formats.specs.blocks.MxBlocks.{IsScaled}
 use Rattle.apfloat_arrays.specs.declared.scaled_blocks.errors.ArrayError.{ArrayError}
 use Rattle.apfloat_arrays.specs.declared.scaled_blocks.errors.ArrayError.TheVariants.{CodeTooWide}
 use Rattle.apfloat_arrays.specs.declared.scaled_blocks.dequantizing.Dequantization.{Dequantization}
+use Rattle.apfloat_arrays.specs.declared.scaled_blocks.formats.BlockFormat.{BlockFormat}
+use Rattle.apfloat_arrays.specs.scaled_blocks.Formats.{AreNarrow, AreWide, IsScaledIn}
 
 -- how many bytes a value takes
 abbrev pub width_out : Dequantization → ℕ
 width_out q = width_of (format_without_rule q.target) Packed
 
 -- the bytes are those of the element's product with the scale, and this is its outcome
-pub record IsScaledCode (element : ElementFormat) (d : Constants) (mode : Round) (scale code : ℕ) (bytes : List ℕ)
+pub record IsScaledCode (format : BlockFormat) (d : Constants) (mode : Round) (scale code : ℕ) (bytes : List ℕ)
     (outcome : Outcome) : Type 0 where
   pub value : Datum
-  pub is_scaled : IsScaled element (format_with d) mode scale code value (bits_of outcome.status)
+  pub is_scaled : IsScaledIn format (format_with d) mode scale code value (bits_of outcome.status)
   pub is_encoded : IsEncodedBy (format_with d) (layout_with d) (number_of bytes) value
   pub nan_is : outcome.is_nan ≡ is_nan value
 
@@ -38,7 +37,7 @@ pub record IsScaledCode (element : ElementFormat) (d : Constants) (mode : Round)
 abbrev pub IsScaledAt : Dequantization → Constants → List ℕ → List ℕ → ℕ → List ℕ → Outcome
     → Type 0
 IsScaledAt q d scales codes index bytes outcome =
-    IsScaledCode q.element d q.round (get_or scales (index / q.length) 0) (get_or codes index 0) bytes outcome
+    IsScaledCode q.format d q.round (get_or scales (index / q.length) 0) (get_or codes index 0) bytes outcome
 
 -- each element is multiplied, in its place
 pub record AreDequantized (q : Dequantization) (d : Constants) (width : ℕ) (scales codes values : List ℕ)
@@ -51,9 +50,9 @@ pub record AreDequantized (q : Dequantization) (d : Constants) (width : ℕ) (sc
 abbrev pub IsDequantizedArray : Dequantization → Result ℕ ArrayError → List ℕ → List ℕ → List ℕ
     → List ℕ → Result Counts ArrayError → Type 0
 IsDequantizedArray q (Ok count) scales codes before after (Ok counts) =
-    All (λ code. code < 2 ^ width q.element) codes
+    AreNarrow q.format scales codes
     × AreDequantized q (flagged_constants q.target) (width_out q) scales codes after counts
 IsDequantizedArray q (Ok count) scales codes before after (Err CodeTooWide) =
-    Any (λ code. 2 ^ width q.element ≤ code) codes × (after ≡ before)
+    AreWide q.format scales codes × (after ≡ before)
 IsDequantizedArray q (Err error) scales codes before after (Err other) = (other ≡ error) × (after ≡ before)
 IsDequantizedArray q known scales codes before after answer = ⊥

@@ -1,7 +1,9 @@
 -- The lengths of arrays.
 use Rattle.std.specs.Prelude.{ℕ, ◌/◌, ◌%◌, ◌==◌, ◌&&◌, if◌then◌else◌, Result, Ok, Err}
 use Rattle.apfloat_arrays.specs.declared.scaled_blocks.errors.ArrayError.{ArrayError}
-use Rattle.apfloat_arrays.specs.declared.scaled_blocks.errors.ArrayError.TheVariants.{EmptyBlock, Uneven, Lengths}
+use Rattle.apfloat_arrays.specs.declared.scaled_blocks.errors.ArrayError.TheVariants.{EmptyBlock, Uneven, Lengths, TensorScale}
+use Rattle.apfloat_arrays.specs.declared.scaled_blocks.formats.BlockFormat.{BlockFormat}
+use Rattle.apfloat_arrays.specs.scaled_blocks.Formats.{has_scale}
 
 -- whether there are as many codes as values, and as many scales as blocks
 abbrev pub if_matching : ℕ → ℕ → ℕ → ℕ → Result ℕ ArrayError
@@ -16,3 +18,11 @@ blocks_of block width values scales codes =
     else if values % width == 0 then
     (if values / width % block == 0 then if_matching block (values / width) scales codes else Err Uneven)
     else Err Lengths
+
+-- the same, if the tensor has a scale
+abbrev pub if_scaled : BlockFormat → Result ℕ ArrayError → Result ℕ ArrayError
+if_scaled format (Ok blocks) = if has_scale format then Ok blocks else Err TensorScale
+if_scaled format (Err error) = Err error
+
+abbrev pub blocks_in : BlockFormat → ℕ → ℕ → ℕ → ℕ → ℕ → Result ℕ ArrayError
+blocks_in format block width values scales codes = if_scaled format (blocks_of block width values scales codes)

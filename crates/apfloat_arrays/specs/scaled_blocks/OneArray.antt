@@ -6,7 +6,7 @@ use Rattle.apfloat_arrays.specs.declared.scaled_blocks.errors.ArrayError.{ArrayE
 use Rattle.apfloat_arrays.specs.declared.scaled_blocks.dequantizing.Dequantization.{Dequantization}
 use Rattle.apfloat_arrays.specs.declared.scaled_blocks.quantizing.Quantization.{Quantization}
 use Rattle.apfloat_arrays.specs.scaled_blocks.Dequantized.{IsDequantizedArray, width_out}
-use Rattle.apfloat_arrays.specs.scaled_blocks.Lengths.{blocks_of}
+use Rattle.apfloat_arrays.specs.scaled_blocks.Lengths.{blocks_in}
 use Rattle.apfloat_arrays.specs.scaled_blocks.Quantized.{IsQuantizedArray, width_in}
 
 -- what a call leaves in lent bytes: as many
@@ -19,9 +19,9 @@ abbrev pub IsQuantizedArrayOnce : Type 0
 IsQuantizedArrayOnce =
     (q : Quantization) (values before scales other_scales old codes other : List ℕ)
     (answer reply : Result Counts ArrayError) → AreLeftIn old codes → AreLeftIn old other
-    → IsQuantizedArray q (blocks_of q.length (width_in q) (length values) (length before) (length old)) values before
+    → IsQuantizedArray q (blocks_in q.format q.length (width_in q) (length values) (length before) (length old)) values before
     scales old codes answer
-    → IsQuantizedArray q (blocks_of q.length (width_in q) (length values) (length before) (length old)) values before
+    → IsQuantizedArray q (blocks_in q.format q.length (width_in q) (length values) (length before) (length old)) values before
     other_scales old other reply
     → (scales ≡ other_scales) × (codes ≡ other) × (answer ≡ reply)
 
@@ -30,8 +30,8 @@ abbrev pub IsDequantizedArrayOnce : Type 0
 IsDequantizedArrayOnce =
     (q : Dequantization) (scales codes before after other : List ℕ) (answer reply : Result Counts ArrayError)
     → AreLeftIn before after → AreLeftIn before other
-    → IsDequantizedArray q (blocks_of q.length (width_out q) (length before) (length scales) (length codes)) scales
+    → IsDequantizedArray q (blocks_in q.format q.length (width_out q) (length before) (length scales) (length codes)) scales
     codes before after answer
-    → IsDequantizedArray q (blocks_of q.length (width_out q) (length before) (length scales) (length codes)) scales
+    → IsDequantizedArray q (blocks_in q.format q.length (width_out q) (length before) (length scales) (length codes)) scales
     codes before other reply
     → (after ≡ other) × (answer ≡ reply)

@@ -8,9 +8,9 @@ use Rattle.apfloat_arrays.specs.Blocks.{AreInPlaces}
 use Rattle.apfloat_arrays.specs.Outcomes.{sum_of}
 use Rattle.apfloat_arrays.specs.Widths.{width_of}
 use Rattle.small_formats.specs.declared.blocks.Block.{Block}
-use Rattle.small_formats.specs.blocks.MxBlocks.{IsBlock}
 use Rattle.apfloat_arrays.specs.declared.scaled_blocks.errors.ArrayError.{ArrayError}
 use Rattle.apfloat_arrays.specs.declared.scaled_blocks.quantizing.Quantization.{Quantization}
+use Rattle.apfloat_arrays.specs.scaled_blocks.Formats.{IsBlockIn}
 use Rattle.apfloat_arrays.specs.scaled_blocks.Values.{values_in}
 
 -- how many bytes a value takes
@@ -40,7 +40,7 @@ total_of length before (block ∷ blocks) = total_of length (sum_of before (coun
 -- the values of the block with that index, its codes, and what stands beside them
 abbrev pub IsBlockOf : Quantization → List ℕ → ℕ → List ℕ → Block → Type 0
 IsBlockOf q values index codes block =
-    IsBlock q.element (format_with (constants_in q.source)) q.round
+    IsBlockIn q.format (format_with (constants_in q.source)) q.round
     (values_in (constants_in q.source) (width_in q) values (index * q.length) q.length) codes block
 
 -- each block is quantized, in its place

@@ -1,26 +1,25 @@
 //! Dequantizing: arrays of values from the scales and element codes of blocks.
 
-ghost use Rattle.std.specs.Prelude.{◌≡◌, ◌*◌, ◌^◌, ◌<◌, ◌≤◌, All, Ok, length};
+ghost use Rattle.std.specs.Prelude.{◌≡◌, ◌*◌, ◌<◌, ◌≤◌, Ok, length};
 ghost use Rattle.rustc_apfloat.specs.FlaggedTypes.{constants_of};
 ghost use Rattle.apfloat_arrays.specs.Calls.{at_format};
-ghost use Rattle.small_formats.specs.blocks.Elements.{width};
 ghost use Rattle.apfloat_arrays.specs.scaled_blocks.Dequantized.{AreDequantized, IsDequantizedArray, IsScaledCode, width_out};
-ghost use Rattle.apfloat_arrays.specs.scaled_blocks.Lengths.{blocks_of};
+ghost use Rattle.apfloat_arrays.specs.scaled_blocks.Formats.{AreNarrow, HasScale, IsNarrow};
+ghost use Rattle.apfloat_arrays.specs.scaled_blocks.Lengths.{blocks_in};
 
 use crate::scaled_blocks::errors::ArrayError;
-use crate::scaled_blocks::lengths::blocks_of;
+use crate::scaled_blocks::formats::BlockFormat;
+use crate::scaled_blocks::lengths::blocks_in;
 use crate::{Counts, Extended, Outcome, width, write_number};
 use formats_at_run_time::{FlaggedFormat, WritesInFormat};
 use rustc_apfloat::ieee::Flagged;
 use rustc_apfloat::{Float, Round};
-use small_formats::blocks::{ElementFormat, scaled};
-use small_formats::packing::are_narrow;
 
 /// How blocks become values.
 #[derive(Clone, Copy)]
 pub struct Dequantization {
-    /// The format of the elements.
-    pub element: ElementFormat,
+    /// The format of the blocks.
+    pub format: BlockFormat,
     /// How many elements a block has.
     pub length: usize,
     /// The format of the values, with its rule of flags.
@@ -30,8 +29,8 @@ pub struct Dequantization {
 }
 
 impl Dequantization {
-    /// Writes the product of each element and the scale of its block, rounded once, each in the bytes of its bits,
-    /// lowest first. A block is what `dequantize_block` makes of it.
+    /// Writes the product of each element and the scale of its block, and in NVFP4 of the tensor, rounded once, each in
+    /// the bytes of its bits, lowest first. A block is what `dequantize_block` or `dequantize_nvfp4_block` makes of it.
     ///
     /// Returns the number of values, of those whose rounding raised each flag, and of the NaNs.
     ///
@@ -39,19 +38,21 @@ impl Dequantization {
     ///
     /// `EmptyBlock` if blocks have no elements, `Uneven` if their length does not divide the number of values,
     /// `Lengths` if the values end inside one, or there are not as many codes as values and scales as blocks,
-    /// `CodeTooWide` if a code has more bits than the element format. Nothing is written then.
+    /// `TensorScale` if that scale is not a positive number, `CodeTooWide` if a code has more bits than the element
+    /// format, or a scale of NVFP4 has a sign. Nothing is written then.
     pub fn dequantize(
         self,
         scales: &[u8],
         codes: &[u8],
         values: &mut [u8],
     ) -> Result<Counts, ArrayError>
-        ensures { let blocks = blocks_of self.length (width_out self) (length values.old)
-            (length scales.now) (length codes.now) in
+        ensures { let blocks = blocks_in self.format self.length (width_out self)
+            (length values.old) (length scales.now) (length codes.now) in
             IsDequantizedArray self blocks scales.now codes.now values.old values.new result }
     {
         let width = width(self.target.built_in(), Extended::Packed);
-        match blocks_of(self.length, width, values.len(), scales.len(), codes.len()) {
+        let (count, many) = (values.len(), codes.len());
+        match blocks_in(self.format, self.length, width, count, scales.len(), many) {
             Err(error) => Err(error),
             Ok(_) => self.dequantize_each(width, scales, codes, values),
         }
@@ -65,13 +66,14 @@ impl Dequantization {
         codes: &[u8],
         values: &mut [u8],
     ) -> Result<Counts, ArrayError>
+        requires format { HasScale self.format }
         requires width { width ≡ width_out self }
         requires codes { length codes.now ≡ length scales.now * self.length }
         requires values { length values.old ≡ length codes.now * width }
         ensures { IsDequantizedArray self (Ok (length scales.now)) scales.now codes.now values.old
             values.new result }
     {
-        if !are_narrow(self.element.bits(), codes) {
+        if !self.format.are_narrow(scales, codes) {
             return Err(ArrayError::CodeTooWide);
         }
         let call = ScaledCall {
@@ -98,7 +100,8 @@ impl WritesInFormat for ScaledCall<'_> {
 
     ghost can = { λ it kind old.
         (length it.codes.now ≡ length it.scales.now * it.dequantization.length)
-        × All (λ code. code < 2 ^ width it.dequantization.element) it.codes.now
+        × HasScale it.dequantization.format
+        × AreNarrow it.dequantization.format it.scales.now it.codes.now
         × (length old ≡ length it.codes.now * it.width)
         × at_format kind (λ d. d.bits ≤ 8 * it.width) };
 
@@ -108,7 +111,7 @@ impl WritesInFormat for ScaledCall<'_> {
 
     fn write_in_format<T: Flagged>(self, bytes: &mut [u8]) -> Counts {
         let Dequantization {
-            element,
+            format,
             length,
             round,
             ..
@@ -118,7 +121,7 @@ impl WritesInFormat for ScaledCall<'_> {
             let from = index * self.width;
             let place = &mut bytes[from..from + self.width];
             let scale = self.scales[index / length];
-            counts.count(write_scaled::<T>(element, scale, self.codes[index], round, place));
+            counts.count(write_scaled::<T>(format, scale, self.codes[index], round, place));
         }
         counts
     }
@@ -126,18 +129,19 @@ impl WritesInFormat for ScaledCall<'_> {
 
 /// Writes the product of an element and a scale.
 fn write_scaled<T: Flagged>(
-    element: ElementFormat,
+    format: BlockFormat,
     scale: u8,
     code: u8,
     round: Round,
     bytes: &mut [u8],
 ) -> Outcome
-    requires code { code < 2 ^ width element }
+    requires format { HasScale format }
+    requires code { IsNarrow format scale code }
     requires written { T.PRECISION < T.BITS }
     requires bytes { T.BITS ≤ 8 * length bytes.old }
-    ensures { IsScaledCode element (constants_of T.Flagged) round scale code bytes.new result }
+    ensures { IsScaledCode format (constants_of T.Flagged) round scale code bytes.new result }
 {
-    let answer = scaled::<T>(element, scale, code, round);
+    let answer = format.scaled::<T>(scale, code, round);
     write_number(answer.value.to_bits(), bytes);
     Outcome {
         status: answer.status,

@@ -9,6 +9,8 @@ pub enum ArrayError {
     Uneven,
     /// The bytes of the values end inside one, or there are not as many codes as values or scales as blocks.
     Lengths,
-    /// A code has more bits than the element format.
+    /// The scale of the tensor is not a positive number.
+    TensorScale,
+    /// A code has more bits than the element format, or a scale of NVFP4 has a sign.
     CodeTooWide,
 }

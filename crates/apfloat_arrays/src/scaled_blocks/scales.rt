@@ -1,28 +1,24 @@
-//! The scale of a block, and its elements by that scale.
+//! The greatest magnitude of a block, and its elements by a scale.
 
 ghost use Rattle.std.specs.Prelude.{◌≡◌, ℕ, ◌+◌, ◌*◌, ◌^◌, ◌<◌, ◌≤◌, true, false, length, MatchOption};
 ghost use Rattle.rustc_apfloat.specs.Datum.{finite};
 ghost use Rattle.rustc_apfloat.specs.Flags.{bits_of};
-ghost use Rattle.rustc_apfloat.specs.Formats.{bfloat_constants};
-ghost use Rattle.rustc_apfloat.specs.Lawful.{format_with};
 ghost use Rattle.rustc_apfloat.specs.Types.{constants_of, format_of};
 ghost use Rattle.apfloat_model.specs.formats.Members.{IsMember};
 ghost use Rattle.apfloat_model.specs.order.Classes.{is_finite, quanta_of};
 ghost use Rattle.apfloat_model.specs.order.Positive.{IsPositive};
 ghost use Rattle.formats_at_run_time.specs.ValueKinds.{value_of};
-ghost use Rattle.small_formats.specs.Scales.{largest_code, scale_format};
 ghost use Rattle.small_formats.specs.blocks.Elements.{IsQuotientBy};
 ghost use Rattle.small_formats.specs.blocks.Magnitudes.{are_finite, greatest_magnitude};
-ghost use Rattle.small_formats.specs.blocks.MxScales.{IsBlockScale};
 ghost use Rattle.apfloat_arrays.specs.scaled_blocks.Values.{values_in};
 
 use crate::scaled_blocks::values::bits_at;
-use rustc_apfloat::ieee::{BFloat, IeeeFloat, Semantics};
+use rustc_apfloat::ieee::{IeeeFloat, Semantics};
 use rustc_apfloat::{Float, Round, StatusAnd};
-use small_formats::blocks::{ElementFormat, greater, quotient_code, scale_for};
+use small_formats::blocks::{ElementFormat, greater, quotient_code};
 
 /// The greatest magnitude of values, if all of them are finite.
-fn greatest_of<S: Semantics>(
+pub(crate) fn greatest_of<S: Semantics>(
     width: usize,
     first: usize,
     count: usize,
@@ -49,42 +45,19 @@ fn greatest_of<S: Semantics>(
     Some(greatest)
 }
 
-/// The scale of a block: none if a value is an infinity or a NaN.
-pub(crate) fn block_scale<S: Semantics>(
-    element: ElementFormat,
-    width: usize,
-    first: usize,
-    count: usize,
-    bytes: &[u8],
-) -> Option<u8>
-    requires read { S.PRECISION < S.BITS }
-    requires least { 1 ≤ width }
-    requires few { width ≤ 16 }
-    requires within { (first + count) * width ≤ length bytes.now }
-    ensures { let xs = values_in (constants_of S.Semantics) width bytes.now first count in
-        MatchOption result
-        (are_finite xs ≡ false)
-        (λ scale. (are_finite xs ≡ true) × (scale ≤ largest_code)
-        × IsBlockScale element (format_of S.Semantics) (greatest_magnitude xs) scale) }
-{
-    match greatest_of::<S>(width, first, count, bytes) {
-        None => None,
-        Some(greatest) => Some(scale_for(element, greatest)),
-    }
-}
-
-/// The quotient of a value, given by its bits, and a scale as a number.
-pub(crate) fn quotient_of<S: Semantics>(
+/// The quotient of a value, given by its bits, and a scale.
+pub(crate) fn quotient_of<S: Semantics, R: Semantics>(
     element: ElementFormat,
     round: Round,
-    scale: BFloat,
+    scale: IeeeFloat<R>,
     bits: u128,
 ) -> StatusAnd<u8>
     requires read { S.PRECISION < S.BITS }
     requires finite { is_finite (value_of (constants_of S.Semantics) bits) ≡ true }
-    requires positive { IsPositive (format_with bfloat_constants) scale }
-    ensures { (code : ℕ) → quanta_of scale ≡ 2 ^ (code + 6)
-        → IsQuotientBy element (format_of S.Semantics) round (2 ^ code) (2 ^ scale_format.scale)
+    requires positive { IsPositive (format_of R.Semantics) scale }
+    ensures { (divisor unit : ℕ) → 0 < divisor
+        → divisor * 2 ^ (format_of R.Semantics).scale ≡ quanta_of scale * unit
+        → IsQuotientBy element (format_of S.Semantics) round divisor unit
         (value_of (constants_of S.Semantics) bits) result.value (bits_of result.status) }
 {
     let x = IeeeFloat::<S>::from_bits(bits);

@@ -3,6 +3,7 @@ use Rattle.std.proofs.Common.{◌≡◌, ℕ, zero, suc, ◌+◌, ◌*◌, ◌^�
 use Rattle.std.proofs.Common.{refl, sym, ap, ◌∙◌, subst, arith}
 use Rattle.std.specs.Bool.{MatchBool}
 use Rattle.std.proofs.lemmas.Bool.{agree_below_at, lt-ltb, ltb-true}
+use Rattle.std.proofs.Math.Nat.{le-max_left, mul-pos}
 use Rattle.std.proofs.lemmas.Nat.{pow-add}
 use Rattle.apfloat_model.specs.declared.kinds.Category.TheVariants.{Normal}
 use Rattle.apfloat_model.specs.declared.kinds.Round.{Round}
@@ -197,3 +198,7 @@ scale_of_code f mode tensor greatest code zeros scale below z none some positive
           is_scale = (below, rw e (subst (λ (d : Datum). IsScaleOfSome f mode tensor greatest d) (sym same) k));
           divisor_is = max_right 1 (scale_quanta code) (omega (arith, quanta, positive)) ∙ quanta;
         }
+
+-- what elements are divided by is not 0
+pub divisor_some : (code tensor : ℕ) → 0 < tensor → 0 < max 1 (scale_quanta code) * tensor
+divisor_some code tensor some = mul-pos (le-max_left 1 (scale_quanta code)) some

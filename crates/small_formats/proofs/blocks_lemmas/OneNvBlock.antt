@@ -78,16 +78,16 @@ numbers_once f mode tensor values codes others block other x y =
     values codes others block.counts other.counts x.elements elements in
     (same.0, same_block block other scale same.1 (x.finite_is ∙ sym y.finite_is))
 
-block_once : (f : Format) (mode : Round) (tensor : ℕ) (values : List Datum)
+pub nv_block_once : (f : Format) (mode : Round) (tensor : ℕ) (values : List Datum)
     → DeterminesBoth (IsNvBlock f mode tensor values)
-block_once f mode tensor values =
+nv_block_once f mode tensor values =
     match_case DeterminesBoth (are_finite values) (IsNvBlockOfNumbers f mode tensor values)
     (IsBlockOfNan nan_scale values) (numbers_once f mode tensor values) (nan_once nan_scale values)
 
 written_once : (f : Format) (mode : Round) (tensor : ℕ) (values : List Datum)
     → DeterminesBoth (IsNvWritten f mode tensor values)
 written_once f mode tensor values codes others answer reply x y =
-    let same = block_once f mode tensor values codes others x.block y.block x.is_block y.is_block in
+    let same = nv_block_once f mode tensor values codes others x.block y.block x.is_block y.is_block in
     (same.0, x.is ∙ ap Ok same.1 ∙ sym y.is)
 
 refused_once : {A X : Type 0} → (error : Nvfp4Error) (before : List X)
@@ -104,7 +104,7 @@ nv_quantized_once f mode tensor values before =
 
 -- ---- out of a block
 
-nv_scaled_once : (g : Format) (mode : Round) (tensor scale code : ℕ) → Once (IsNvScaled g mode tensor scale code)
+pub nv_scaled_once : (g : Format) (mode : Round) (tensor scale code : ℕ) → Once (IsNvScaled g mode tensor scale code)
 nv_scaled_once g mode tensor scale code =
     match_case Once (eqb scale nan_scale) (IsAnswer _ _) (IsDelivered g mode _ _ _) (answer_once _ _)
     (λ v w s t. delivered_once g mode _ _ _ v w s t)

@@ -15,7 +15,7 @@ use crate::blocks::elements::{ElementFormat, product_of};
 use crate::blocks::magnitudes::{are_finite, greatest_of};
 use crate::blocks::mx::{Block, write_quotients, write_zeros};
 use crate::blocks::nvfp4_errors::Nvfp4Error;
-use crate::blocks::nvfp4_scales::{code_for, is_positive, joint_scale, scale_for};
+use crate::blocks::nvfp4_scales::{is_positive, nvfp4_scale};
 use crate::packing::are_narrow;
 use apfloat_base::{Float, Round, Status, StatusAnd};
 use apfloat_ieee::built_in_formats::{DoubleS, Float8E4M3FN, Float8E4M3FNS, Single, SingleS};
@@ -48,12 +48,10 @@ fn quantize_some<S: Semantics>(
             is_finite: false,
         };
     }
-    let greatest = greatest_of(values);
-    let scale = scale_for(greatest, tensor, round);
-    let joint = joint_scale(scale, tensor);
-    let counts = write_quotients(ElementFormat::E2M1FN, values, joint, round, codes);
+    let (scale, divisor) = nvfp4_scale(greatest_of(values), tensor, round);
+    let counts = write_quotients(ElementFormat::E2M1FN, values, divisor, round, codes);
     Block {
-        scale: code_for(greatest.is_zero(), scale),
+        scale,
         counts,
         is_finite: true,
     }
@@ -93,7 +91,12 @@ pub fn quantize_nvfp4_block<S: Semantics>(
 }
 
 /// An element times both scales, rounded once.
-fn scaled<G: Flagged>(scale: u8, tensor: Single, code: u8, round: Round) -> StatusAnd<IeeeFloat<G>>
+pub fn nvfp4_scaled<G: Flagged>(
+    scale: u8,
+    tensor: Single,
+    code: u8,
+    round: Round,
+) -> StatusAnd<IeeeFloat<G>>
     requires code { code < 16 }
     requires scale { scale ≤ 127 }
     requires tensor { IsPositive (format_with single_constants) tensor }
@@ -149,7 +152,7 @@ pub fn dequantize_nvfp4_block<G: Flagged>(
     }
     let mut counts = Counts::NONE;
     for index in 0..codes.len() {
-        let answer = scaled::<G>(scale, tensor, codes[index], round);
+        let answer = nvfp4_scaled::<G>(scale, tensor, codes[index], round);
         values[index] = answer.value;
         counts = counts.with(answer.status);
     }

@@ -1,6 +1,6 @@
 //! The scales of NVFP4: that of a tensor, that of a block, and their product.
 
-ghost use Rattle.std.specs.Prelude.{◌≡◌, ◌*◌, ◌^◌, ◌<◌, true, false, eqb};
+ghost use Rattle.std.specs.Prelude.{◌≡◌, ◌*◌, ◌^◌, ◌<◌, true, false, eqb, max};
 ghost use Rattle.std.specs.Bool.{MatchBool};
 ghost use Rattle.apfloat_model.specs.formats.Datum.{finite};
 ghost use Rattle.apfloat_model.specs.formats.Formats.{double_constants, e4m3fn_constants, half_constants};
@@ -9,8 +9,8 @@ ghost use Rattle.apfloat_model.specs.formats.Lawful.{format_with};
 ghost use Rattle.apfloat_model.specs.order.Classes.{quanta_of};
 ghost use Rattle.apfloat_ieee.specs.Types.{format_of};
 ghost use Rattle.apfloat_model.specs.order.Positive.{IsPositive};
-ghost use Rattle.small_formats.specs.blocks.Nvfp4.{IsScaleOfSome, IsTensorAnswer, IsTensorScale, is_positive, nan_scale};
-ghost use Rattle.small_formats.specs.blocks.Nvfp4.{unless_zero};
+ghost use Rattle.small_formats.specs.blocks.Nvfp4.{IsNvScale, IsScaleOfSome, IsTensorAnswer, IsTensorScale, is_positive};
+ghost use Rattle.small_formats.specs.blocks.Nvfp4.{nan_scale, scale_quanta, unless_zero};
 ghost use Rattle.small_formats.specs.declared.blocks.elements.ElementFormat.TheVariants.{E4M3FN};
 ghost use Rattle.small_formats.specs.blocks.Elements.{element_datum};
 
@@ -81,7 +81,7 @@ pub fn tensor_scale<S: Semantics>(values: &[IeeeFloat<S>]) -> Result<Single, Nvf
 }
 
 /// Whether a single is a positive number.
-pub(crate) fn is_positive(x: Single) -> bool
+pub fn is_positive(x: Single) -> bool
     ensures test { result ≡ is_positive x }
     ensures positive { result ≡ true → IsPositive (format_with single_constants) x }
 {
@@ -92,7 +92,7 @@ pub(crate) fn is_positive(x: Single) -> bool
 }
 
 /// The product of a scale and that of a tensor, which `Double` has.
-pub(crate) fn joint_scale(scale: Float8E4M3FN, tensor: Single) -> Double
+fn joint_scale(scale: Float8E4M3FN, tensor: Single) -> Double
     requires scale { IsPositive (format_with e4m3fn_constants) scale }
     requires tensor { IsPositive (format_with single_constants) tensor }
     ensures positive { IsPositive (format_with double_constants) result }
@@ -117,11 +117,7 @@ fn least() -> Float8E4M3FN
 }
 
 /// The scale of a block with that greatest magnitude; the least one for zeros.
-pub(crate) fn scale_for<S: Semantics>(
-    greatest: IeeeFloat<S>,
-    tensor: Single,
-    round: Round,
-) -> Float8E4M3FN
+fn scale_for<S: Semantics>(greatest: IeeeFloat<S>, tensor: Single, round: Round) -> Float8E4M3FN
     requires sign { greatest ≡ finite false (quanta_of greatest) }
     requires tensor { IsPositive (format_with single_constants) tensor }
     ensures value { MatchBool (eqb (quanta_of greatest) 0) (result ≡ finite false 1)
@@ -138,7 +134,7 @@ pub(crate) fn scale_for<S: Semantics>(
 }
 
 /// The code of a scale, or 0 for a block of zeros.
-pub(crate) fn code_for(is_zero: bool, scale: Float8E4M3FN) -> u8
+fn code_for(is_zero: bool, scale: Float8E4M3FN) -> u8
     requires { IsPositive (format_with e4m3fn_constants) scale }
     ensures below { result < nan_scale }
     ensures zero { is_zero ≡ true → result ≡ 0 }
@@ -148,4 +144,24 @@ pub(crate) fn code_for(is_zero: bool, scale: Float8E4M3FN) -> u8
         return 0;
     }
     scale.to_bits() as u8
+}
+
+/// The code of the scale of a block with that greatest magnitude, and what its elements are divided by: the product of
+/// both scales, or for zeros of the least one and that of the tensor.
+pub fn nvfp4_scale<S: Semantics>(
+    greatest: IeeeFloat<S>,
+    tensor: Single,
+    round: Round,
+) -> (u8, Double)
+    requires sign { greatest ≡ finite false (quanta_of greatest) }
+    requires tensor { IsPositive (format_with single_constants) tensor }
+    ensures code { IsNvScale (format_of S.Semantics) round (quanta_of tensor) (quanta_of greatest)
+        result.0 }
+    ensures positive { IsPositive (format_with double_constants) result.1 }
+    ensures divisor { max 1 (scale_quanta result.0) * quanta_of tensor * 2 ^ 1074
+        ≡ quanta_of result.1 * 2 ^ 158 }
+{
+    let scale = scale_for(greatest, tensor, round);
+    let divisor = joint_scale(scale, tensor);
+    (code_for(greatest.is_zero(), scale), divisor)
 }

@@ -1,7 +1,7 @@
 //! What values are converted to, and which numbers that has.
 
 use crate::blocks::{Blocks, ScaleRule};
-use crate::erased::apfloat_arrays::scaled_blocks::{Dequantization, Quantization};
+use crate::erased::apfloat_arrays::scaled_blocks::{BlockFormat, Dequantization, Quantization};
 use crate::erased::apfloat_arrays::stored::{Ends, StorageArray, StoredFormat};
 use crate::erased::apfloat_arrays::{ArrayConversion, Counts, Extended, width};
 use crate::erased::formats_at_run_time::{BuiltInFormat, BuiltInKind, FlaggedFormat, InFormat};
@@ -112,8 +112,9 @@ impl Target {
             Target::Blocks(blocks) => {
                 let Blocks { element, length, rule } = blocks;
                 let (mut scales, mut codes) = (vec![0; count / length], vec![0; count]);
+                let format = BlockFormat::Mx(element);
                 let counts = if rule == ScaleRule::Floor {
-                    let to = Quantization { source, element, length, round };
+                    let to = Quantization { source, format, length, round };
                     to.quantize(values, &mut scales, &mut codes).unwrap_or(Counts::NONE)
                 } else {
                     doubles_of(source, values, &mut results);
@@ -121,7 +122,7 @@ impl Target {
                     blocks.quantize(element_digits(element).precision, round, &values, &mut scales, &mut codes)
                 };
                 let target = FlaggedFormat::BuiltIn(BuiltInFormat::Double);
-                let from = Dequantization { element, length, target, round: EXACT };
+                let from = Dequantization { format, length, target, round: EXACT };
                 // The lengths fit together, and the codes are of the format.
                 let _ = from.dequantize(&scales, &codes, &mut results);
                 Converted { results, scales, counts }

@@ -7,6 +7,6 @@ use Rattle.convert_values.proofs.blocks.BlockConversion.dequantize.Goals as goal
 pub unwrap-requires : goal.unwrap-requires
 unwrap-requires c =
     dequantized _ _ _ _ _ _ _
-    (one_block_of _ _ _ _ _ c.args.self.form.some (width_room c.args.self.format Packed).least c.requires.values refl
+    (one_block_of _ _ _ _ _ _ c.args.self.form.some (width_room c.args.self.format Packed).least c.requires.values refl
     (search rules))
     c.read-scale.ensures.are_packed.codes_fit c.dequantize.ensures

@@ -40,15 +40,15 @@ returns-then-not-are_narrow g c =
     )
     (inr (record { wide = c.are_narrow.ensures.no c.if-not-are_narrow.true; refused = (refl, refl) }))
 
-pub scaled-answer-requires-clause-code : goal.scaled-answer-requires-clause-code
-scaled-answer-requires-clause-code g c =
+pub nvfp4_scaled-answer-requires-clause-code : goal.nvfp4_scaled-answer-requires-clause-code
+nvfp4_scaled-answer-requires-clause-code g c =
     (c.are_narrow.ensures.yes c.if-not-are_narrow.false) c.loop-index.index 0 (omega (arith, c.loop-index-test.true))
 
-pub scaled-answer-requires-clause-scale : goal.scaled-answer-requires-clause-scale
-scaled-answer-requires-clause-scale g c = omega (arith, c.if-scale-gt-NAN_SCALE.false)
+pub nvfp4_scaled-answer-requires-clause-scale : goal.nvfp4_scaled-answer-requires-clause-scale
+nvfp4_scaled-answer-requires-clause-scale g c = omega (arith, c.if-scale-gt-NAN_SCALE.false)
 
-pub scaled-answer-requires-clause-tensor : goal.scaled-answer-requires-clause-tensor
-scaled-answer-requires-clause-tensor g c = c.is_positive.ensures.positive c.if-not-is_positive.false
+pub nvfp4_scaled-answer-requires-clause-tensor : goal.nvfp4_scaled-answer-requires-clause-tensor
+nvfp4_scaled-answer-requires-clause-tensor g c = c.is_positive.ensures.positive c.if-not-is_positive.false
 
 pub with-counts-requires : goal.with-counts-requires
 with-counts-requires g c = room_for c.loop-index.invariant.1 (omega (arith, c.loop-index-test.true))
@@ -57,10 +57,10 @@ pub loop-index-preserved : goal.loop-index-preserved
 loop-index-preserved g c =
     let size = c.loop-index.invariant.0 in
     let here = slice_get-get_or c.args.codes.now c.loop-index.index 0 (omega (arith, c.loop-index-test.true)) in (
-      length_set c.loop-index.values c.loop-index.index c.scaled-answer.result.value ∙ size,
+      length_set c.loop-index.values c.loop-index.index c.nvfp4_scaled-answer.result.value ∙ size,
       one_written c.loop-index.invariant.1 (get_or c.args.codes.now c.loop-index.index 0)
-          c.scaled-answer.result.value (bits_of c.scaled-answer.result.status)
-          (omega (arith, size, c.loop-index-test.true)) here c.scaled-answer.ensures c.with-counts.ensures,
+          c.nvfp4_scaled-answer.result.value (bits_of c.nvfp4_scaled-answer.result.status)
+          (omega (arith, size, c.loop-index-test.true)) here c.nvfp4_scaled-answer.ensures c.with-counts.ensures,
     )
 
 pub returns : goal.returns

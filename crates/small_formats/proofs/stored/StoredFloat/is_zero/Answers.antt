@@ -1,4 +1,4 @@
-use Rattle.std.proofs.Common.{◌<◌, ◌∙◌, ap, arith, eqb, ℕ}
+use Rattle.std.proofs.Common.{◌∙◌, ap, arith, eqb, ℕ}
 use Rattle.small_formats.specs.Types.{constants_of}
 use Rattle.small_formats.proofs.CodesCompared.{zero_code}
 use Rattle.small_formats.proofs.stored.StoredFloat.is_zero.Goals as goal

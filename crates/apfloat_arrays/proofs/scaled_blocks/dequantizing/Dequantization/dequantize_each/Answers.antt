@@ -8,13 +8,14 @@ use Rattle.apfloat_arrays.proofs.scaled_blocks_lemmas.Scaled.{same_bits}
 use Rattle.apfloat_arrays.proofs.scaled_blocks.dequantizing.Dequantization.dequantize_each.Goals as goal
 
 pub returns-then-not-are_narrow : goal.returns-then-not-are_narrow
-returns-then-not-are_narrow c = (rw c.bits.ensures.value at (c.are_narrow.ensures.no c.if-not-are_narrow.true), refl)
+returns-then-not-are_narrow c = (c.are_narrow.ensures.no c.if-not-are_narrow.true, refl)
 
 pub write-requires : goal.write-requires
 write-requires c =
     let target = c.args.self.target in (
       c.requires.codes,
-      rw c.bits.ensures.value at (c.are_narrow.ensures.yes c.if-not-are_narrow.false),
+      c.requires.format,
+      c.are_narrow.ensures.yes c.if-not-are_narrow.false,
       c.requires.values,
       subst (λ (w : ℕ). (flagged_constants target).bits ≤ 8 * w) (sym c.requires.width)
           (subst (λ (n : ℕ). n ≤ 8 * width_of (format_without_rule target) Packed) (same_bits target)
@@ -23,7 +24,7 @@ write-requires c =
 
 pub returns : goal.returns
 returns c = (
-  rw c.bits.ensures.value at (c.are_narrow.ensures.yes c.if-not-are_narrow.false),
+  c.are_narrow.ensures.yes c.if-not-are_narrow.false,
   subst (λ (w : ℕ). AreDequantized c.args.self (flagged_constants c.args.self.target) w c.args.scales.now
       c.args.codes.now c.write.new.bytes c.write.result) c.requires.width c.write.ensures,
 )

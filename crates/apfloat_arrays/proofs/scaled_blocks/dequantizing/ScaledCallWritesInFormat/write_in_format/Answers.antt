@@ -1,8 +1,9 @@
-use Rattle.std.proofs.Common.{◌≡◌, ℕ, ◌*◌, ◌≤◌, length, ◌∙◌, sym, subst, arith}
+use Rattle.std.proofs.Common.{◌≡◌, ℕ, ◌*◌, ◌/◌, ◌≤◌, length, ◌∙◌, sym, subst, arith}
 use Rattle.rustc_apfloat.specs.FlaggedTypes.{constants_of}
 use Rattle.apfloat_arrays.specs.Blocks.{AreInPlaces}
 use Rattle.apfloat_arrays.proofs.Places.{place_size}
 use Rattle.apfloat_arrays.specs.scaled_blocks.Dequantized.{IsScaledAt}
+use Rattle.apfloat_arrays.proofs.scaled_blocks_lemmas.Formats.{div_below, narrow_at}
 use Rattle.apfloat_arrays.proofs.scaled_blocks_lemmas.Scaled.{room_for, scaled_more, scaled_none}
 use Rattle.apfloat_arrays.proofs.scaled_blocks.dequantizing.ScaledCallWritesInFormat.write_in_format.Goals as goal
 
@@ -12,15 +13,23 @@ loop-index-init g c =
     c.args.self.codes.now c.args.bytes.now
 
 pub write_scaled-requires-clause-code : goal.write_scaled-requires-clause-code
-write_scaled-requires-clause-code g c = c.requires.can.1 c.loop-index.index 0 (omega (arith, c.loop-index-test.true))
+write_scaled-requires-clause-code g c =
+    let q = c.args.self.dequantization in
+    let index = c.loop-index.index in
+    narrow_at q.format c.args.self.scales.now c.args.self.codes.now (index / q.length) index c.requires.can.2
+    (div_below index (length c.args.self.scales.now) q.length (omega (arith, c.loop-index-test.true, c.requires.can.0)))
+    (omega (arith, c.loop-index-test.true))
+
+pub write_scaled-requires-clause-format : goal.write_scaled-requires-clause-format
+write_scaled-requires-clause-format g c = c.requires.can.1
 
 pub write_scaled-requires-clause-bytes : goal.write_scaled-requires-clause-bytes
 write_scaled-requires-clause-bytes g c =
     let size : length c.loop-index.bytes ≡ length c.args.self.codes.now * c.args.self.width =
-    c.loop-index.auto.bytes ∙ c.requires.can.2 in
+    c.loop-index.auto.bytes ∙ c.requires.can.3 in
     subst (λ (n : ℕ). g.T.Flagged.BITS ≤ 8 * n)
     (sym (place_size c.args.self.width c.loop-index.index (length c.args.self.codes.now) c.loop-index.bytes
-    c.loop-index-test.true size)) c.requires.can.3
+    c.loop-index-test.true size)) c.requires.can.4
 
 pub count-requires : goal.count-requires
 count-requires g c =
@@ -32,7 +41,7 @@ pub loop-index-preserved : goal.loop-index-preserved
 loop-index-preserved g c =
     let q = c.args.self.dequantization in
     let size : length c.loop-index.bytes ≡ length c.args.self.codes.now * c.args.self.width =
-    c.loop-index.auto.bytes ∙ c.requires.can.2 in
+    c.loop-index.auto.bytes ∙ c.requires.can.3 in
     let long : length c.write_scaled.new.bytes ≡ c.args.self.width =
     c.write_scaled.auto.bytes
     ∙ place_size c.args.self.width c.loop-index.index (length c.args.self.codes.now) c.loop-index.bytes

@@ -1,8 +1,15 @@
-use Rattle.std.proofs.Common.{ℕ, length, replicate, refl, ap, sym, ◌∙◌}
-use Rattle.apfloat_model.proofs.general.Choices.{match_false, match_true}
-use Rattle.rustc_apfloat.specs.Types.{constants_of}
-use Rattle.apfloat_arrays.proofs.scaled_blocks_lemmas.Listed.{values_length}
+use Rattle.std.proofs.Common.{ℕ, ◌*◌, ◌^◌, length, max, replicate, refl, ap, sym, ◌∙◌, subst}
+use Rattle.std.proofs.lemmas.Nat.{pow_pos}
+use Rattle.apfloat_model.specs.order.Classes.{quanta_of}
+use Rattle.rustc_apfloat.specs.Types.{constants_of, format_of}
+use Rattle.small_formats.specs.blocks.MxScales.{IsBlockScale}
+use Rattle.small_formats.specs.blocks.Nvfp4.{IsNvScale, scale_quanta as quanta_of_scale}
 use Rattle.small_formats.proofs.blocks_lemmas.Counted.{none_counted}
+use Rattle.small_formats.proofs.blocks_lemmas.Greatest.{own_quanta}
+use Rattle.small_formats.proofs.blocks_lemmas.NvScales.{divisor_some}
+use Rattle.small_formats.proofs.blocks_lemmas.Powers.{scale_quanta}
+use Rattle.apfloat_arrays.proofs.scaled_blocks_lemmas.Formats.{mx_block, nan_block, nvfp4_block, tensor_positive}
+use Rattle.apfloat_arrays.proofs.scaled_blocks_lemmas.Listed.{values_length}
 use Rattle.apfloat_arrays.proofs.scaled_blocks.quantizing.BlockCallReadsInFormat.read_in_format.Goals as goal
 
 -- a block with an infinity or a NaN
@@ -10,16 +17,51 @@ pub returns-in-None : goal.returns-in-None
 returns-in-None g c =
     let many = values_length (constants_of g.S.Semantics) c.args.self.width c.args.self.values.now c.args.self.first
     (length c.args.bytes.now) in
-    match_false _ _ _ c.in-None.ensures
+    nan_block c.args.self.format _ _ _ _ _ c.in-None.ensures
     (record {
-      scale_is = refl;
+      scale_is = c.nan_scale.ensures;
       codes_are = c.fill.ensures.after (λ y e. e) ∙ ap (λ (n : ℕ). replicate n 0) (sym many);
       counted = none_counted _;
       finite_is = refl;
     })
 
 -- a block of numbers
-pub returns-in-Some : goal.returns-in-Some
-returns-in-Some g c =
-    match_true _ _ _ c.in-Some.ensures.0
-    (record { scale_is = c.in-Some.ensures.2; elements = c.write_codes.ensures; finite_is = refl })
+pub scale_for-scale-requires-clause-sign : goal.scale_for-scale-requires-clause-sign
+scale_for-scale-requires-clause-sign g c = own_quanta c.in-Some.greatest _ c.in-Some.ensures.1
+
+pub returns-in-Mx : goal.returns-in-Mx
+returns-in-Mx g c =
+    let scale = c.scale_for-scale.result in
+    mx_block c.args.self.format c.in-Mx.element _ _ _ _ _ c.in-Mx.is c.in-Some.ensures.0
+    (record {
+      scale_is = subst (λ (n : ℕ). IsBlockScale c.in-Mx.element (format_of g.S.Semantics) n scale)
+          (ap quanta_of c.in-Some.ensures.1) c.scale_for-scale.ensures.value;
+      elements = c.write_codes-counts.ensures (2 ^ scale) (2 ^ 127) (pow_pos scale)
+          (sym (scale_quanta scale) ∙ ap (λ (n : ℕ). n * 2 ^ 127) (sym c.power_of-by.ensures.value));
+      finite_is = refl;
+    })
+
+pub nvfp4_scale-scale-requires-clause-sign : goal.nvfp4_scale-scale-requires-clause-sign
+nvfp4_scale-scale-requires-clause-sign g c = own_quanta c.in-Some.greatest _ c.in-Some.ensures.1
+
+pub returns-in-Nvfp4 : goal.returns-in-Nvfp4
+returns-in-Nvfp4 g c =
+    let code = c.nvfp4_scale-scale.result.0 in
+    let tensor = c.tensor_of.result in
+    let t : ℕ = quanta_of tensor in
+    let some = (tensor_positive c.args.self.format c.in-Nvfp4.tensor tensor c.in-Nvfp4.is c.tensor_of.ensures
+    c.requires.can.0).some in
+    nvfp4_block c.args.self.format c.in-Nvfp4.tensor tensor _ _ _ _ _ c.in-Nvfp4.is c.tensor_of.ensures
+    c.in-Some.ensures.0
+    (record {
+      scale_is = subst (λ (n : ℕ). IsNvScale (format_of g.S.Semantics) c.args.self.round t n code)
+          (ap quanta_of c.in-Some.ensures.1) c.nvfp4_scale-scale.ensures.code;
+      elements = c.write_codes-counts-in-Nvfp4.ensures (max 1 (quanta_of_scale code) * t) (2 ^ 158)
+          (divisor_some code t some) c.nvfp4_scale-scale.ensures.divisor;
+      finite_is = refl;
+    })
+
+pub nvfp4_scale-scale-requires-clause-tensor : goal.nvfp4_scale-scale-requires-clause-tensor
+nvfp4_scale-scale-requires-clause-tensor g c =
+    tensor_positive c.args.self.format c.in-Nvfp4.tensor c.tensor_of.result c.in-Nvfp4.is c.tensor_of.ensures
+    c.requires.can.0

@@ -4,8 +4,8 @@ use Rattle.rustc_apfloat.specs.Lawful.{format_with}
 use Rattle.formats_at_run_time.specs.BuiltIns.{constants_in}
 use Rattle.apfloat_arrays.specs.Blocks.{AreInPlaces, value_at}
 use Rattle.apfloat_arrays.proofs.Places.{place_size}
-use Rattle.small_formats.specs.blocks.MxBlocks.{IsBlock}
 use Rattle.small_formats.proofs.blocks_lemmas.Places.{length_set}
+use Rattle.apfloat_arrays.specs.scaled_blocks.Formats.{IsBlockIn}
 use Rattle.apfloat_arrays.specs.scaled_blocks.Quantized.{IsBlockOf, width_in}
 use Rattle.apfloat_arrays.specs.scaled_blocks.Values.{values_in}
 use Rattle.apfloat_arrays.proofs.scaled_blocks_lemmas.Fitting.{block_within}
@@ -19,6 +19,7 @@ pub read-block-requires : goal.read-block-requires
 read-block-requires c =
     let size : length c.loop-index.codes ≡ c.args.blocks * c.args.self.length =
     c.loop-index.auto.codes ∙ c.requires.codes in (
+      c.requires.format,
       c.requires.least,
       c.requires.few,
       block_within c.loop-index.index c.args.blocks c.args.self.length c.args.width _ (length c.args.values.now)
@@ -40,9 +41,9 @@ loop-index-preserved c =
     let long : length part ≡ q.length =
     place_size q.length index c.args.blocks c.loop-index.codes c.loop-index-test.true size in
     let here : IsBlockOf q values index new block =
-    subst (λ (n : ℕ). IsBlock q.element (format_with k) q.round
+    subst (λ (n : ℕ). IsBlockIn q.format (format_with k) q.round
     (values_in k (width_in q) values (index * q.length) n) new block) long
-    (subst (λ (w : ℕ). IsBlock q.element (format_with k) q.round
+    (subst (λ (w : ℕ). IsBlockIn q.format (format_with k) q.round
     (values_in k w values (index * q.length) (length part)) new block) c.requires.width
     c.read-block.ensures) in
     rw c.add.ensures

@@ -8,7 +8,7 @@ use Rattle.apfloat_ieee.specs.FlaggedTypes.{format_of}
 use Rattle.small_formats.specs.declared.blocks.elements.ElementFormat.TheVariants.{E4M3FN}
 use Rattle.small_formats.specs.blocks.Elements.{element_datum}
 use Rattle.small_formats.proofs.blocks_lemmas.NvProducts.{element_by, scaled_by}
-use Rattle.small_formats.proofs.blocks.nvfp4.scaled.Goals as goal
+use Rattle.small_formats.proofs.blocks.nvfp4.nvfp4_scaled.Goals as goal
 
 pub returns-then-scale-eq-NAN_SCALE : goal.returns-then-scale-eq-NAN_SCALE
 returns-then-scale-eq-NAN_SCALE g c =

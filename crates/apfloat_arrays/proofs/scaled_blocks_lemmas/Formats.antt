@@ -1,0 +1,79 @@
+-- Formats of blocks: what holds of both.
+use Rattle.std.proofs.Common.{◌≡◌, ℕ, zero, suc, ◌*◌, ◌/◌, ◌<◌, true, false, List, length, get_or, inl, inr, sym, subst, arith}
+use Rattle.std.proofs.Math.Nat.{div-lt_iff_lt-mul}
+use Rattle.apfloat_model.specs.Determined.{DeterminesBoth}
+use Rattle.apfloat_model.specs.formats.Format.{Format}
+use Rattle.apfloat_model.specs.order.Classes.{quanta_of}
+use Rattle.apfloat_model.proofs.Once.{Once}
+use Rattle.rustc_apfloat.specs.declared.Round.{Round}
+use Rattle.rustc_apfloat.specs.Datum.{Datum}
+use Rattle.rustc_apfloat.specs.Formats.{single_constants}
+use Rattle.rustc_apfloat.specs.Lawful.{format_with}
+use Rattle.apfloat_model.specs.order.Positive.{IsPositive}
+use Rattle.apfloat_model.proofs.general.Choices.{match_false, match_true}
+use Rattle.small_formats.specs.declared.blocks.Block.{Block}
+use Rattle.small_formats.specs.declared.blocks.ElementFormat.{ElementFormat}
+use Rattle.small_formats.specs.blocks.Elements.{width}
+use Rattle.small_formats.specs.blocks.Magnitudes.{are_finite}
+use Rattle.small_formats.specs.blocks.MxBlocks.{IsBlockOfNan, IsBlockOfNumbers}
+use Rattle.small_formats.specs.blocks.Nvfp4.{IsNvBlockOfNumbers}
+use Rattle.small_formats.proofs.blocks_lemmas.OneBlock.{block_once, not_both, scaled_once}
+use Rattle.small_formats.proofs.blocks_lemmas.OneNvBlock.{nv_block_once, nv_scaled_once}
+use Rattle.apfloat_arrays.specs.declared.scaled_blocks.formats.BlockFormat.{BlockFormat}
+use Rattle.apfloat_arrays.specs.declared.scaled_blocks.formats.BlockFormat.TheVariants.{Mx, Nvfp4}
+use Rattle.apfloat_arrays.specs.scaled_blocks.Formats.{AreNarrow, AreWide, HasScale, IsBlockIn, IsNarrow, IsScaledIn, nan_scale, tensor_of}
+
+-- the block of an element
+pub div_below : (index blocks block : ℕ) → index < blocks * block → index / block < blocks
+div_below index blocks zero l = absurd (omega (arith, l))
+div_below index blocks (suc n) l = (div-lt_iff_lt-mul {k = suc n} {x = index} {y = blocks} (omega arith)).1 l
+
+pub narrow_at : (format : BlockFormat) (scales codes : List ℕ) (block index : ℕ) → AreNarrow format scales codes
+    → block < length scales → index < length codes → IsNarrow format (get_or scales block 0) (get_or codes index 0)
+narrow_at (Mx element) scales codes block index narrow l k = narrow index 0 k
+narrow_at (Nvfp4 tensor) scales codes block index narrow l k = (narrow.0 block 0 l, narrow.1 index 0 k)
+
+pub not_both_in : (format : BlockFormat) (scales codes : List ℕ) → AreNarrow format scales codes
+    → AreWide format scales codes → ⊥
+not_both_in (Mx element) scales codes narrow wide = not_both (width element) codes narrow wide
+not_both_in (Nvfp4 tensor) scales codes narrow (inl wide) = not_both 7 scales narrow.0 wide
+not_both_in (Nvfp4 tensor) scales codes narrow (inr wide) = not_both 4 codes narrow.1 wide
+
+pub block_in_once : (format : BlockFormat) (f : Format) (mode : Round) (values : List Datum)
+    → DeterminesBoth (IsBlockIn format f mode values)
+block_in_once (Mx element) f mode values = block_once element f mode values
+block_in_once (Nvfp4 tensor) f mode values = nv_block_once f mode (quanta_of (tensor_of tensor)) values
+
+pub scaled_in_once : (format : BlockFormat) (g : Format) (mode : Round) (scale code : ℕ)
+    → Once (IsScaledIn format g mode scale code)
+scaled_in_once (Mx element) g mode scale code = scaled_once element g mode scale code
+scaled_in_once (Nvfp4 tensor) g mode scale code = nv_scaled_once g mode (quanta_of (tensor_of tensor)) scale code
+
+-- a block with an infinity or a NaN
+pub nan_block : (format : BlockFormat) (f : Format) (mode : Round) (values : List Datum) (codes : List ℕ) (block : Block)
+    → are_finite values ≡ false → IsBlockOfNan (nan_scale format) values codes block
+    → IsBlockIn format f mode values codes block
+nan_block (Mx element) f mode values codes block e h = match_false _ _ _ e h
+nan_block (Nvfp4 tensor) f mode values codes block e h = match_false _ _ _ e h
+
+-- a block of numbers
+pub mx_block : (format : BlockFormat) (element : ElementFormat) (f : Format) (mode : Round) (values : List Datum)
+    (codes : List ℕ) (block : Block) → format ≡ Mx element → are_finite values ≡ true
+    → IsBlockOfNumbers element f mode values codes block → IsBlockIn format f mode values codes block
+mx_block format element f mode values codes block same finite h =
+    subst (λ (b : BlockFormat). IsBlockIn b f mode values codes block) (sym same) (match_true _ _ _ finite h)
+
+pub nvfp4_block : (format : BlockFormat) (tensor : ℕ) (scale : Datum) (f : Format) (mode : Round)
+    (values : List Datum) (codes : List ℕ) (block : Block) → format ≡ Nvfp4 tensor → scale ≡ tensor_of tensor
+    → are_finite values ≡ true → IsNvBlockOfNumbers f mode (quanta_of scale) values codes block
+    → IsBlockIn format f mode values codes block
+nvfp4_block format tensor scale f mode values codes block same is finite h =
+    subst (λ (b : BlockFormat). IsBlockIn b f mode values codes block) (sym same)
+    (match_true _ _ _ finite
+    (subst (λ (x : Datum). IsNvBlockOfNumbers f mode (quanta_of x) values codes block) is h))
+
+pub tensor_positive : (format : BlockFormat) (tensor : ℕ) (scale : Datum) → format ≡ Nvfp4 tensor
+    → scale ≡ tensor_of tensor → HasScale format → IsPositive (format_with single_constants) scale
+tensor_positive format tensor scale same is has =
+    subst (λ (x : Datum). IsPositive (format_with single_constants) x) (sym is)
+    (subst (λ (b : BlockFormat). HasScale b) same has)
