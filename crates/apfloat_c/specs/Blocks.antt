@@ -93,7 +93,8 @@ IsReply (Err error) before after code = (code ≡ array_error error) × (after �
 pub record IsQuantizedReply (q : Quantization) (values before scales old codes : List ℕ) (answer reply : ArrayAnswer)
     (code : ℕ) : Type 0 where
   pub made : Result Counts ArrayError
-  pub is_made : IsQuantizedArray q (blocks_in q.format q.length (width_in q) (length values) (length before) (length old))
+  pub is_made : IsQuantizedArray q (blocks_in q.format q.length (width_in q) (length values) (length before)
+  (length old))
       values before scales old codes made
   pub is_reply : IsReply made answer reply code
 
@@ -107,7 +108,8 @@ IsQuantizedCall (Err error) values before scales old codes answer reply code =
 pub record IsDequantizedReply (q : Dequantization) (scales codes before after : List ℕ) (answer reply : ArrayAnswer)
     (code : ℕ) : Type 0 where
   pub made : Result Counts ArrayError
-  pub is_made : IsDequantizedArray q (blocks_in q.format q.length (width_out q) (length before) (length scales) (length codes))
+  pub is_made : IsDequantizedArray q (blocks_in q.format q.length (width_out q) (length before) (length scales)
+  (length codes))
       scales codes before after made
   pub is_reply : IsReply made answer reply code
 

@@ -32,7 +32,8 @@ use Rattle.apfloat_arrays.specs.scaled_blocks.Values.{values_in}
 
 quotients : (element : ElementFormat) (f : Format) (mode : Round) (divisor unit : ℕ) (values : List Datum)
     (codes flags : List ℕ)
-    → AreElementsInPlaces (λ x code status. IsQuotientBy element f mode divisor unit x code status) values codes flags
+    → AreElementsInPlaces (λ x code status. IsQuotientBy element f mode divisor unit x code status) values codes
+    flags
     → All (λ code. code < 2 ^ width element) codes
 quotients element f mode divisor unit values codes flags places k d within =
     let same = places.same_size in
@@ -47,7 +48,8 @@ zeros zero bound some k d within = absurd (omega (arith, within))
 zeros (suc n) bound some zero d within = some
 zeros (suc n) bound some (suc k) d within = zeros n bound some k d (omega (arith, within))
 
-of_block : (element : ElementFormat) (Numbers : Type 0) (values : List Datum) (codes : List ℕ) (block : Block) (nan : ℕ)
+of_block : (element : ElementFormat) (Numbers : Type 0) (values : List Datum) (codes : List ℕ) (block : Block)
+    (nan : ℕ)
     (finite : Bool) → (Numbers → All (λ code. code < 2 ^ width element) codes)
     → MatchBool finite Numbers (IsBlockOfNan nan values codes block) → All (λ code. code < 2 ^ width element) codes
 of_block element Numbers values codes block nan true narrow numbers = narrow numbers
@@ -86,7 +88,8 @@ first_block q values codes [] long one each = absurd (omega (arith, one))
 first_block q values codes (block ∷ rest) long one each =
     let c = constants_in q.source in
     let xs = values_in c (width_in q) values (0 * q.length) q.length in
-    subst (λ (part : List ℕ). All (λ code. code < 2 ^ width (elements_of q.format)) part) (whole q.length codes long)
+    subst (λ (part : List ℕ). All (λ code. code < 2 ^ width (elements_of q.format)) part)
+    (whole q.length codes long)
     (in_format q.format (format_with c) q.round xs (value_at q.length 0 codes) block (each 0))
 
 pub quantized_narrow : (q : Quantization) (values scales codes : List ℕ) (counts : Counts)

@@ -29,7 +29,8 @@ div_below index blocks zero l = absurd (omega (arith, l))
 div_below index blocks (suc n) l = (div-lt_iff_lt-mul {k = suc n} {x = index} {y = blocks} (omega arith)).1 l
 
 pub narrow_at : (format : BlockFormat) (scales codes : List ℕ) (block index : ℕ) → AreNarrow format scales codes
-    → block < length scales → index < length codes → IsNarrow format (get_or scales block 0) (get_or codes index 0)
+    → block < length scales → index < length codes → IsNarrow format (get_or scales block 0)
+    (get_or codes index 0)
 narrow_at (Mx element) scales codes block index narrow l k = narrow index 0 k
 narrow_at (Nvfp4 tensor) scales codes block index narrow l k = (narrow.0 block 0 l, narrow.1 index 0 k)
 
@@ -50,7 +51,8 @@ scaled_in_once (Mx element) g mode scale code = scaled_once element g mode scale
 scaled_in_once (Nvfp4 tensor) g mode scale code = nv_scaled_once g mode (quanta_of (tensor_of tensor)) scale code
 
 -- a block with an infinity or a NaN
-pub nan_block : (format : BlockFormat) (f : Format) (mode : Round) (values : List Datum) (codes : List ℕ) (block : Block)
+pub nan_block : (format : BlockFormat) (f : Format) (mode : Round) (values : List Datum) (codes : List ℕ)
+    (block : Block)
     → are_finite values ≡ false → IsBlockOfNan (nan_scale format) values codes block
     → IsBlockIn format f mode values codes block
 nan_block (Mx element) f mode values codes block e h = match_false _ _ _ e h

@@ -148,4 +148,5 @@ dequantized_once q scales codes before after other answer reply a b x y =
     dequantized_by q scales codes before after other
     (blocks_in q.format q.length (width_out q) (length before) (length scales) (length codes)) answer reply
     (λ count said.
-    (fitting q.format q.length (width_out q) (length before) (length scales) (length codes) count said).values_are) a b x y
+    (fitting q.format q.length (width_out q) (length before) (length scales) (length codes) count said).values_are)
+    a b x y

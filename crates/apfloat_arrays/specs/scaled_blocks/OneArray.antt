@@ -19,9 +19,11 @@ abbrev pub IsQuantizedArrayOnce : Type 0
 IsQuantizedArrayOnce =
     (q : Quantization) (values before scales other_scales old codes other : List ℕ)
     (answer reply : Result Counts ArrayError) → AreLeftIn old codes → AreLeftIn old other
-    → IsQuantizedArray q (blocks_in q.format q.length (width_in q) (length values) (length before) (length old)) values before
+    → IsQuantizedArray q (blocks_in q.format q.length (width_in q) (length values) (length before) (length old))
+    values before
     scales old codes answer
-    → IsQuantizedArray q (blocks_in q.format q.length (width_in q) (length values) (length before) (length old)) values before
+    → IsQuantizedArray q (blocks_in q.format q.length (width_in q) (length values) (length before) (length old))
+    values before
     other_scales old other reply
     → (scales ≡ other_scales) × (codes ≡ other) × (answer ≡ reply)
 
@@ -30,8 +32,10 @@ abbrev pub IsDequantizedArrayOnce : Type 0
 IsDequantizedArrayOnce =
     (q : Dequantization) (scales codes before after other : List ℕ) (answer reply : Result Counts ArrayError)
     → AreLeftIn before after → AreLeftIn before other
-    → IsDequantizedArray q (blocks_in q.format q.length (width_out q) (length before) (length scales) (length codes)) scales
+    → IsDequantizedArray q (blocks_in q.format q.length (width_out q) (length before) (length scales)
+    (length codes)) scales
     codes before after answer
-    → IsDequantizedArray q (blocks_in q.format q.length (width_out q) (length before) (length scales) (length codes)) scales
+    → IsDequantizedArray q (blocks_in q.format q.length (width_out q) (length before) (length scales)
+    (length codes)) scales
     codes before other reply
     → (after ≡ other) × (answer ≡ reply)

@@ -20,6 +20,7 @@ returns g c divisor unit some same =
     (bits_of c.quotient_code.result.status)) c.from_bits-x.ensures.read (
       c.quotient_code.ensures.below,
       c.quotient_code.ensures.code (quanta_of x * 2 ^ t.scale * unit) parts (mul-pos (pow_pos f.scale) some)
-          (element_fraction (quanta_of x) (quanta_of c.args.scale) t.scale (format_of g.R.Semantics).scale f.scale divisor
+          (element_fraction (quanta_of x) (quanta_of c.args.scale) t.scale (format_of g.R.Semantics).scale f.scale
+          divisor
           unit same),
     )

@@ -8,14 +8,14 @@ use Rattle.apfloat_arrays.proofs.scaled_blocks.dequantizing.Dequantization.dequa
 
 pub dequantize_each-requires-clause-codes : goal.dequantize_each-requires-clause-codes
 dequantize_each-requires-clause-codes c =
-    let fits = fitting c.args.self.format c.args.self.length c.width-width.result (length c.args.values.now) (length c.args.scales.now)
-    (length c.args.codes.now) _ (sym c.in-Ok.ensures.count) in
+    let fits = fitting c.args.self.format c.args.self.length c.width-width.result (length c.args.values.now)
+    (length c.args.scales.now) (length c.args.codes.now) _ (sym c.in-Ok.ensures.count) in
     fits.codes_are ∙ ap (λ (n : ℕ). n * c.args.self.length) (sym fits.scales_are)
 
 pub dequantize_each-requires-clause-values : goal.dequantize_each-requires-clause-values
 dequantize_each-requires-clause-values c =
-    let fits = fitting c.args.self.format c.args.self.length c.width-width.result (length c.args.values.now) (length c.args.scales.now)
-    (length c.args.codes.now) _ (sym c.in-Ok.ensures.count) in
+    let fits = fitting c.args.self.format c.args.self.length c.width-width.result (length c.args.values.now)
+    (length c.args.scales.now) (length c.args.codes.now) _ (sym c.in-Ok.ensures.count) in
     fits.values_are
 
 pub dequantize_each-requires-clause-width : goal.dequantize_each-requires-clause-width
@@ -25,8 +25,8 @@ pub returns-in-Err : goal.returns-in-Err
 returns-in-Err c =
     let width = rw c.built_in.ensures at c.width-width.ensures.is in
     let known = c.in-Err.ensures.count
-    ∙ ap (λ (w : ℕ). blocks_in c.args.self.format c.args.self.length w (length c.args.values.now) (length c.args.scales.now)
-    (length c.args.codes.now)) width in
+    ∙ ap (λ (w : ℕ). blocks_in c.args.self.format c.args.self.length w (length c.args.values.now)
+    (length c.args.scales.now) (length c.args.codes.now)) width in
     subst
     (λ (r : Result ℕ ArrayError). IsDequantizedArray c.args.self r c.args.scales.now c.args.codes.now
     c.args.values.now c.args.values.now (Err c.in-Err.error)) known (refl, refl)
@@ -34,11 +34,11 @@ returns-in-Err c =
 pub returns-in-Ok : goal.returns-in-Ok
 returns-in-Ok c =
     let width = rw c.built_in.ensures at c.width-width.ensures.is in
-    let fits = fitting c.args.self.format c.args.self.length c.width-width.result (length c.args.values.now) (length c.args.scales.now)
-    (length c.args.codes.now) _ (sym c.in-Ok.ensures.count) in
+    let fits = fitting c.args.self.format c.args.self.length c.width-width.result (length c.args.values.now)
+    (length c.args.scales.now) (length c.args.codes.now) _ (sym c.in-Ok.ensures.count) in
     let known = ap (λ (n : ℕ). Ok n) fits.scales_are ∙ c.in-Ok.ensures.count
-    ∙ ap (λ (w : ℕ). blocks_in c.args.self.format c.args.self.length w (length c.args.values.now) (length c.args.scales.now)
-    (length c.args.codes.now)) width in
+    ∙ ap (λ (w : ℕ). blocks_in c.args.self.format c.args.self.length w (length c.args.values.now)
+    (length c.args.scales.now) (length c.args.codes.now)) width in
     subst
     (λ (r : Result ℕ ArrayError). IsDequantizedArray c.args.self r c.args.scales.now c.args.codes.now
     c.args.values.now c.dequantize_each.new.values c.dequantize_each.result) known c.dequantize_each.ensures
