@@ -13,10 +13,10 @@ use Rattle.apfloat_arrays.proofs.scaled_blocks_lemmas.FormatLaws.{built_in_law}
 use Rattle.coded_calls.specs.declared.data.Answer.{Answer}
 use Rattle.coded_calls.specs.declared.data.Halves.{Halves}
 use Rattle.coded_calls.specs.Answers.{whole}
-use Rattle.apfloat_c.specs.declared.augmented.Augmentation.{Augmentation}
-use Rattle.apfloat_c.specs.declared.augmented.Augmentation.TheVariants.{Sum, Difference, Product}
-use Rattle.apfloat_c.specs.Augmented.{AreAugmentedCallsOnce, IsAugmentedBy, IsAugmentedCall, IsPayloadCall}
-use Rattle.apfloat_c.specs.Augmented.{KnownAugmentation, KnownPayload}
+use Rattle.coded_calls.specs.declared.augmented.Augmentation.{Augmentation}
+use Rattle.coded_calls.specs.declared.augmented.Augmentation.TheVariants.{Sum, Difference, Product}
+use Rattle.coded_calls.specs.Augmented.{IsAugmentedBy, IsAugmentedCall, IsPayloadCall, KnownAugmentation, KnownPayload}
+use Rattle.apfloat_c.specs.Augmented.{AreAugmentedCallsOnce}
 use Rattle.apfloat_c.specs.OneAnswer.{SameAnswer}
 use Rattle.apfloat_c.proofs.ExportsOnce.{format_determined, unchanged}
 

@@ -20,7 +20,6 @@ use Rattle.formats_at_run_time.specs.declared.FlaggedFormat.TheVariants.{BuiltIn
 use Rattle.formats_at_run_time.specs.declared.FlaggedKind.{FlaggedKind}
 use Rattle.formats_at_run_time.specs.declared.FlaggedKind.TheVariants.{OfFormat, Pairs}
 use Rattle.formats_at_run_time.specs.BuiltIns.{constants_in, kind_of}
-use Rattle.formats_at_run_time.specs.FlaggedKinds.{format_without_rule}
 use Rattle.formats_at_run_time.specs.Relations.{in_format, in_pairs}
 use Rattle.formats_at_run_time.specs.ValueKinds.{Kind, of_format, of_pairs, value_of}
 use Rattle.coded_calls.specs.declared.data.Answer.{Answer}
@@ -100,12 +99,6 @@ pub record IsTextOfBits (c : Constants) (bits : ℕ) (text : DecimalText) : Type
 abbrev pub IsKindText : Kind → ℕ → List ℕ → Type 0
 IsKindText (of_format c) bits text = IsValueText (format_with c) (value_of c bits) text
 IsKindText of_pairs bits text = ⊥
-
--- the format with the flags of the built-in ones has the same values
-abbrev pub text_format : Option FlaggedKind → Result BuiltInFormat ℕ
-text_format None = Err unknown_format
-text_format (Some Pairs) = Err no_such_operation
-text_format (Some (OfFormat format)) = Ok (format_without_rule format)
 
 -- the code 0 and the text, or the code of the error and the previous contents
 abbrev pub IsShortestWritten : Result BuiltInFormat ℕ → ℕ → DecimalText → DecimalText → ℕ → Type 0

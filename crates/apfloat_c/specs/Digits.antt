@@ -17,9 +17,8 @@ use Rattle.formats_at_run_time.specs.BuiltIns.{constants_in}
 use Rattle.formats_at_run_time.specs.ValueKinds.{Kind, of_format, of_pairs, value_of}
 use Rattle.coded_calls.specs.declared.data.Answer.{Answer}
 use Rattle.coded_calls.specs.Answers.{whole}
-use Rattle.coded_calls.specs.KnownCalls.{◌>>=◌, answered, unknown_format, unknown_mode}
+use Rattle.coded_calls.specs.KnownCalls.{◌>>=◌, answered, text_format, unknown_format, unknown_mode}
 use Rattle.apfloat_c.specs.ArrayCalls.{wrong_length}
-use Rattle.apfloat_c.specs.Decimals.{text_format}
 use Rattle.apfloat_c.specs.OneAnswer.{SameAnswer}
 
 pub record KnownWriting : Type 0 where

@@ -13,8 +13,9 @@ ghost use Rattle.formats_at_run_time.specs.Modes.{mode_coded};
 ghost use Rattle.formats_at_run_time.specs.Relations.{in_pairs};
 ghost use Rattle.formats_at_run_time.specs.ValueKinds.{of_format, of_pairs};
 ghost use Rattle.coded_calls.specs.Answers.{IsValueWritten, whole};
+ghost use Rattle.coded_calls.specs.KnownCalls.{text_format};
 ghost use Rattle.apfloat_c.specs.Decimals.{IsKindText, IsParsed, IsReadInto, IsShortestWritten, IsText};
-ghost use Rattle.apfloat_c.specs.Decimals.{IsValueText, decimal_kind, known_reading, text_format, text_of_shortest};
+ghost use Rattle.apfloat_c.specs.Decimals.{IsValueText, decimal_kind, known_reading, text_of_shortest};
 
 use apfloat_decimals::formatting::{CAPACITY, Line, put_decimal};
 use apfloat_decimals::{Decimal, shortest};

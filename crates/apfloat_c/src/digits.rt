@@ -6,7 +6,7 @@ ghost use Rattle.formats_at_run_time.specs.FlaggedKinds.{flagged_kind_coded};
 ghost use Rattle.formats_at_run_time.specs.FormatKinds.{IfFormat};
 ghost use Rattle.formats_at_run_time.specs.Modes.{mode_coded};
 ghost use Rattle.coded_calls.specs.Answers.{whole};
-ghost use Rattle.apfloat_c.specs.Decimals.{text_format};
+ghost use Rattle.coded_calls.specs.KnownCalls.{text_format};
 ghost use Rattle.apfloat_c.specs.Digits.{AreDigitsWritten, AreDigitsWrittenOnce, GivesKindCount, IsCountGiven};
 ghost use Rattle.apfloat_c.specs.Digits.{IsCountGivenOnce, IsHexPut, IsHexPutOnce, IsKindHex, IsKindRoundedHex};
 ghost use Rattle.apfloat_c.specs.Digits.{IsKindWritten, IsRoundedHexPut, IsRoundedHexPutOnce, known_writing};

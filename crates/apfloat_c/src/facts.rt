@@ -4,7 +4,7 @@ ghost use Rattle.std.specs.Prelude.{◌≡◌, ◌<◌, ◌≤◌};
 ghost use Rattle.rustc_apfloat.specs.Types.{constants_of};
 ghost use Rattle.formats_at_run_time.specs.FlaggedKinds.{flagged_kind_coded};
 ghost use Rattle.formats_at_run_time.specs.FormatKinds.{IfFormat};
-ghost use Rattle.apfloat_c.specs.Decimals.{text_format};
+ghost use Rattle.coded_calls.specs.KnownCalls.{text_format};
 ghost use Rattle.apfloat_c.specs.Facts.{AreFacts, AreFactsOnce, AreFactsWritten, IsDigitCountToReadBack};
 ghost use Rattle.apfloat_c.specs.Facts.{has_infinities_code, nonfinite_code};
 

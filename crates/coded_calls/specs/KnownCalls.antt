@@ -5,9 +5,10 @@ use Rattle.rustc_apfloat.specs.declared.Round.{Round}
 use Rattle.std.specs.Char.{is_ascii}
 use Rattle.rustc_apfloat.specs.Digits.{every}
 use Rattle.rustc_apfloat.specs.Faults.{fault_of}
+use Rattle.formats_at_run_time.specs.declared.BuiltInFormat.{BuiltInFormat}
 use Rattle.formats_at_run_time.specs.declared.FlaggedKind.{FlaggedKind}
 use Rattle.formats_at_run_time.specs.declared.FlaggedKind.TheVariants.{OfFormat, Pairs}
-use Rattle.formats_at_run_time.specs.FlaggedKinds.{flagged_kind_of}
+use Rattle.formats_at_run_time.specs.FlaggedKinds.{flagged_kind_of, format_without_rule}
 use Rattle.formats_at_run_time.specs.ValueKinds.{Kind, of_format, of_pairs}
 use Rattle.coded_calls.specs.declared.exported_call.ExportedCall.{ExportedCall}
 use Rattle.coded_calls.specs.declared.exported_call.ExportedCall.TheVariants.{FusedSum, ToUnsigned, ToSigned}
@@ -104,3 +105,9 @@ known_call format mode call =
     ok_or format unknown_format >>= λ known. ok_or mode unknown_mode >>= λ rounding.
     without (fault_in (flagged_kind_of known) call)
     (record { kind = flagged_kind_of known; mode = rounding; call = call })
+
+-- the format with the flags of the built-in ones has the same values; pairs of doubles have none
+abbrev pub text_format : Option FlaggedKind → Result BuiltInFormat ℕ
+text_format None = Err unknown_format
+text_format (Some Pairs) = Err no_such_operation
+text_format (Some (OfFormat format)) = Ok (format_without_rule format)

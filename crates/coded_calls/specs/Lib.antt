@@ -1,5 +1,6 @@
 pub mod KnownCalls
 pub mod Answers
+pub mod Augmented
 pub mod FlaglessCalls
 pub mod IeeeCalls
 pub mod MachineCalls

@@ -2,12 +2,13 @@
 //! C exports for single values, in Rust.
 //!
 //! Each call returns 0, or the code of the first error and leaves the answer unchanged; it requires nothing of codes
-//! and bits. None looks into a value: each makes a public call of the library, or one from bits to bits. Arrays,
-//! blocks and storage formats do not belong here, and no export can: all that needs `apfloat_arrays` stands above, so
-//! that these calls are proved beside it.
+//! and bits. None looks into a value: each makes a public call of the library, or one from bits to bits. Arrays and
+//! blocks do not belong here, and no export can: all that needs `apfloat_arrays` stands above, so that these calls are
+//! proved beside it.
 #![tactic(auto)]
 
 pub mod answers;
+pub mod augmented;
 pub mod by_code;
 pub mod coded_formats;
 pub mod codes;
