@@ -94,7 +94,7 @@ pub record IsQuantizedReply (q : Quantization) (values before scales old codes :
     (code : ℕ) : Type 0 where
   pub made : Result Counts ArrayError
   pub is_made : IsQuantizedArray q (blocks_in q.format q.length (width_in q) (length values) (length before)
-  (length old))
+      (length old))
       values before scales old codes made
   pub is_reply : IsReply made answer reply code
 
@@ -109,7 +109,7 @@ pub record IsDequantizedReply (q : Dequantization) (scales codes before after : 
     (code : ℕ) : Type 0 where
   pub made : Result Counts ArrayError
   pub is_made : IsDequantizedArray q (blocks_in q.format q.length (width_out q) (length before) (length scales)
-  (length codes))
+      (length codes))
       scales codes before after made
   pub is_reply : IsReply made answer reply code
 

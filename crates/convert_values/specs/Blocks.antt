@@ -90,8 +90,8 @@ total_of before [] = before
 total_of before (counts ∷ rest) = total_of (sum_of before counts) rest
 
 -- each block is converted, in its place
-pub record AreBlocksConverted (q : BlockConversion) (count : ℕ) (read written : List ℕ) (counts : Counts) : Type
-    0 where
+pub record AreBlocksConverted (q : BlockConversion) (count : ℕ) (read written : List ℕ) (counts : Counts)
+    : Type 0 where
   pub parts : List Counts
   pub places : AreInPlaces (λ index bytes part. IsConverted q (value_at (block_widths q).source index read) bytes part)
       (block_widths q).target count written parts

@@ -84,8 +84,8 @@ saturated_once c mode b amount parts code other status flags law l k v w =
     let same : v.pick ≡ w.pick = pick_unique c.precision mode b amount parts v.pick w.pick v.is_pick w.is_pick in (
       code_once c code other (saturated_value (format_with c) b w.pick) law l k
           (v.value_is ∙ ap (λ (p : ℕ). saturated_value (format_with c) b p) same) w.value_is,
-      v.status_is ∙ ap (λ (p : ℕ). delivered_status (format_with c) mode b amount parts p) same ∙ sym
-      w.status_is,
+      v.status_is ∙ ap (λ (p : ℕ). delivered_status (format_with c) mode b amount parts p) same
+          ∙ sym w.status_is,
     )
 
 number_once : (c : StorageConstants) (f : Format) (mode : Round) (b : Bool) (n code other status flags : ℕ)

@@ -99,8 +99,8 @@ unscaled format (Err error) count said = cc
 unscaled format (Ok blocks) count said = by_scale (has_scale format) (Ok blocks) count said
 
 pub fitting : (format : BlockFormat) (block width values scales codes count : ℕ)
-    → blocks_in format block width values scales codes ≡ Ok count → AreFitting block width values scales codes
-    count
+    → blocks_in format block width values scales codes ≡ Ok count
+    → AreFitting block width values scales codes count
 fitting format block width values scales codes count said =
     by_tests block width values scales codes count (block == 0) (values % width == 0) (values / width % block == 0)
     ((codes == values / width) && (scales == values / width / block)) refl refl refl refl

@@ -104,8 +104,8 @@ nv_quantized_once f mode tensor values before =
 
 -- ---- out of a block
 
-pub nv_scaled_once : (g : Format) (mode : Round) (tensor scale code : ℕ) → Once
-    (IsNvScaled g mode tensor scale code)
+pub nv_scaled_once : (g : Format) (mode : Round) (tensor scale code : ℕ)
+    → Once (IsNvScaled g mode tensor scale code)
 nv_scaled_once g mode tensor scale code =
     match_case Once (eqb scale nan_scale) (IsAnswer _ _) (IsDelivered g mode _ _ _) (answer_once _ _)
     (λ v w s t. delivered_once g mode _ _ _ v w s t)
