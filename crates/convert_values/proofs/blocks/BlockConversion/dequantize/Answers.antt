@@ -1,12 +1,22 @@
 use Rattle.std.proofs.Common.{rules, refl}
 use Rattle.apfloat_arrays.specs.declared.Extended.TheVariants.{Packed}
+use Rattle.apfloat_arrays.specs.declared.scaled_blocks.BlockFormat.TheVariants.{Mx}
+use Rattle.formats_at_run_time.specs.declared.FlaggedFormat.TheVariants.{BuiltIn}
 use Rattle.apfloat_arrays.proofs.WidthBounds.{width_room}
 use Rattle.convert_values.proofs.BlockLengths.{dequantized, one_block_of}
 use Rattle.convert_values.proofs.blocks.BlockConversion.dequantize.Goals as goal
 
 pub unwrap-requires : goal.unwrap-requires
 unwrap-requires c =
-    dequantized _ _ _ _ _ _ _
-    (one_block_of _ _ _ _ _ _ c.args.self.form.some (width_room c.args.self.format Packed).least c.requires.values refl
-    (search rules))
+    let self = c.args.self in
+    dequantized
+    (record {
+      format = Mx self.form.element;
+      length = self.form.length;
+      target = BuiltIn self.format;
+      round = self.round;
+    })
+    _ _ _ _ _ _
+    (one_block_of self.form.element _ _ _ _ _ self.form.some (width_room self.format Packed).least c.requires.values
+    refl (search rules))
     c.read-scale.ensures.are_packed.codes_fit c.dequantize.ensures
