@@ -227,7 +227,7 @@ static void values(void) {
         }
         break;
     }
-    default: ONE(apfloat_machine, code(10), code(17), f, m, below(2) ? format() : code(130), x, y, z);
+    default: ONE(apfloat_machine, code(17), code(17), f, m, below(2) ? format() : code(130), x, y, z);
     }
 }
 

@@ -8,9 +8,9 @@ ghost use Rattle.formats_at_run_time.specs.ValueKinds.{of_format};
 ghost use Rattle.coded_calls.specs.Answers.{whole};
 ghost use Rattle.coded_calls.specs.declared.machine_call.MachineCall.TheVariants.{Operation};
 ghost use Rattle.coded_calls.specs.declared.machine_call.MachineOperation.TheVariants.{OfTwo};
-ghost use Rattle.coded_calls.specs.MachineCalls.{conversion_call, format_on, is_tiny_before, machine_call};
-ghost use Rattle.coded_calls.specs.MachineCalls.{machine_coded, machine_format, machine_operation};
-ghost use Rattle.coded_calls.specs.MachineCalls.{of_one, operation_call, rule_coded};
+ghost use Rattle.coded_calls.specs.MachineCalls.{choices, conversion_call, format_on, is_tiny_before, machine_call};
+ghost use Rattle.coded_calls.specs.MachineCalls.{machine_coded, machine_format, machine_operation, of_one};
+ghost use Rattle.coded_calls.specs.MachineCalls.{operation_call, rule_coded};
 
 use crate::codes::{NO_SUCH_OPERATION, UNKNOWN_FORMAT};
 use apfloat_machines::{Machine, MinimumRule};
@@ -21,6 +21,56 @@ use rustc_apfloat::Round;
 
 /// The code of conversions to another format.
 const CONVERSION: u32 = 11;
+
+/// A machine by its code, which takes less room than its choices where calls pass it on.
+#[derive(Clone, Copy)]
+pub struct CodedMachine {
+    /// The code.
+    pub code: u32,
+}
+
+impl CodedMachine {
+    /// What the machine does.
+    #[inline(always)]
+    #[tactic(auto, unfolding(crate::specs::MachineCalls::choices))]
+    pub fn choices(self) -> Machine
+        ensures { result ≡ choices self }
+    {
+        match self.code {
+            1 => Machine::X86,
+            2 => Machine::X87,
+            3 => Machine::ARM,
+            4 => Machine::ARM_DEFAULT_NAN,
+            5 => Machine::ARM_ALTERNATE,
+            6 => Machine::RISC_V,
+            7 => Machine::POWER,
+            8 => Machine::S390X,
+            9 => Machine::ARM_ALTERNATE_DEFAULT_NAN,
+            10 => Machine::WEBASSEMBLY,
+            11 => Machine::PTX,
+            12 => Machine::MIPS_2008,
+            13 => Machine::LOONGARCH,
+            14 => Machine::SPARC,
+            _ => Machine::M68K,
+        }
+    }
+
+    /// Whether the machine has fused sums.
+    #[inline(always)]
+    pub fn has_fused(self) -> bool
+        ensures { result ≡ (choices self).has_fused }
+    {
+        self.choices().has_fused
+    }
+
+    /// Whether a result is tiny by its exact magnitude on the machine.
+    #[inline(always)]
+    pub fn tiny_before_rounding(self) -> bool
+        ensures { result ≡ (choices self).tiny_before_rounding }
+    {
+        self.choices().tiny_before_rounding
+    }
+}
 
 /// What a machine is asked for on values of a format; they are given by their bits.
 #[derive(Clone, Copy)]
@@ -110,7 +160,7 @@ impl MachineFormat {
     #[inline(always)]
     pub fn fill<C: FillsInFormat>(
         self,
-        machine: Machine,
+        machine: CodedMachine,
         call: C,
         place: &mut C::Place,
     ) -> C::Output
@@ -122,7 +172,7 @@ impl MachineFormat {
 
     /// The format with its rule of flags on a machine.
     #[inline(always)]
-    fn on(self, machine: Machine) -> FlaggedFormat
+    fn on(self, machine: CodedMachine) -> FlaggedFormat
         ensures { result ≡ format_on machine self }
     {
         if self.is_tiny_before(machine) {
@@ -134,7 +184,7 @@ impl MachineFormat {
 
     /// Whether a result is tiny by its exact magnitude on a machine.
     #[inline(always)]
-    fn is_tiny_before(self, machine: Machine) -> bool
+    fn is_tiny_before(self, machine: CodedMachine) -> bool
         ensures { result ≡ is_tiny_before machine self.tiny_before }
     {
         match self.tiny_before {
@@ -146,19 +196,13 @@ impl MachineFormat {
 
 /// The machine of this code, if there is one.
 #[inline(always)]
-pub fn machine_coded(code: u32) -> Option<Machine>
+pub fn machine_coded(code: u32) -> Option<CodedMachine>
     ensures { result ≡ machine_coded code }
 {
-    match code {
-        1 => Some(Machine::X86),
-        2 => Some(Machine::X87),
-        3 => Some(Machine::Arm),
-        4 => Some(Machine::ArmDefaultNan),
-        5 => Some(Machine::ArmAlternate),
-        6 => Some(Machine::RiscV),
-        7 => Some(Machine::Power),
-        8 => Some(Machine::S390x),
-        _ => None,
+    if 0 < code && code < 16 {
+        Some(CodedMachine { code })
+    } else {
+        None
     }
 }
 
@@ -275,7 +319,7 @@ fn conversion_call(target: Option<FlaggedKind>, x: u128) -> Result<MachineCall, 
 #[derive(Clone, Copy)]
 pub struct Setting {
     /// The machine.
-    pub machine: Machine,
+    pub machine: CodedMachine,
     /// The rounding mode.
     pub round: Round,
 }
