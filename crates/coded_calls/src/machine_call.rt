@@ -22,6 +22,27 @@ use rustc_apfloat::Round;
 /// The code of conversions to another format.
 const CONVERSION: u32 = 11;
 
+/// The machines by their codes; the last one stands for what is no code too. A table, unlike a `match`, is read only
+/// where a choice is asked for.
+const MACHINES: [Machine; 16] = [
+    Machine::M68K,
+    Machine::X86,
+    Machine::X87,
+    Machine::ARM,
+    Machine::ARM_DEFAULT_NAN,
+    Machine::ARM_ALTERNATE,
+    Machine::RISC_V,
+    Machine::POWER,
+    Machine::S390X,
+    Machine::ARM_ALTERNATE_DEFAULT_NAN,
+    Machine::WEBASSEMBLY,
+    Machine::PTX,
+    Machine::MIPS_2008,
+    Machine::LOONGARCH,
+    Machine::SPARC,
+    Machine::M68K,
+];
+
 /// A machine by its code, which takes less room than its choices where calls pass it on.
 #[derive(Clone, Copy)]
 pub struct CodedMachine {
@@ -32,27 +53,11 @@ pub struct CodedMachine {
 impl CodedMachine {
     /// What the machine does.
     #[inline(always)]
-    #[tactic(auto, unfolding(crate::specs::MachineCalls::choices))]
     pub fn choices(self) -> Machine
         ensures { result ≡ choices self }
     {
-        match self.code {
-            1 => Machine::X86,
-            2 => Machine::X87,
-            3 => Machine::ARM,
-            4 => Machine::ARM_DEFAULT_NAN,
-            5 => Machine::ARM_ALTERNATE,
-            6 => Machine::RISC_V,
-            7 => Machine::POWER,
-            8 => Machine::S390X,
-            9 => Machine::ARM_ALTERNATE_DEFAULT_NAN,
-            10 => Machine::WEBASSEMBLY,
-            11 => Machine::PTX,
-            12 => Machine::MIPS_2008,
-            13 => Machine::LOONGARCH,
-            14 => Machine::SPARC,
-            _ => Machine::M68K,
-        }
+        let at = if self.code < 16 { self.code } else { 0 };
+        MACHINES[at as usize]
     }
 
     /// Whether the machine has fused sums.
