@@ -60,6 +60,9 @@ def main():
             print(writing(choices, known, pattern))
     for name, mode, form in readings(random.Random(_SEED)):
         print(reading(name, mode, form))
+    for known in PROGRAM_FORMATS:
+        for pattern in [*wholes(choices, known), *list(patterns(choices, known))[::4]]:
+            print(person(known, pattern))
     for known in (HALF, BFLOAT, E5M2, E4M3FN, E4M3FNUZ):
         print(all_values(known))
     for known in (HALF, E5M2, E4M3FN, E4M3FNUZ):
@@ -112,6 +115,26 @@ def writing(choices, known, pattern):
     x = bits.decoded(known, pattern)
     digits = known.hexadecimal_digits
     return f"shortest\t{known.name}{choices.choice(rules)}\t{pattern:0{digits}x}\t{shown(known, x)}"
+
+
+def wholes(choices, known):
+    """Bits of whole numbers, those beside 10^16 among them."""
+    drawn = choices.getrandbits(30), choices.getrandbits(60)
+    for whole in (1, 448, 65504, 10**15, 10**16 - 1, 10**16, 10**16 + 2, *drawn):
+        value, _ = decimals.read(known, f"-{whole}", Mode.ZERO)
+        yield bits.encoded(known, value)
+        yield bits.encoded(known, value) + 1
+
+
+def person(known, pattern):
+    """A row of the text of a value for a person."""
+    x = bits.decoded(known, pattern)
+    line = shown(known, x)
+    if not is_nan(x) and not isinstance(x, Infinite) and x.quanta % (1 << known.scale) == 0:
+        whole = x.quanta >> known.scale
+        if whole < 10**16:
+            line = f"{'-' if x.negative else ''}{whole}.0"
+    return f"to_text\t{known.name}\t{pattern:0{known.hexadecimal_digits}x}\t{line}"
 
 
 def all_values(known):

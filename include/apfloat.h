@@ -134,6 +134,11 @@ typedef enum apfloat_mode APFLOAT_CODE {
     APFLOAT_SATURATE_FINITE = 0x300,
     APFLOAT_SATURATE_ALL = 0x700,
 
+    /* Joined to the mode of apfloat_quantize_blocks alone: which scale a block has. */
+    APFLOAT_SCALE_CEIL = 0x1000, /* the least one by which no value is past the largest number of the elements */
+    APFLOAT_SCALE_EVEN = 0x2000, /* that of the greatest magnitude once it is rounded to the digits of an element, to
+                                  * nearest, ties to even */
+
     /* Of apfloat_to_storage_by and apfloat_convert_array_by alone, and the first one of apfloat_to_p3109. */
     APFLOAT_TO_ODD = 5,
     APFLOAT_RANDOM_DIGITS = 6,
@@ -311,12 +316,16 @@ typedef struct apfloat_text {
 } apfloat_text;
 
 /* The text of the shortest decimal that gives x when it is rounded to nearest, ties to even: of those with as few
- * digits, the nearest to x, and of two equally near ones the even one. So 448 in APFLOAT_E4M3FN is 450.0;
- * apfloat_write_digits writes the digits of x itself. The text is written as in 12.5, 0.000001, 1e-7 and 1.5e21: with
+ * digits, the nearest to x, and of two equally near ones the even one. So 448 in APFLOAT_E4M3FN is 450.0; the text for
+ * a person is that of apfloat_to_text. The text is written as in 12.5, 0.000001, 1e-7 and 1.5e21: with
  * an exponent unless that of the first digit is from -6 to 20, and otherwise with at least one digit on each side of
  * the dot. A zero is 0.0 or -0.0, an infinity inf or -inf, and every NaN nan. APFLOAT_DOUBLE_PAIR does not have it, but
  * apfloat_pair_shortest. On an error, *text is unchanged; the rules for `answer` hold for `text` too. */
 apfloat_error apfloat_shortest(apfloat_format format, apfloat_halves x, apfloat_text *text);
+
+/* The text of x for a person: a whole number below 10^16 in full, as in 448.0, and any other value as apfloat_shortest
+ * writes it, under its rules. */
+apfloat_error apfloat_to_text(apfloat_format format, apfloat_halves x, apfloat_text *text);
 
 /* A text for what a function returned, such as "unknown format"; APFLOAT_ANSWERED has one too. For a number that is no
  * code, APFLOAT_UNKNOWN_ERROR is returned, and *text is unchanged. The rules for `answer` hold for `text`. */
@@ -486,6 +495,34 @@ typedef struct apfloat_facts {
 /* The rule of flags of the code makes no difference. APFLOAT_DOUBLE_PAIR is no format. On an error, *facts is
  * unchanged; the rules for `answer` hold for `facts` too. */
 apfloat_error apfloat_format_facts(apfloat_format format, apfloat_facts *facts);
+
+/* The name of a format, a storage format too, as the programs have it, such as "double"; "" for what is none. The rule
+ * of flags makes no difference. */
+APFLOAT_INLINE const char *apfloat_format_name(apfloat_format format) {
+    switch ((uint32_t)format & ~((uint32_t)APFLOAT_IEEE_FLAGS | (uint32_t)APFLOAT_TINY_BEFORE_ROUNDING)) {
+    case APFLOAT_HALF: return "half";
+    case APFLOAT_SINGLE: return "single";
+    case APFLOAT_DOUBLE: return "double";
+    case APFLOAT_QUAD: return "quad";
+    case APFLOAT_BFLOAT: return "bfloat";
+    case APFLOAT_E5M2: return "e5m2";
+    case APFLOAT_E4M3FN: return "e4m3fn";
+    case APFLOAT_E4M3FNUZ: return "e4m3fnuz";
+    case APFLOAT_X87: return "x87";
+    case APFLOAT_DOUBLE_PAIR: return "dd";
+    case APFLOAT_E4M3: return "e4m3";
+    case APFLOAT_E5M2FNUZ: return "e5m2fnuz";
+    case APFLOAT_E4M3B11FNUZ: return "e4m3b11fnuz";
+    case APFLOAT_TF32: return "tf32";
+    case APFLOAT_E2M1FN: return "e2m1fn";
+    case APFLOAT_E2M3FN: return "e2m3fn";
+    case APFLOAT_E3M2FN: return "e3m2fn";
+    case APFLOAT_E3M4: return "e3m4";
+    case APFLOAT_E8M0FNU: return "e8m0fnu";
+    case APFLOAT_UE4M3: return "ue4m3";
+    default: return "";
+    }
+}
 
 /* ---- augmented operations, and payloads of NaNs (IEEE 754-2019 9.5, 9.7)
  *
@@ -780,9 +817,10 @@ apfloat_error apfloat_dot(apfloat_format format, apfloat_mode mode, const uint8_
 
 /* The scale of each block of `values`, and the codes of its elements: the scale is 2 to the power of the greatest
  * exponent of the block less that of the largest number of the element format, clamped to the scales that there are,
- * and that of zeros is the least one. An element is the exact quotient by the scale, rounded once, and the largest
- * number of its sign in place of what is past it. A block with an infinity or a NaN has the scale that is a NaN, and
- * zeros; `nans` counts its values. There are no blocks of APFLOAT_DOUBLE_PAIR (APFLOAT_NO_SUCH_OPERATION). */
+ * and that of zeros is the least one; APFLOAT_SCALE_CEIL and APFLOAT_SCALE_EVEN have other rules. An element is the
+ * exact quotient by the scale, rounded once, and the largest number of its sign in place of what is past it. A block
+ * with an infinity or a NaN has the scale that is a NaN, and zeros; `nans` counts its values. There are no blocks of
+ * APFLOAT_DOUBLE_PAIR (APFLOAT_NO_SUCH_OPERATION). */
 apfloat_error apfloat_quantize_blocks(apfloat_format format, apfloat_mode mode, apfloat_format element, size_t length,
                                       const uint8_t *values, size_t values_length, uint8_t *scales,
                                       size_t scales_length, uint8_t *codes, size_t codes_length,

@@ -1845,25 +1845,6 @@ constexpr scaled scaled_of(const value<F> &x) noexcept {
     return {significand, above_least + F::min_exponent - trailing};
 }
 
-// The first whole number that is not written in full.
-inline constexpr std::uint64_t full_below = UINT64_C(10000000000000000);
-
-// A finite value as a whole number, without its sign; `full_below` if it is none, or not below that.
-template <class F>
-constexpr std::uint64_t whole_of(const value<F> &x) noexcept {
-    const auto [significand, exponent] = scaled_of(x);
-    std::uint64_t number = significand.low;
-    if (significand.high != 0 || exponent <= -64) return full_below;
-    if (exponent < 0) {
-        if ((number & ((UINT64_C(1) << -exponent) - 1)) != 0) return full_below;
-        number >>= -exponent;
-    } else if (number != 0) {
-        if (exponent > 53 || number > (full_below - 1) >> exponent) return full_below;
-        number <<= exponent;
-    }
-    return number < full_below ? number : full_below;
-}
-
 } // namespace detail
 
 /// The shortest decimal that gives x when it is rounded to nearest, ties to even, written as apfloat.h says at
@@ -2042,22 +2023,10 @@ text to_text(const value<F> &x) noexcept {
             for (const char letter : part) written.bytes[written.length++] = letter;
         return text(written);
     } else {
-        // With 53 digits and more, the shortest decimal of such a number has all of its digits.
-        if constexpr (F::precision < 53) {
-            std::uint64_t number = is_finite(x) ? detail::whole_of(x) : detail::full_below;
-            if (number != detail::full_below) {
-                char digits[20] = {};
-                int count = 0;
-                for (; count == 0 || number != 0; number /= 10) digits[count++] = static_cast<char>('0' + number % 10);
-                apfloat_text written = {{0}, 0};
-                if (x.sign_bit()) written.bytes[written.length++] = '-';
-                while (count > 0) written.bytes[written.length++] = digits[--count];
-                written.bytes[written.length++] = '.';
-                written.bytes[written.length++] = '0';
-                return text(written);
-            }
-        }
-        return shortest_text(x);
+        apfloat_text written = {{0}, 0};
+        const apfloat_error code = apfloat_to_text(F::code, x.halves(), &written);
+        if (code != APFLOAT_ANSWERED) detail::refuse(static_cast<errc>(code));
+        return text(written);
     }
 }
 
@@ -2972,6 +2941,10 @@ inline std::size_t blocks_of(std::size_t count, std::size_t length) noexcept {
 
 } // namespace detail
 
+/// Which scale a block of a microscaling format has: that of the OCP's rule, the least one by which no value is past
+/// the largest number of the elements, or the first for magnitudes rounded to the digits of an element.
+enum class scale_rule : std::uint32_t { floor = 0, ceil = APFLOAT_SCALE_CEIL, even = APFLOAT_SCALE_EVEN };
+
 /// Quantizes `count` values in blocks of `length`, in the microscaling formats of the OCP (apfloat.h): the scale of
 /// each block, and the code of each element, a `value` of `e5m2` or `e4m3fn`, or a `stored` one of `e3m2fn`, `e2m3fn`
 /// or `e2m1fn`. The arrays do not overlap; if one is null and `count` is not 0, or `length` is 0 or does not divide
@@ -2979,15 +2952,17 @@ inline std::size_t blocks_of(std::size_t count, std::size_t length) noexcept {
 template <class From, class Code>
 expected<array_counts> quantize_blocks(const value<From> *values, std::size_t count, std::size_t length,
                                        stored<e8m0fnu> *scales, Code *codes,
-                                       rounding mode = rounding::nearest_even) noexcept {
+                                       rounding mode = rounding::nearest_even,
+                                       scale_rule rule = scale_rule::floor) noexcept {
     static_assert(!From::is_pair, "there are no blocks of pairs of doubles");
     static_assert(detail::is_element<typename Code::format>::value, "this is no format of elements in blocks");
     if (!detail::has_lowest_byte_first()) return errc::no_such_operation;
     const bool is_missing = count != 0 && (values == nullptr || scales == nullptr || codes == nullptr);
     const std::size_t present = is_missing ? 0 : count;
     apfloat_array_answer answer = {0, 0, 0, 0, 0, 0, 0, 0, 0};
+    const auto joined = static_cast<std::uint32_t>(detail::code_of(mode)) | static_cast<std::uint32_t>(rule);
     const apfloat_error code = apfloat_quantize_blocks(
-        From::code, detail::code_of(mode), Code::format::code, length, detail::bytes_of(values),
+        From::code, static_cast<apfloat_mode>(joined), Code::format::code, length, detail::bytes_of(values),
         present * sizeof(value<From>), detail::bytes_of(scales), detail::blocks_of(present, length),
         detail::bytes_of(codes), present, &answer);
     if (code == APFLOAT_ANSWERED && is_missing) return errc::wrong_length;

@@ -254,7 +254,7 @@ def _parameters() -> dict[str, list[Any]]:
         'pair_shortest': [_Halves, ctypes.POINTER(_Text)],
         'augmented': [code, code, _Halves, _Halves, ctypes.POINTER(_Halves), answer],
         'payload': [code, code, _Halves, answer],
-        'shortest': [code, _Halves, ctypes.POINTER(_Text)],
+        'to_text': [code, _Halves, ctypes.POINTER(_Text)],
         'error_text': [code, ctypes.POINTER(_Text)],
         'made_by': [],
         'convert_array': [code, code, code, *array * 2, ctypes.POINTER(_ArrayAnswer)],
@@ -1638,11 +1638,8 @@ class Value(_Arithmetic[Number]):
 
     def _decimal(self) -> str:
         """The decimal of a value that is no pair."""
-        whole = _answered('to_i128', self.format.code, TOWARD_ZERO, _halves(self.bits), 64)
-        if whole.number and abs(_signed(whole.bits)) < 10**16:
-            return f'{_signed(whole.bits)}.0'
         text = _Text()
-        code = _functions.apfloat_shortest(self.format.code, _halves(self.bits), ctypes.byref(text))
+        code = _functions.apfloat_to_text(self.format.code, _halves(self.bits), ctypes.byref(text))
         if code:
             raise Refused(code)
         return text.bytes.decode()
@@ -3074,8 +3071,7 @@ class mx:
 
         `scale` is the rule by which the exponent of a scale follows from the greatest magnitude in the block: 'floor',
         its exponent less that of the largest element, as the OCP has it; 'ceil', the least with which no element is
-        past the largest; or 'even', as 'floor' once the magnitude has only as many digits as elements. The values have
-        to be doubles for the last two.
+        past the largest; or 'even', as 'floor' once the magnitude has only as many digits as elements.
 
         >>> mx.quantize([0.5] * 64, 'e4m3').scales
         float8_e8m0fnu.array([0.001953125, 0.001953125])
@@ -3088,8 +3084,7 @@ class mx:
         if scale not in _SCALE_RULES:
             raise ValueError(f'scale is {scale!r}, and none of {", ".join(map(repr, _SCALE_RULES))}')
         values, elements = _values_of(of), _element_of(element)
-        made = (functools.partial(_quantized, 'quantize_blocks', elements.code) if scale == 'floor' else
-                functools.partial(_quantized_by, scale, elements))
+        made = functools.partial(_quantized, 'quantize_blocks', elements.code, _SCALE_RULES[scale])
         return Blocks(*_in_blocks(values, elements, float8_e8m0fnu, 255, block, axis, pad, made))
 
     @staticmethod
@@ -3176,7 +3171,7 @@ class nvfp4:
         values = _values_of(of)
         scale = nvfp4.tensor_scale(values) if tensor is None else _single_of(tensor)
         made = Nvfp4Blocks(*_in_blocks(values, float4_e2m1fn, e4m3fn, 127, _NVFP4_BLOCK, axis, pad,
-                                       functools.partial(_quantized, 'quantize_nvfp4', scale.bits)))
+                                       functools.partial(_quantized, 'quantize_nvfp4', scale.bits, 0)))
         made.tensor = scale
         return made
 
@@ -3203,7 +3198,8 @@ def _single_of(number: Any) -> Value:
     return made
 
 
-_SCALE_RULES = 'floor', 'ceil', 'even'
+# What is joined to the code of a mode.
+_SCALE_RULES = {'floor': 0, 'ceil': 0x1000, 'even': 0x2000}
 
 
 def _element_of(of: Any) -> Any:
@@ -3288,36 +3284,14 @@ def _out_of_blocks(name: str, by: int, scales: Any, of_scales: Any, codes: Any, 
     return made if place == last else Array(target, bytes(made._moved(last, place)), counts, codes.shape)
 
 
-def _quantized(name: str, by: int, values: Array, block: int) -> tuple[bytes, bytes, dict[str, int]]:
-    """The scales and the codes of blocks, by a rule of the library, with the counts."""
+def _quantized(name: str, by: int, rule: int, values: Array, block: int) -> tuple[bytes, bytes, dict[str, int]]:
+    """The scales and the codes of blocks, with the counts."""
     data, size = bytes(values), values.size
     count = size // block
     scales, codes = ctypes.create_string_buffer(max(count, 1)), ctypes.create_string_buffer(max(size, 1))
-    counts = _block_call(name, values.format.code, context().mode, by, block, data, len(data), scales, count, codes,
+    counts = _block_call(name, values.format.code, context().mode | rule, by, block, data, len(data), scales, count, codes,
                          size)
     return scales.raw[:count], codes.raw[:size], counts
-
-
-def _quantized_by(rule: str, elements: Any, values: Array, block: int) -> tuple[bytes, bytes, dict[str, int]]:
-    """The same by another rule. Quotients by scales are exact in `quad`, and rounded once."""
-    numbers = _unpacked('d', values._exactly(double)._data)
-    largest, most = math.frexp(float(finfo(elements).max))
-    scales = bytearray()
-    for first in range(0, len(numbers), block):
-        part = numbers[first:first + block]
-        if not all(map(math.isfinite, part)):
-            numbers[first:first + block] = array.array('d', bytes(8 * block))
-            scales.append(255)
-            continue
-        significand, exponent = math.frexp(max(abs(number) for number in part))
-        one_more = significand > largest if rule == 'ceil' else significand >= 1 - 0.5 ** (elements._precision + 1)
-        scales.append(min(max(exponent - most + one_more + 127, 0), 254) if significand else 0)
-    with Context():
-        exact = Array(double, _packed('d', numbers), shape=(len(scales), block)).to(quad)
-        quotients = exact * quad.array([2.0 ** (127 - scale) for scale in scales]).reshape(len(scales), 1)
-    made = quotients.to(elements, saturate=True)
-    counts = {**made.counts, 'nans': made.counts['nans'] + block * scales.count(255)}
-    return bytes(scales), bytes(made), counts
 
 
 def _block_call(name: str, *arguments: Any) -> dict[str, int]:

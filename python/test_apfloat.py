@@ -1797,23 +1797,28 @@ class Nvfp4Tests(unittest.TestCase):
         return form
 
     def test_rows(self):
-        # The calls of C (tests/c/check_nvfp4.c has what the columns say).
-        for call, name, mode, by, *numbers, counted, nans, flags in self.rows('c', 'nvfp4'):
+        # The calls of C (tests/c/check_blocks.c has what the columns say).
+        for call, name, mode, by, *numbers, counted, nans, flags in self.rows('c', 'blocks'):
             given, scales, codes = [[int(word, 16) for word in words.split()] for words in numbers]
-            if len(given) != 16 * len(scales):
+            if call != 'quantize_blocks' and len(given) != 16 * len(scales):
                 continue
-            form, tensor = self.format(name), apfloat.single.from_bits(int(by, 16))
+            form = self.format(name)
             with self.subTest(call=call, name=name, mode=mode, given=numbers), \
                     Context(mode=self.MODES[mode]) as context:
-                if call == 'quantize_nvfp4':
-                    data = b''.join(bits.to_bytes(form._bytes, 'little') for bits in given)
-                    blocks = apfloat.nvfp4.quantize(Array(form, data), tensor)
-                    self.assertEqual([*blocks.scales._patterns()], scales)
+                if call != 'dequantize_nvfp4':
+                    values = Array(form, b''.join(bits.to_bytes(form._bytes, 'little') for bits in given))
+                    if call == 'quantize_nvfp4':
+                        blocks = apfloat.nvfp4.quantize(values, apfloat.single.from_bits(int(by, 16)))
+                    else:
+                        element, rule = by.split('+')
+                        blocks = apfloat.mx.quantize(values, element, len(given) // len(scales), scale=rule)
+                    self.assertEqual([*bytes(blocks.scales)], scales)
                     self.assertEqual([*bytes(blocks.codes)], codes)
                     counts = blocks.counts
                 else:
                     elements = apfloat.float4_e2m1fn.from_bits(bytes(codes))
-                    values = apfloat.nvfp4.dequantize(bytes(scales), elements, tensor, form)
+                    values = apfloat.nvfp4.dequantize(bytes(scales), elements, apfloat.single.from_bits(int(by, 16)),
+                                                      form)
                     self.assertEqual([*values._patterns()], given)
                     counts = values.counts
                 found = [counts[name] for name in ('inexact', 'underflow', 'overflow', 'nans', 'values')]

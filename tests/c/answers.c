@@ -254,7 +254,7 @@ static void call_on_blocks(uint32_t kind) {
     uint8_t values[256], scales[16], codes[16], packed[16];
     apfloat_array_answer answer;
     uint32_t format = draw_format(), mode = draw_mode(), element = draw_element();
-    uint32_t width = width_of(format);
+    uint32_t width = width_of(format), rule = below(3) * APFLOAT_SCALE_CEIL;
     uint32_t length = below(6), blocks = below(4), count = length * blocks;
     uint32_t bits = element == APFLOAT_E2M1FN ? 4 : element < APFLOAT_E2M1FN ? 8 : 6;
     apfloat_halves before = {0, 0};
@@ -276,7 +276,7 @@ static void call_on_blocks(uint32_t kind) {
     case 0:
         code = has_tensor ? apfloat_quantize_nvfp4(format, mode, tensor, length, values, lengths[0], scales, lengths[1],
                                                    codes, lengths[2], &answer)
-                          : apfloat_quantize_blocks(format, mode, element, length, values, lengths[0], scales,
+                          : apfloat_quantize_blocks(format, mode | rule, element, length, values, lengths[0], scales,
                                                     lengths[1], codes, lengths[2], &answer);
         break;
     case 1:
@@ -367,7 +367,7 @@ static void call(size_t kind) {
         break;
     case 23:
         memset(&written, 0xa5, sizeof written);
-        note_text(apfloat_shortest(format, x, &written), &written);
+        note_text((below(2) ? apfloat_shortest : apfloat_to_text)(format, x, &written), &written);
         break;
     case 24: CALL(apfloat_is_negative, format, x); break;
     case 25: CALL(apfloat_neg, format, x); break;

@@ -46,13 +46,15 @@ static bool is_read(char *columns[]) {
            answer.number == 0;
 }
 
-static bool is_shortest(char *columns[]) {
+static bool is_written(char *columns[]) {
     apfloat_text text = text_before(), expected;
     apfloat_halves x;
+    const bool is_shortest = strcmp(columns[0], "shortest") == 0;
     memset(&expected, 0, sizeof expected);
     expected.length = (uint32_t)strlen(columns[3]);
     memcpy(expected.bytes, columns[3], expected.length);
-    return read_integer(columns[2], 16, &x) && apfloat_shortest(format_of(columns[1]), x, &text) == APFLOAT_ANSWERED &&
+    return read_integer(columns[2], 16, &x) &&
+           (is_shortest ? apfloat_shortest : apfloat_to_text)(format_of(columns[1]), x, &text) == APFLOAT_ANSWERED &&
            memcmp(&text, &expected, sizeof text) == 0;
 }
 
@@ -133,7 +135,9 @@ static unsigned refusals(void) {
         {apfloat_parse_decimal(APFLOAT_DOUBLE, 0, accented, 2, &answer), APFLOAT_REFUSED_TEXT},
         {apfloat_shortest(0, one, &written), APFLOAT_UNKNOWN_FORMAT},
         {apfloat_shortest(APFLOAT_DOUBLE | APFLOAT_TINY_BEFORE_ROUNDING, one, &written), APFLOAT_UNKNOWN_FORMAT},
-        {apfloat_shortest(APFLOAT_DOUBLE_PAIR, one, &written), APFLOAT_NO_SUCH_OPERATION}};
+        {apfloat_shortest(APFLOAT_DOUBLE_PAIR, one, &written), APFLOAT_NO_SUCH_OPERATION},
+        {apfloat_to_text(0, one, &written), APFLOAT_UNKNOWN_FORMAT},
+        {apfloat_to_text(APFLOAT_DOUBLE_PAIR, one, &written), APFLOAT_NO_SUCH_OPERATION}};
     unsigned count = 0;
     for (size_t i = 0; i < COUNT(codes); i++)
         if (codes[i][0] == codes[i][1] && memcmp(&answer, &before, sizeof answer) == 0 &&
@@ -143,7 +147,9 @@ static unsigned refusals(void) {
 
 /* The kinds of rows. */
 static struct row_kind kinds[] = {
-    {"read", 6, is_read, 0}, {"shortest", 4, is_shortest, 0}, {"each", 5, is_each, 0}, {"ties", 6, is_ties, 0}};
+    {"read", 6, is_read, 0},
+    {"shortest", 4, is_written, 0}, {"to_text", 4, is_written, 0},
+    {"each", 5, is_each, 0}, {"ties", 6, is_ties, 0}};
 
 int main(void) {
     count_rows(kinds, COUNT(kinds), NULL);

@@ -187,6 +187,18 @@ static bool ignores_upper_bits(void) {
            stored_one.bits.low == 2 && loaded_one.bits.low == 0x3c00;
 }
 
+/* How many formats have their names, with any rule of flags. */
+static unsigned names(void) {
+    static const struct code stored[] = {{"e2m1fn", APFLOAT_E2M1FN}, {"e2m3fn", APFLOAT_E2M3FN},
+                                         {"e3m2fn", APFLOAT_E3M2FN}, {"e3m4", APFLOAT_E3M4},
+                                         {"e8m0fnu", APFLOAT_E8M0FNU}, {"ue4m3", APFLOAT_UE4M3}};
+    unsigned count = 0;
+    for (size_t i = 0; i < COUNT(formats); i++)
+        count += strcmp(apfloat_format_name(formats[i].code | APFLOAT_IEEE_FLAGS), formats[i].name) == 0;
+    for (size_t i = 0; i < COUNT(stored); i++) count += strcmp(apfloat_format_name(stored[i].code), stored[i].name) == 0;
+    return *apfloat_format_name(0) || *apfloat_format_name(11) ? 0 : count;
+}
+
 int main(void) {
     static char row[LINE], kept[LINE];
     unsigned agreeing[COUNT(calls)] = {0};
@@ -204,6 +216,7 @@ int main(void) {
     for (size_t i = 0; i < COUNT(calls); i++) printf("%s: %u rows agree\n", calls[i].name, agreeing[i]);
     printf("%u errors agree\n", refusals());
     printf("%u errors of modes of conversions agree\n", refusals_by_mode());
+    printf("%u names agree\n", names());
     printf("the upper bits are %s\n", ignores_upper_bits() ? "ignored" : "not ignored");
     return 0;
 }

@@ -43,8 +43,9 @@ static uint32_t format(void) {
 }
 
 static uint32_t mode(void) {
-    static const uint32_t more[] = {APFLOAT_SATURATE, APFLOAT_SATURATE_FINITE, APFLOAT_SATURATE_ALL};
-    return (below(16) ? below(5) : code(8)) | (below(10) ? 0 : more[below(3)]);
+    static const uint32_t more[] = {APFLOAT_SATURATE, APFLOAT_SATURATE_FINITE, APFLOAT_SATURATE_ALL,
+                                    APFLOAT_SCALE_CEIL, APFLOAT_SCALE_EVEN};
+    return (below(16) ? below(5) : code(8)) | (below(10) ? 0 : more[below(5)]);
 }
 
 static apfloat_halves bits(void) {
@@ -249,7 +250,8 @@ static void texts(void) {
     text = before;
     switch (below(6)) {
     case 0: {
-        uint32_t error = below(4) ? apfloat_shortest(format(), bits(), &text) : apfloat_pair_shortest(bits(), &text);
+        uint32_t error = below(4) == 0 ? apfloat_pair_shortest(bits(), &text)
+                                       : (below(2) ? apfloat_shortest : apfloat_to_text)(format(), bits(), &text);
         if (error ? memcmp(&text, &before, sizeof text) != 0 : strlen(text.bytes) != text.length) {
             fail("apfloat_shortest");
         }

@@ -3,5 +3,4 @@ pub mod Formats
 pub mod Listed
 pub mod Made
 pub mod Scaled
-pub mod FormatLaws
 pub mod OneArray

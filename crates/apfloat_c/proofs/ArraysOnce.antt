@@ -15,7 +15,7 @@ use Rattle.apfloat_arrays.proofs.PlacesOnce.{FixesPlaces, bytes_take, places_onc
 use Rattle.apfloat_arrays.specs.declared.stored.Ends.{Ends}
 use Rattle.apfloat_arrays.specs.declared.stored.Ends.TheVariants.{Into, OutOf}
 use Rattle.apfloat_arrays.proofs.stored_lemmas.StoredOnce.{HasLaw, converted_at_once}
-use Rattle.apfloat_arrays.proofs.scaled_blocks_lemmas.FormatLaws.{format_law}
+use Rattle.formats_at_run_time.proofs.FormatLaws.{format_law}
 use Rattle.apfloat_c.specs.declared.array_calls.KnownConversion.{KnownConversion}
 use Rattle.apfloat_c.specs.declared.array_calls.KnownConversion.TheVariants.{BuiltIn, Storage}
 use Rattle.apfloat_c.specs.declared.array_calls.MapCall.{MapCall}
@@ -26,7 +26,7 @@ use Rattle.apfloat_c.specs.ArrayCalls.{bytes_in, conversion_widths}
 use Rattle.apfloat_c.specs.Arrays.{AreValuesConverted, AreMapped, IsElement, IsElementAt, IsValueConverted, answer_with}
 use Rattle.apfloat_c.specs.Arrays.{call_of, counts_of, is_nan_in}
 use Rattle.apfloat_c.specs.OneAnswer.{IsConvertedArrayOnce, IsLeftIn, IsMappedArrayOnce}
-use Rattle.apfloat_c.proofs.ExportsOnce.{kind_law, kind_once}
+use Rattle.coded_calls.proofs.ExportsOnce.{kind_law, kind_once}
 
 -- ---- lists
 

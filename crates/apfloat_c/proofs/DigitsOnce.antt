@@ -24,8 +24,8 @@ use Rattle.coded_calls.specs.declared.data.Answer.{Answer}
 use Rattle.apfloat_c.specs.Digits.{AreDigitsLeft, AreDigitsWrittenOnce, IsCountGivenOnce, IsCounted}
 use Rattle.apfloat_c.specs.Digits.{IsHexPutOnce, IsHexTold, IsRoundedHexPutOnce}
 use Rattle.apfloat_c.specs.Digits.{IsRoundedHexTold, IsWritingTold, count_told}
-use Rattle.apfloat_c.specs.OneAnswer.{SameAnswer}
-use Rattle.apfloat_c.proofs.ExportsOnce.{unchanged}
+use Rattle.coded_calls.specs.OneReply.{SameAnswer}
+use Rattle.coded_calls.proofs.ExportsOnce.{unchanged}
 
 counted_once : (size other status also : ℕ) (exponent : ℤ) (first second : Answer) → size ≡ other
     → status ≡ also

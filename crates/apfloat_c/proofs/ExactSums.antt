@@ -32,7 +32,7 @@ use Rattle.formats_at_run_time.specs.Relations.{in_format}
 use Rattle.formats_at_run_time.specs.ValueKinds.{value_of}
 use Rattle.apfloat_arrays.specs.Blocks.{value_at}
 use Rattle.apfloat_arrays.specs.Bytes.{number_of}
-use Rattle.apfloat_arrays.proofs.scaled_blocks_lemmas.FormatLaws.{HasLaw, format_law}
+use Rattle.formats_at_run_time.proofs.FormatLaws.{HasLaw, format_law}
 use Rattle.coded_calls.specs.declared.data.Answer.{Answer}
 use Rattle.coded_calls.specs.KnownCalls.{◌>>=◌, no_such_operation}
 use Rattle.apfloat_c.specs.declared.reductions.KnownReduction.{KnownReduction}
@@ -42,7 +42,7 @@ use Rattle.apfloat_c.specs.ArrayCalls.{bytes_in}
 use Rattle.apfloat_c.specs.Reductions.{IsReducedArray, IsReducedCall, IsReducedCallOnce, IsReducedIn, IsReductionOf}
 use Rattle.apfloat_c.specs.Reductions.{fitting_sum, has_exact_sums, known_reduction, sums_fit, term_of, values_from}
 use Rattle.apfloat_c.proofs.ArrayCalls.{if_fitting_ok}
-use Rattle.apfloat_c.proofs.ExportsOnce.{OnceAnswer, format_determined, unchanged, value_once}
+use Rattle.coded_calls.proofs.ExportsOnce.{OnceAnswer, format_determined, unchanged, value_once}
 
 -- ---- the formats of at most 64 bits
 

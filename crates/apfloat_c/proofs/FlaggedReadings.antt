@@ -11,7 +11,7 @@ use Rattle.coded_calls.specs.declared.data.Answer.{Answer}
 use Rattle.apfloat_c.specs.Decimals.{IsReadInto}
 use Rattle.apfloat_c.specs.Readings.{IsDecimalRead, IsDecimalReadOnce, known_text}
 use Rattle.apfloat_c.proofs.DecimalReadings.{exponents_within}
-use Rattle.apfloat_c.proofs.ExportsOnce.{kind_law, unchanged}
+use Rattle.coded_calls.proofs.ExportsOnce.{kind_law, unchanged}
 use Rattle.apfloat_c.proofs.ParsedOnce.{read_into_once}
 
 -- the exponents of a format do not depend on its rule of flags

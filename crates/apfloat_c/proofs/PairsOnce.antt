@@ -28,13 +28,13 @@ use Rattle.formats_at_run_time.specs.BuiltIns.{constants_in}
 use Rattle.formats_at_run_time.specs.FlaggedKinds.{flagged_constants}
 use Rattle.formats_at_run_time.specs.Relations.{in_format, in_pairs}
 use Rattle.formats_at_run_time.specs.ValueKinds.{value_of}
-use Rattle.apfloat_arrays.proofs.scaled_blocks_lemmas.FormatLaws.{format_law}
+use Rattle.formats_at_run_time.proofs.FormatLaws.{format_law}
 use Rattle.coded_calls.specs.Answers.{IsValue}
 use Rattle.coded_calls.specs.declared.data.Answer.{Answer}
-use Rattle.apfloat_c.specs.OneAnswer.{SameAnswer}
+use Rattle.coded_calls.specs.OneReply.{SameAnswer}
 use Rattle.apfloat_c.specs.Pairs.{ArePairCallsOnce, IsPairConverted, IsPairFusedCall, IsPairMade, KnownSource}
 use Rattle.apfloat_c.specs.Pairs.{IsPairShortestWritten, IsPairText, IsPairTextTold, KnownTarget, pair_of}
-use Rattle.apfloat_c.proofs.ExportsOnce.{OnceAnswer, format_determined, unchanged, value_once}
+use Rattle.coded_calls.proofs.ExportsOnce.{OnceAnswer, format_determined, unchanged, value_once}
 
 -- if a relation has one pair with one status, it leaves one result
 pair_once : (mode : Round) (Holds : StatusAnd Pair → Type 0) → Determines Holds

@@ -11,16 +11,14 @@ use Rattle.apfloat_pair_theory.proofs.calls.PairsDetermined.{pairs_determined}
 use Rattle.apfloat_decimals.specs.DecimalTexts.{decimal_fault_of}
 use Rattle.apfloat_decimals.proofs.spelled.OneReading.{decimal_reading_once, reading_no_fault}
 use Rattle.apfloat_digits.proofs.of_double_doubles_lemmas.OneReading.{pair_decimal_reading_once}
-use Rattle.formats_at_run_time.specs.declared.BuiltInKind.{BuiltInKind}
-use Rattle.formats_at_run_time.specs.declared.BuiltInKind.TheVariants.{OfFormat as OfBuiltIn, Pairs as PairsOfDoubles}
 use Rattle.formats_at_run_time.specs.BuiltIns.{kind_of}
 use Rattle.formats_at_run_time.specs.Relations.{in_format, in_pairs}
 use Rattle.formats_at_run_time.specs.ValueKinds.{Kind, of_format, of_pairs}
 use Rattle.coded_calls.specs.declared.data.Answer.{Answer}
 use Rattle.apfloat_c.specs.Decimals.{IsDecimalAnswer, IsDecimalOutcome, IsReadInto}
-use Rattle.apfloat_c.specs.OneAnswer.{IsParsedOnce, SameAnswer}
-use Rattle.apfloat_c.proofs.ExportsOnce.{KindHasLaw, OnceAnswer, format_determined, unchanged, value_once}
-use Rattle.apfloat_arrays.proofs.scaled_blocks_lemmas.FormatLaws.{built_in_law}
+use Rattle.apfloat_c.specs.OneAnswer.{IsParsedOnce}
+use Rattle.coded_calls.specs.OneReply.{SameAnswer}
+use Rattle.coded_calls.proofs.ExportsOnce.{KindHasLaw, built_in_kind_law, OnceAnswer, format_determined, unchanged, value_once}
 
 -- a text has one result
 decimal_answer_once : (kind : Kind) → KindHasLaw kind → (mode : Round) (text : List ℕ)
@@ -66,10 +64,6 @@ read_into_once kind has mode text old a b code other (inr x) (inl y) =
     absurd (read_or_refused kind mode text b y.1 x.2)
 read_into_once kind has mode text old a b code other (inr x) (inr y) =
     (x.0 ∙ sym y.0, unchanged old a b x.1 y.1)
-
-pub built_in_kind_law : (kind : BuiltInKind) → KindHasLaw (kind_of kind)
-built_in_kind_law (OfBuiltIn format) = built_in_law format
-built_in_kind_law PairsOfDoubles = tt
 
 pub parsed_once : IsParsedOnce
 parsed_once (Err error) text old a b code other x y = (x.0 ∙ sym y.0, unchanged old a b x.1 y.1)

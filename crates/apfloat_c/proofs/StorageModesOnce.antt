@@ -14,7 +14,8 @@ use Rattle.coded_calls.specs.declared.data.Answer.{Answer}
 use Rattle.coded_calls.specs.Answers.{one_if}
 use Rattle.apfloat_c.specs.declared.array_data.ArrayAnswer.{ArrayAnswer}
 use Rattle.apfloat_c.specs.Arrays.{answer_with}
-use Rattle.apfloat_c.specs.OneAnswer.{IsLeftIn, SameAnswer}
+use Rattle.apfloat_c.specs.OneAnswer.{IsLeftIn}
+use Rattle.coded_calls.specs.OneReply.{SameAnswer}
 use Rattle.apfloat_c.specs.StorageModes.{AreAllStored, IsModeAnswer, IsModeArrayOnce, IsModeReplyOnce}
 use Rattle.apfloat_c.proofs.ArraysOnce.{same_front_size, same_whole}
 use Rattle.apfloat_c.proofs.StorageOnce.{same_answer}

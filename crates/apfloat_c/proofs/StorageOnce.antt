@@ -6,7 +6,7 @@ use Rattle.apfloat_arrays.specs.declared.stored.StorageArray.{StorageArray}
 use Rattle.apfloat_arrays.proofs.stored_lemmas.NumbersOnce.{converted_number_once}
 use Rattle.coded_calls.specs.declared.data.Answer.{Answer}
 use Rattle.coded_calls.specs.Answers.{one_if, whole}
-use Rattle.apfloat_c.specs.OneAnswer.{SameAnswer}
+use Rattle.coded_calls.specs.OneReply.{SameAnswer}
 use Rattle.apfloat_c.specs.StorageValues.{IsStorageAnswer, IsStorageReplyOnce}
 
 pub same_answer : (first second : Answer) → first ≡ second → SameAnswer first second

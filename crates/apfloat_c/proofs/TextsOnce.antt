@@ -1,7 +1,7 @@
 -- The text of a value is determined by its bits: one code, and one text.
 use Rattle.std.proofs.Common.{◌≡◌, ℕ, zero, suc, ◌-◌, ◌<◌, Bool, true, false, List, ◌++◌, length, replicate, Err, Ok}
 use Rattle.std.proofs.Common.{Result, refl, sym, ap, ◌∙◌, arith}
-use Rattle.std.specs.Prelude.{nat_le}
+use Rattle.std.specs.Prelude.{nat_le, MatchOption, Option, Some, None}
 use Rattle.rustc_apfloat.specs.Datum.{Datum, finite, infinite, nan}
 use Rattle.rustc_apfloat.specs.Format.{Format}
 use Rattle.rustc_apfloat.specs.Lawful.{format_with}
@@ -14,8 +14,8 @@ use Rattle.formats_at_run_time.specs.BuiltIns.{constants_in, known_format}
 use Rattle.formats_at_run_time.specs.ValueKinds.{value_of}
 use Rattle.apfloat_c.specs.declared.decimals.DecimalText.{DecimalText}
 use Rattle.apfloat_c.specs.About.{IsTold, error_text, greatest_code}
-use Rattle.apfloat_c.specs.Decimals.{IsShortestWritten, IsText, IsValueText}
-use Rattle.apfloat_c.specs.OneAnswer.{IsErrorTextOnce}
+use Rattle.apfloat_c.specs.Decimals.{IsShownText, IsText, IsTextWritten, IsValueText, whole_decimal}
+use Rattle.apfloat_c.specs.OneAnswer.{IsErrorTextOnce, IsTextOnce, IsTextOnceBy}
 
 -- decimals with the same parts are equal
 decimal_of_parts : (first second : Decimal) → first.negative ≡ second.negative → first.digits ≡ second.digits
@@ -62,18 +62,33 @@ some_precision format =
     let law = (known_format format).lawful in
     omega (arith, law.parameters.precision_low)
 
+-- a value has one text for a person
+one_shown : (f : Format) (x : Datum) (first second : List ℕ) → 0 < f.precision
+    → IsShownText f x first → IsShownText f x second → first ≡ second
+one_shown f x a b some h k = by_decimal (whole_decimal f x) h k
+  where
+    by_decimal : (decimal : Option Decimal)
+        → MatchOption decimal (IsValueText f x a) (λ d. a ≡ decimal_text d)
+        → MatchOption decimal (IsValueText f x b) (λ d. b ≡ decimal_text d) → a ≡ b
+    by_decimal None p q = one_text f x a b some p q
+    by_decimal (Some d) p q = p ∙ sym q
+
 -- two texts for the same arguments are equal
-pub text_once : (format : Result BuiltInFormat ℕ) (bits : ℕ) (old first second : DecimalText) (code other : ℕ)
-    → IsShortestWritten format bits old first code → IsShortestWritten format bits old second other
-    → (code ≡ other) × (first ≡ second)
-text_once (Err error) bits old a b code other x y = (x.0 ∙ sym y.0, x.1 ∙ sym y.1)
-text_once (Ok format) bits old a b code other x y =
+text_once_by : (Says : Format → Datum → List ℕ → Type 0)
+    → ((f : Format) (x : Datum) (first second : List ℕ) → 0 < f.precision → Says f x first → Says f x second
+    → first ≡ second)
+    → IsTextOnceBy (IsTextWritten Says)
+text_once_by Says one (Err error) bits old a b code other x y = (x.0 ∙ sym y.0, x.1 ∙ sym y.1)
+text_once_by Says one (Ok format) bits old a b code other x y =
     let f = format_with (constants_in format) in (
       x.0 ∙ sym y.0,
       one_struct x.1.written y.1.written a b
-          (one_text f (value_of (constants_in format) bits) x.1.written y.1.written (some_precision format)
+          (one f (value_of (constants_in format) bits) x.1.written y.1.written (some_precision format)
           x.1.is_text_of y.1.is_text_of) x.1.is_written y.1.is_written,
     )
+
+pub text_once : IsTextOnce
+text_once = (text_once_by IsValueText one_text, text_once_by IsShownText one_shown)
 
 told_once : (known : Bool) (written : List ℕ) (old first second : DecimalText) (code other : ℕ)
     → IsTold known written old first code → IsTold known written old second other

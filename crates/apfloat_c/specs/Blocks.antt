@@ -1,15 +1,18 @@
 -- Calls on arrays in blocks with a common scale.
-use Rattle.std.specs.Prelude.{◌≡◌, ℕ, ◌==◌, ⊤, if◌then◌else◌, List, length, Option, Some, None}
+use Rattle.std.specs.Prelude.{◌≡◌, ℕ, ◌-◌, ◌==◌, ltb, ⊤, if◌then◌else◌, List, length, Option, Some, None}
 use Rattle.std.specs.Prelude.{ok_or}
 use Rattle.std.specs.Prelude.{Result, Ok, Err}
 use Rattle.rustc_apfloat.specs.declared.Round.{Round}
 use Rattle.formats_at_run_time.specs.declared.FlaggedKind.{FlaggedKind}
 use Rattle.formats_at_run_time.specs.declared.FlaggedKind.TheVariants.{OfFormat, Pairs}
 use Rattle.formats_at_run_time.specs.FlaggedKinds.{format_without_rule}
+use Rattle.formats_at_run_time.specs.Modes.{mode_coded}
 use Rattle.apfloat_arrays.specs.declared.Counts.{Counts}
 use Rattle.small_formats.specs.declared.packing.PackingError.{PackingError}
 use Rattle.small_formats.specs.declared.packing.PackingError.TheVariants.{CodeTooWide as WideCode}
 use Rattle.small_formats.specs.packing.Packed.{IsPackedBy, IsUnpackedBy}
+use Rattle.small_formats.specs.declared.blocks.ScaleRule.{ScaleRule}
+use Rattle.small_formats.specs.declared.blocks.ScaleRule.TheVariants.{Floor, Ceil, Even}
 use Rattle.small_formats.specs.declared.blocks.ElementFormat.{ElementFormat}
 use Rattle.small_formats.specs.declared.blocks.ElementFormat.TheVariants.{E5M2, E4M3FN, E3M2FN, E2M3FN, E2M1FN}
 use Rattle.apfloat_arrays.specs.declared.scaled_blocks.ArrayError.{ArrayError}
@@ -48,6 +51,17 @@ mx_coded code = mx_of (element_coded code)
 abbrev pub nvfp4_coded : ℕ → Option BlockFormat
 nvfp4_coded tensor = Some (Nvfp4 tensor)
 
+-- the rule of scales and the mode of a code, to which 0x1000 is added for the least scale, and 0x2000 for the even one
+abbrev pub with_rule : ScaleRule → Option Round → Option (ScaleRule × Round)
+with_rule rule (Some round) = Some (rule, round)
+with_rule rule None = None
+
+abbrev pub rule_coded : ℕ → Option (ScaleRule × Round)
+rule_coded code =
+    if ltb code 4096 then with_rule Floor (mode_coded code)
+    else if ltb code 8192 then with_rule Ceil (mode_coded (code - 4096))
+    else with_rule Even (mode_coded (code - 8192))
+
 abbrev pub array_error : ArrayError → ℕ
 array_error CodeTooWide = wide_operand
 array_error TensorScale = no_such_operation
@@ -59,13 +73,19 @@ packing_error error = wrong_length
 
 -- ---- what is asked for
 
-abbrev pub quantization_of : FlaggedKind → Round → BlockFormat → ℕ → Result Quantization ℕ
-quantization_of (OfFormat format) round blocks length =
-    Ok (record { source = format_without_rule format; format = blocks; length = length; round = round })
-quantization_of Pairs round blocks length = Err no_such_operation
+abbrev pub quantization_of : FlaggedKind → ScaleRule × Round → BlockFormat → ℕ → Result Quantization ℕ
+quantization_of (OfFormat format) (rule, round) blocks length =
+    Ok (record {
+      source = format_without_rule format;
+      format = blocks;
+      rule = rule;
+      length = length;
+      round = round;
+    })
+quantization_of Pairs (rule, round) blocks length = Err no_such_operation
 
 -- The faults in their order: both formats, the mode, that there are no blocks of pairs.
-abbrev pub known_quantization : Option FlaggedKind → Option Round → Option BlockFormat → ℕ
+abbrev pub known_quantization : Option FlaggedKind → Option (ScaleRule × Round) → Option BlockFormat → ℕ
     → Result Quantization ℕ
 known_quantization kind mode format block =
     ok_or kind unknown_format >>= λ known. ok_or format unknown_format >>= λ blocks.

@@ -1,5 +1,6 @@
 -- Decimals: texts as values, and the texts of values.
-use Rattle.std.specs.Prelude.{◌≡◌, ◌⊎◌, ℕ, ◌-◌, ◌<◌, IsTrue, List, ◌++◌, codes, length, replicate, Option, Some, None}
+use Rattle.std.specs.Prelude.{◌≡◌, ◌⊎◌, ℕ, ◌-◌, ◌/◌, ◌%◌, ◌^◌, ◌<◌, IsTrue, List, ◌++◌, codes, length, replicate}
+use Rattle.std.specs.Prelude.{◌&&◌, eqb, ltb, if◌then◌else◌, pos, Option, Some, None, MatchOption}
 use Rattle.std.specs.Prelude.{is_some, ok_or, Result, Ok, Err}
 use Rattle.std.specs.Char.{is_ascii}
 use Rattle.rustc_apfloat.specs.declared.Round.{Round}
@@ -91,16 +92,38 @@ pub record IsText (written : List ℕ) (text : DecimalText) : Type 0 where
   pub bytes_are : text.bytes ≡ written ++ replicate (64 - length written) 0
   pub length_is : text.length ≡ length written
 
-pub record IsTextOfBits (c : Constants) (bits : ℕ) (text : DecimalText) : Type 0 where
+-- a whole number below 10 ^ 16 as a decimal without a fraction
+abbrev pub whole_decimal : Format → Datum → Option Decimal
+whole_decimal f (finite negative quanta) =
+    if eqb (quanta % 2 ^ f.scale) 0 && ltb (quanta / 2 ^ f.scale) (10 ^ 16)
+    then Some (record { negative = negative; digits = quanta / 2 ^ f.scale; exponent = pos 0 })
+    else None
+whole_decimal f x = None
+
+-- the text for a person: such a number in full, and any other value as its shortest decimal
+abbrev pub IsShownText : Format → Datum → List ℕ → Type 0
+IsShownText f x text =
+    MatchOption (whole_decimal f x) (IsValueText f x text) (λ decimal. text ≡ decimal_text decimal)
+
+pub record IsTextOfBits (Says : Format → Datum → List ℕ → Type 0) (c : Constants) (bits : ℕ)
+    (text : DecimalText) : Type 0 where
   pub written : List ℕ
-  pub is_text_of : IsValueText (format_with c) (value_of c bits) written
+  pub is_text_of : Says (format_with c) (value_of c bits) written
   pub is_written : IsText written text
 
-abbrev pub IsKindText : Kind → ℕ → List ℕ → Type 0
-IsKindText (of_format c) bits text = IsValueText (format_with c) (value_of c bits) text
-IsKindText of_pairs bits text = ⊥
+abbrev pub IsKindText : (Format → Datum → List ℕ → Type 0) → Kind → ℕ → List ℕ → Type 0
+IsKindText Says (of_format c) bits text = Says (format_with c) (value_of c bits) text
+IsKindText Says of_pairs bits text = ⊥
 
 -- the code 0 and the text, or the code of the error and the previous contents
+abbrev pub IsTextWritten : (Format → Datum → List ℕ → Type 0) → Result BuiltInFormat ℕ → ℕ
+    → DecimalText → DecimalText → ℕ → Type 0
+IsTextWritten Says (Err error) bits old new code = (code ≡ error) × (new ≡ old)
+IsTextWritten Says (Ok format) bits old new code =
+    (code ≡ answered) × IsTextOfBits Says (constants_in format) bits new
+
 abbrev pub IsShortestWritten : Result BuiltInFormat ℕ → ℕ → DecimalText → DecimalText → ℕ → Type 0
-IsShortestWritten (Err error) bits old new code = (code ≡ error) × (new ≡ old)
-IsShortestWritten (Ok format) bits old new code = (code ≡ answered) × IsTextOfBits (constants_in format) bits new
+IsShortestWritten = IsTextWritten IsValueText
+
+abbrev pub IsShownWritten : Result BuiltInFormat ℕ → ℕ → DecimalText → DecimalText → ℕ → Type 0
+IsShownWritten = IsTextWritten IsShownText

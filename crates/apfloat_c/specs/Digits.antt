@@ -19,7 +19,7 @@ use Rattle.coded_calls.specs.declared.data.Answer.{Answer}
 use Rattle.coded_calls.specs.Answers.{whole}
 use Rattle.coded_calls.specs.KnownCalls.{◌>>=◌, answered, text_format, unknown_format, unknown_mode}
 use Rattle.apfloat_c.specs.ArrayCalls.{wrong_length}
-use Rattle.apfloat_c.specs.OneAnswer.{SameAnswer}
+use Rattle.coded_calls.specs.OneReply.{SameAnswer}
 
 pub record KnownWriting : Type 0 where
   pub format : BuiltInFormat

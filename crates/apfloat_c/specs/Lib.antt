@@ -9,7 +9,6 @@ pub mod Readings
 pub mod Facts
 pub mod Digits
 pub mod Pairs
-pub mod Augmented
 pub mod StorageValues
 pub mod StorageModes
 pub mod Reductions

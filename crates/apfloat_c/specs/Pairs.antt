@@ -26,7 +26,7 @@ use Rattle.apfloat_c.specs.declared.decimals.DecimalText.{DecimalText}
 use Rattle.apfloat_c.specs.declared.decimals.Shortest.{Shortest}
 use Rattle.apfloat_c.specs.declared.decimals.Shortest.TheVariants.{Number, Infinity, Nan}
 use Rattle.apfloat_c.specs.Decimals.{IsText, text_of_shortest}
-use Rattle.apfloat_c.specs.OneAnswer.{SameAnswer}
+use Rattle.coded_calls.specs.OneReply.{SameAnswer}
 
 -- the pair with these bits
 abbrev pub pair_of : ℕ → Pair

@@ -10,7 +10,7 @@ use Rattle.formats_at_run_time.specs.FlaggedKinds.{flagged_kind_of}
 use Rattle.coded_calls.specs.declared.data.Answer.{Answer}
 use Rattle.coded_calls.specs.KnownCalls.{◌>>=◌, unknown_format, unknown_mode}
 use Rattle.apfloat_c.specs.Decimals.{IsReadInto}
-use Rattle.apfloat_c.specs.OneAnswer.{SameAnswer}
+use Rattle.coded_calls.specs.OneReply.{SameAnswer}
 
 -- the text; of an infinity or a NaN in any case and with any sign (IEEE 754-2019 5.12.1), a spelling that is read
 abbrev pub known_spelling : List ℕ → List ℕ

@@ -27,7 +27,7 @@ use Rattle.apfloat_c.specs.declared.reductions.KnownReduction.{KnownReduction}
 use Rattle.apfloat_c.specs.declared.reductions.Reduction.{Reduction}
 use Rattle.apfloat_c.specs.declared.reductions.Reduction.TheVariants.{Sum, Magnitudes, Products}
 use Rattle.apfloat_c.specs.ArrayCalls.{bytes_in, if_fitting}
-use Rattle.apfloat_c.specs.OneAnswer.{SameAnswer}
+use Rattle.coded_calls.specs.OneReply.{SameAnswer}
 
 -- ---- what a call asks for
 

@@ -20,7 +20,8 @@ use Rattle.coded_calls.specs.KnownCalls.{◌>>=◌, answered, no_such_operation,
 use Rattle.apfloat_c.specs.declared.array_data.ArrayAnswer.{ArrayAnswer}
 use Rattle.apfloat_c.specs.ArrayCalls.{if_fitting, lengths_fit}
 use Rattle.apfloat_c.specs.Arrays.{answer_with}
-use Rattle.apfloat_c.specs.OneAnswer.{IsLeftIn, SameAnswer}
+use Rattle.apfloat_c.specs.OneAnswer.{IsLeftIn}
+use Rattle.coded_calls.specs.OneReply.{SameAnswer}
 
 -- ---- what is asked for
 

@@ -12,7 +12,7 @@ use Rattle.apfloat_arrays.specs.declared.stored.StorageArray.{StorageArray}
 use Rattle.apfloat_arrays.specs.declared.stored.StoredFormat.{StoredFormat}
 use Rattle.apfloat_arrays.specs.stored.Numbers.{IsConvertedNumber}
 use Rattle.apfloat_c.specs.declared.array_calls.ConversionMode.{ConversionMode}
-use Rattle.apfloat_c.specs.OneAnswer.{SameAnswer}
+use Rattle.coded_calls.specs.OneReply.{SameAnswer}
 use Rattle.coded_calls.specs.declared.data.Answer.{Answer}
 use Rattle.coded_calls.specs.Answers.{one_if, whole}
 use Rattle.coded_calls.specs.KnownCalls.{◌>>=◌, answered, no_such_operation, unknown_format, unknown_mode}

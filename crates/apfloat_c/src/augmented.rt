@@ -4,7 +4,7 @@ ghost use Rattle.formats_at_run_time.specs.FlaggedKinds.{flagged_kind_coded};
 ghost use Rattle.coded_calls.specs.Answers.{whole};
 ghost use Rattle.coded_calls.specs.Augmented.{IsAugmentedCall, IsPayloadCall, augmentation_coded, known_augmentation};
 ghost use Rattle.coded_calls.specs.Augmented.{known_payload, payload_coded};
-ghost use Rattle.apfloat_c.specs.Augmented.{AreAugmentedCallsOnce};
+ghost use Rattle.coded_calls.specs.OneReply.{AreAugmentedCallsOnce};
 
 use coded_calls::augmented::{reply_augmented, reply_payload};
 use coded_calls::data::{Answer, Halves};

@@ -6,7 +6,8 @@ ghost use Rattle.formats_at_run_time.specs.FlaggedKinds.{flagged_kind_coded};
 ghost use Rattle.formats_at_run_time.specs.Modes.{mode_coded};
 ghost use Rattle.apfloat_c.specs.Blocks.{IsDequantizedCall, IsPackedCall, IsQuantizedCall, IsUnpackedCall};
 ghost use Rattle.apfloat_c.specs.Blocks.{array_error, element_coded, known_dequantization, known_quantization};
-ghost use Rattle.apfloat_c.specs.Blocks.{mx_coded, nvfp4_coded, packing_error};
+ghost use Rattle.apfloat_c.specs.Blocks.{mx_coded, nvfp4_coded, packing_error, rule_coded, with_rule};
+ghost use Rattle.small_formats.specs.declared.blocks.ScaleRule.TheVariants.{Floor};
 
 use crate::array_data::{ArrayAnswer, ElementCounts};
 use apfloat_arrays::scaled_blocks::{ArrayError, BlockFormat, Dequantization, Quantization};
@@ -15,8 +16,14 @@ use coded_calls::codes::{
 };
 use formats_at_run_time::{FlaggedKind, mode_coded};
 use rustc_apfloat::Round;
-use small_formats::blocks::ElementFormat;
+use small_formats::blocks::{ElementFormat, ScaleRule};
 use small_formats::packing::{PackingError, pack_fours, pack_sixes, unpack_fours, unpack_sixes};
+
+/// What is joined to the code of a mode for the rule `Ceil` of scales.
+const CEIL: u32 = 0x1000;
+
+/// The same for `Even`.
+const EVEN: u32 = 0x2000;
 
 /// The element format with this code.
 fn element_coded(code: u32) -> Option<ElementFormat>
@@ -49,6 +56,29 @@ fn nvfp4_coded(tensor: u32) -> Option<BlockFormat>
     Some(BlockFormat::Nvfp4(tensor))
 }
 
+/// A mode of quantizing with a rule of scales.
+fn with_rule(rule: ScaleRule, mode: Option<Round>) -> Option<(ScaleRule, Round)>
+    ensures { result ≡ with_rule rule mode }
+{
+    match mode {
+        None => None,
+        Some(round) => Some((rule, round)),
+    }
+}
+
+/// The rule of scales and the mode that are joined in this code.
+fn rule_coded(code: u32) -> Option<(ScaleRule, Round)>
+    ensures { result ≡ rule_coded code }
+{
+    if code < CEIL {
+        with_rule(ScaleRule::Floor, mode_coded(code))
+    } else if code < EVEN {
+        with_rule(ScaleRule::Ceil, mode_coded(code - CEIL))
+    } else {
+        with_rule(ScaleRule::Even, mode_coded(code - EVEN))
+    }
+}
+
 /// The code of an error of an array.
 fn array_error(error: ArrayError) -> u32
     ensures { result ≡ array_error error }
@@ -76,7 +106,7 @@ fn packing_error(error: PackingError) -> u32
 /// The quantization that these codes ask for, or the code of the first error.
 fn known_quantization(
     kind: Option<FlaggedKind>,
-    mode: Option<Round>,
+    mode: Option<(ScaleRule, Round)>,
     blocks: Option<BlockFormat>,
     length: usize,
 ) -> Result<Quantization, u32>
@@ -88,13 +118,14 @@ fn known_quantization(
     let Some(blocks) = blocks else {
         return Err(UNKNOWN_FORMAT);
     };
-    let Some(round) = mode else {
+    let Some((rule, round)) = mode else {
         return Err(UNKNOWN_MODE);
     };
     match kind {
         FlaggedKind::OfFormat(format) => Ok(Quantization {
             source: format.built_in(),
             format: blocks,
+            rule,
             length,
             round,
         }),
@@ -195,12 +226,12 @@ pub extern "C" fn apfloat_quantize_blocks(
     codes: &mut [u8],
     answer: &mut ArrayAnswer,
 ) -> u32
-    ensures { let known = known_quantization (flagged_kind_coded format) (mode_coded mode)
+    ensures { let known = known_quantization (flagged_kind_coded format) (rule_coded mode)
         (mx_coded element) length in
         IsQuantizedCall known values.now scales.old scales.new codes.old codes.new answer.old
         answer.new result }
 {
-    let (kind, round) = (FlaggedKind::coded(format), mode_coded(mode));
+    let (kind, round) = (FlaggedKind::coded(format), rule_coded(mode));
     let known = known_quantization(kind, round, mx_coded(element), length);
     quantize(known, values, scales, codes, answer)
 }
@@ -217,12 +248,15 @@ pub extern "C" fn apfloat_quantize_nvfp4(
     codes: &mut [u8],
     answer: &mut ArrayAnswer,
 ) -> u32
-    ensures { let known = known_quantization (flagged_kind_coded format) (mode_coded mode)
-        (nvfp4_coded tensor) length in
+    ensures { let known = known_quantization (flagged_kind_coded format)
+        (with_rule Floor (mode_coded mode)) (nvfp4_coded tensor) length in
         IsQuantizedCall known values.now scales.old scales.new codes.old codes.new answer.old
         answer.new result }
 {
-    let (kind, round) = (FlaggedKind::coded(format), mode_coded(mode));
+    let (kind, round) = (
+        FlaggedKind::coded(format),
+        with_rule(ScaleRule::Floor, mode_coded(mode)),
+    );
     let known = known_quantization(kind, round, nvfp4_coded(tensor), length);
     quantize(known, values, scales, codes, answer)
 }

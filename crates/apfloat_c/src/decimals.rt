@@ -1,6 +1,8 @@
 //! Decimal texts as values, and the text of a value's shortest decimal, for C programs.
 
-ghost use Rattle.std.specs.Prelude.{◌≡◌, ◌<◌, ◌++◌, IsTrue, codes, length, pos};
+ghost use Rattle.std.specs.Prelude.{◌≡◌, ◌<◌, ◌++◌, IsTrue, codes, false, length, pos};
+ghost use Rattle.apfloat_model.specs.order.Classes.{quanta_of};
+ghost use Rattle.rustc_apfloat.specs.Datum.{finite};
 ghost use Rattle.rustc_apfloat.specs.Lawful.{format_with};
 ghost use Rattle.rustc_apfloat.specs.FlaggedTypes.{constants_of, format_of};
 ghost use Rattle.rustc_apfloat.specs.Types.{format_of as plain_format_of};
@@ -14,7 +16,8 @@ ghost use Rattle.formats_at_run_time.specs.Relations.{in_pairs};
 ghost use Rattle.formats_at_run_time.specs.ValueKinds.{of_format, of_pairs};
 ghost use Rattle.coded_calls.specs.Answers.{IsValueWritten, whole};
 ghost use Rattle.coded_calls.specs.KnownCalls.{text_format};
-ghost use Rattle.apfloat_c.specs.Decimals.{IsKindText, IsParsed, IsReadInto, IsShortestWritten, IsText};
+ghost use Rattle.apfloat_c.specs.Decimals.{IsKindText, IsParsed, IsReadInto, IsShortestWritten, IsShownText};
+ghost use Rattle.apfloat_c.specs.Decimals.{IsShownWritten, IsText, whole_decimal};
 ghost use Rattle.apfloat_c.specs.Decimals.{IsValueText, decimal_kind, known_reading, text_of_shortest};
 
 use apfloat_decimals::formatting::{CAPACITY, Line, put_decimal};
@@ -29,7 +32,7 @@ use formats_at_run_time::{
 };
 use rustc_apfloat::ieee::{Flagged, IeeeFloat, Semantics};
 use rustc_apfloat::ppc::DoubleDouble;
-use rustc_apfloat::{Float, Round, StatusAnd};
+use rustc_apfloat::{Category, Float, Round, StatusAnd};
 
 /// A text of less than 64 bytes, with zeros after it.
 #[repr(C)]
@@ -84,6 +87,23 @@ pub extern "C" fn apfloat_shortest(format: u32, x: Halves, text: &mut DecimalTex
         Some(FlaggedKind::Pairs) => NO_SUCH_OPERATION,
         Some(FlaggedKind::OfFormat(format)) => {
             write(format.built_in().run(Writing { bits: x.number() }), text);
+            ANSWERED
+        }
+    }
+}
+
+/// The text of a value for a person: a whole number below 10^16 in full, and any other value as `apfloat_shortest`
+/// writes it.
+#[unsafe(no_mangle)]
+pub extern "C" fn apfloat_to_text(format: u32, x: Halves, text: &mut DecimalText) -> u32
+    ensures { IsShownWritten (text_format (flagged_kind_coded format)) (whole x)
+        text.old text.new result }
+{
+    match FlaggedKind::coded(format) {
+        None => UNKNOWN_FORMAT,
+        Some(FlaggedKind::Pairs) => NO_SUCH_OPERATION,
+        Some(FlaggedKind::OfFormat(format)) => {
+            write(format.built_in().run(Showing { bits: x.number() }), text);
             ANSWERED
         }
     }
@@ -184,10 +204,73 @@ impl InFormat for Writing {
 
     ghost can = { λ _ kind. IfFormat kind (λ c. IsWithinQuad (format_with c)) };
 
-    ghost gives = { λ it kind found. IsKindText kind it.bits (text_of_shortest found) };
+    ghost gives = { λ it kind found. IsKindText IsValueText kind it.bits
+        (text_of_shortest found) };
 
     fn in_format<S: Semantics>(self) -> Shortest {
         shortest_of(IeeeFloat::<S>::from_bits(self.bits))
+    }
+}
+
+/// A value whose text for a person is to be written.
+#[derive(Clone, Copy)]
+struct Showing {
+    bits: u128,
+}
+
+impl InFormat for Showing {
+    type Output = Shortest;
+
+    ghost can = { λ _ kind. IfFormat kind (λ c. IsWithinQuad (format_with c)) };
+
+    ghost gives = { λ it kind found. IsKindText IsShownText kind it.bits
+        (text_of_shortest found) };
+
+    fn in_format<S: Semantics>(self) -> Shortest {
+        shown_of(IeeeFloat::<S>::from_bits(self.bits))
+    }
+}
+
+/// A whole number below 10^16 as a decimal without a fraction.
+fn whole_decimal<S: Semantics>(x: IeeeFloat<S>) -> Option<Decimal>
+    ensures { result ≡ whole_decimal (plain_format_of S.Semantics) x }
+{
+    match x.category() {
+        Category::Infinity | Category::NaN => None,
+        Category::Zero => Some(Decimal {
+            negative: x.is_negative(),
+            digits: 0,
+            exponent: 0,
+        }),
+        Category::Normal => whole_number(x.is_negative(), x.abs()),
+    }
+}
+
+/// The same of a positive number and its sign.
+fn whole_number<S: Semantics>(negative: bool, x: IeeeFloat<S>) -> Option<Decimal>
+    requires { x ≡ finite false (quanta_of x) }
+    ensures { result ≡ whole_decimal (plain_format_of S.Semantics) (finite negative (quanta_of x)) }
+{
+    let mut is_exact = false;
+    let digits = x.to_u128_r(64, Round::TowardZero, &mut is_exact).value;
+    if !is_exact || digits >= 10_000_000_000_000_000 {
+        return None;
+    }
+    Some(Decimal {
+        negative,
+        digits,
+        exponent: 0,
+    })
+}
+
+/// What is written of a value for a person.
+fn shown_of<S: Semantics>(x: IeeeFloat<S>) -> Shortest
+    requires { IsWithinQuad (plain_format_of S.Semantics) }
+    ensures { IsShownText (plain_format_of S.Semantics) x (text_of_shortest result) }
+{
+    match whole_decimal(x) {
+        Some(decimal) => Shortest::Number(decimal),
+        None => shortest_of(x),
     }
 }
 

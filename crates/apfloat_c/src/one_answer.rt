@@ -1,8 +1,10 @@
 //! The result of an export is determined by its arguments.
 
-ghost use Rattle.apfloat_c.specs.OneAnswer.{IsConvertedArrayOnce, IsMappedArrayOnce, IsParsedOnce, IsReplyOnce};
-ghost use Rattle.apfloat_c.specs.OneAnswer.{IsErrorTextOnce, IsFlaglessReplyOnce, IsTextOnce};
-ghost use Rattle.apfloat_c.specs.OneAnswer.{IsIeeeReplyOnce, IsInAnotherReplyOnce, IsMachineReplyOnce};
+ghost use Rattle.apfloat_c.specs.OneAnswer.{IsConvertedArrayOnce, IsMappedArrayOnce, IsParsedOnce};
+ghost use Rattle.coded_calls.specs.OneReply.{IsReplyOnce};
+ghost use Rattle.apfloat_c.specs.OneAnswer.{IsErrorTextOnce, IsTextOnce};
+ghost use Rattle.coded_calls.specs.OneReply.{IsFlaglessReplyOnce};
+ghost use Rattle.coded_calls.specs.OneReply.{IsIeeeReplyOnce, IsInAnotherReplyOnce, IsMachineReplyOnce};
 ghost use Rattle.apfloat_c.specs.OneAnswer.{IsDequantizedCallOnce, IsPackedCallOnce, IsQuantizedCallOnce};
 ghost use Rattle.apfloat_c.specs.OneAnswer.{IsUnpackedCallOnce};
 

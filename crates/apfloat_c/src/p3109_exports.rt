@@ -5,7 +5,7 @@ ghost use Rattle.formats_at_run_time.specs.Modes.{mode_coded};
 ghost use Rattle.coded_calls.specs.Answers.{whole};
 ghost use Rattle.coded_calls.specs.P3109.{IsP3109Reply, conversion_round_coded, descriptor_coded};
 ghost use Rattle.coded_calls.specs.P3109.{known_into, known_out_of};
-ghost use Rattle.apfloat_c.specs.OneAnswer.{IsP3109ReplyOnce};
+ghost use Rattle.coded_calls.specs.OneReply.{IsP3109ReplyOnce};
 
 use coded_calls::data::{Answer, Halves};
 use coded_calls::p3109::{P3109Format, reply_into, reply_out_of};

@@ -7,3 +7,10 @@ pub mod UsualAnswers
 pub mod KnownRequests
 pub mod NumberAnswers
 pub mod EncodedNumbers
+pub mod ExportsOnce
+pub mod IeeeOnce
+pub mod MachineOnce
+pub mod FlaglessOnce
+pub mod P3109Once
+pub mod AugmentedOnce
+pub mod FactsOnce

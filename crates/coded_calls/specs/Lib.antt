@@ -5,3 +5,5 @@ pub mod FlaglessCalls
 pub mod IeeeCalls
 pub mod MachineCalls
 pub mod P3109
+pub mod OneReply
+pub mod Facts

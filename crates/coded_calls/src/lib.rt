@@ -15,6 +15,7 @@ pub mod codes;
 pub mod data;
 pub mod encoded_decimals;
 pub mod exported_call;
+pub mod facts;
 pub mod flagless;
 pub mod flagless_call;
 pub mod ieee_answers;

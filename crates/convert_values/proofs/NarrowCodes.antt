@@ -19,6 +19,7 @@ use Rattle.small_formats.specs.declared.blocks.ElementFormat.{ElementFormat}
 use Rattle.small_formats.specs.blocks.Elements.{IsQuotientBy, width}
 use Rattle.small_formats.specs.blocks.Magnitudes.{are_finite}
 use Rattle.small_formats.specs.declared.blocks.ElementFormat.TheVariants.{E2M1FN}
+use Rattle.small_formats.specs.declared.blocks.ScaleRule.{ScaleRule}
 use Rattle.small_formats.specs.blocks.MxBlocks.{IsBlockOfNan, IsBlockOfNumbers}
 use Rattle.small_formats.specs.blocks.Nvfp4.{IsNvBlockOfNumbers}
 use Rattle.apfloat_model.specs.order.Classes.{quanta_of}
@@ -61,12 +62,13 @@ abbrev pub elements_of : BlockFormat → ElementFormat
 elements_of (Mx element) = element
 elements_of (Nvfp4 tensor) = E2M1FN
 
-in_format : (format : BlockFormat) (f : Format) (mode : Round) (values : List Datum) (codes : List ℕ) (block : Block)
-    → IsBlockIn format f mode values codes block → All (λ code. code < 2 ^ width (elements_of format)) codes
-in_format (Mx element) f mode values codes block h =
-    of_block element (IsBlockOfNumbers element f mode values codes block) values codes block _ (are_finite values)
+in_format : (rule : ScaleRule) (format : BlockFormat) (f : Format) (mode : Round) (values : List Datum)
+    (codes : List ℕ) (block : Block) → IsBlockIn rule format f mode values codes block
+    → All (λ code. code < 2 ^ width (elements_of format)) codes
+in_format rule (Mx element) f mode values codes block h =
+    of_block element (IsBlockOfNumbers rule element f mode values codes block) values codes block _ (are_finite values)
     (λ k. quotients element f mode _ _ values codes k.elements.flags k.elements.in_places) h
-in_format (Nvfp4 tensor) f mode values codes block h =
+in_format rule (Nvfp4 tensor) f mode values codes block h =
     of_block E2M1FN (IsNvBlockOfNumbers f mode (quanta_of (tensor_of tensor)) values codes block) values codes block _
     (are_finite values) (λ k. quotients E2M1FN f mode _ _ values codes k.elements.flags k.elements.in_places) h
 
@@ -90,7 +92,7 @@ first_block q values codes (block ∷ rest) long one each =
     let xs = values_in c (width_in q) values (0 * q.length) q.length in
     subst (λ (part : List ℕ). All (λ code. code < 2 ^ width (elements_of q.format)) part)
     (whole q.length codes long)
-    (in_format q.format (format_with c) q.round xs (value_at q.length 0 codes) block (each 0))
+    (in_format q.rule q.format (format_with c) q.round xs (value_at q.length 0 codes) block (each 0))
 
 pub quantized_narrow : (q : Quantization) (values scales codes : List ℕ) (counts : Counts)
     → length codes ≡ q.length → AreQuantized q values 1 scales codes counts

@@ -14,6 +14,7 @@ use Rattle.apfloat_arrays.specs.declared.scaled_blocks.Quantization.{Quantizatio
 use Rattle.apfloat_arrays.specs.scaled_blocks.Dequantized.{AreDequantized, width_out}
 use Rattle.apfloat_arrays.specs.scaled_blocks.Quantized.{AreQuantized, no_counts}
 use Rattle.small_formats.specs.declared.blocks.ElementFormat.{ElementFormat}
+use Rattle.small_formats.specs.declared.blocks.ScaleRule.TheVariants.{Floor}
 use Rattle.small_formats.specs.blocks.Elements.{width}
 use Rattle.small_formats.specs.packing.Packed.{ArePacked}
 use Rattle.convert_values.specs.declared.block_form.BlockForm.{BlockForm}
@@ -53,7 +54,7 @@ block_widths q = widths_by q.way (values_size q) (block_size q.form)
 
 abbrev pub quantization_of : BlockConversion → Quantization
 quantization_of q =
-    record { source = q.format; format = Mx q.form.element; length = q.form.length; round = q.round }
+    record { source = q.format; format = Mx q.form.element; rule = Floor; length = q.form.length; round = q.round }
 
 abbrev pub dequantization_of : BlockConversion → Dequantization
 dequantization_of q =

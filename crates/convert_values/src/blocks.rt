@@ -7,6 +7,7 @@ use apfloat_arrays::scaled_blocks::{BlockFormat, Dequantization, Quantization};
 use apfloat_arrays::{ConvertedBlock, Counts, Extended, Widths, width};
 use formats_at_run_time::{BuiltInFormat, FlaggedFormat};
 use rustc_apfloat::Round;
+use small_formats::blocks::ScaleRule;
 
 /// Which way blocks are converted.
 #[derive(Clone, Copy)]
@@ -142,6 +143,7 @@ impl BlockConversion {
         let quantization = Quantization {
             source: self.format,
             format: BlockFormat::Mx(element),
+            rule: ScaleRule::Floor,
             length,
             round: self.round,
         };

@@ -1,1 +1,2 @@
 pub mod OfTwoOnce
+pub mod FormatLaws

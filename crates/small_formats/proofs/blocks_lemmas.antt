@@ -3,6 +3,7 @@ pub mod Quotients
 pub mod Products
 pub mod Places
 pub mod Greatest
+pub mod LeastScales
 pub mod ScaleCodes
 pub mod Tops
 pub mod Halves

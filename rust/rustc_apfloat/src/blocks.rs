@@ -4,7 +4,7 @@
 //!
 //! ```
 //! use rustc_apfloat::Round;
-//! use rustc_apfloat::blocks::{Block, ElementFormat, pack_fours};
+//! use rustc_apfloat::blocks::{Block, ElementFormat, ScaleRule, pack_fours};
 //! use rustc_apfloat::ieee::Single;
 //!
 //! let values = ["1", "-2.5", "0.3", "6"].map(|text| text.parse::<Single>().unwrap());
@@ -16,6 +16,11 @@
 //! let mut bytes = [0; 2];
 //! pack_fours(&block.codes, &mut bytes).unwrap();
 //! assert_eq!(bytes, [0xc2, 0x71]);
+//!
+//! // By the rule `Ceil` nothing is past the largest element, which is 6.
+//! let seven = ["7".parse::<Single>().unwrap()];
+//! let (block, _) = Block::from_values_by(ScaleRule::Ceil, ElementFormat::E2M1FN, &seven, Round::TowardZero);
+//! assert_eq!((block.scale, block.codes), (128, [5]));
 //! ```
 
 use crate::arrays::Counts;
@@ -25,7 +30,7 @@ use crate::erased::small_formats::{blocks as library, packing};
 use crate::ieee::{IeeeFloat, Inner, Semantics, Single};
 use crate::{Float, Round};
 
-pub use library::{ElementFormat, Nvfp4Error};
+pub use library::{ElementFormat, Nvfp4Error, ScaleRule};
 pub use packing::{PackingError, pack_fours, pack_sixes, unpack_fours, unpack_sixes};
 
 /// How many elements a block of MX has.
@@ -103,9 +108,19 @@ impl<const N: usize> Block<N> {
         values: &[IeeeFloat<S>; N],
         round: Round,
     ) -> (Self, Counts) {
+        Block::from_values_by(ScaleRule::Floor, element, values, round)
+    }
+
+    /// `from_values` with a scale by that rule.
+    pub fn from_values_by<S: Semantics>(
+        rule: ScaleRule,
+        element: ElementFormat,
+        values: &[IeeeFloat<S>; N],
+        round: Round,
+    ) -> (Self, Counts) {
         const { assert!(N > 0, "a block has elements") };
         let mut codes = [0; N];
-        let made = library::quantize_block(element, &values.map(IeeeFloat::plain), round, &mut codes);
+        let made = library::quantize_block_by(rule, element, &values.map(IeeeFloat::plain), round, &mut codes);
         let Ok(made) = made else { unreachable!("there are as many codes as values, and some") };
         let nans = if made.is_finite { 0 } else { N };
         (Block { element, scale: made.scale, codes }, counted(made.counts, N, nans))

@@ -13,6 +13,7 @@ use Rattle.apfloat_model.specs.order.Positive.{IsPositive}
 use Rattle.apfloat_model.proofs.general.Choices.{match_false, match_true}
 use Rattle.small_formats.specs.declared.blocks.Block.{Block}
 use Rattle.small_formats.specs.declared.blocks.ElementFormat.{ElementFormat}
+use Rattle.small_formats.specs.declared.blocks.ScaleRule.{ScaleRule}
 use Rattle.small_formats.specs.blocks.Elements.{width}
 use Rattle.small_formats.specs.blocks.Magnitudes.{are_finite}
 use Rattle.small_formats.specs.blocks.MxBlocks.{IsBlockOfNan, IsBlockOfNumbers}
@@ -40,10 +41,10 @@ not_both_in (Mx element) scales codes narrow wide = not_both (width element) cod
 not_both_in (Nvfp4 tensor) scales codes narrow (inl wide) = not_both 7 scales narrow.0 wide
 not_both_in (Nvfp4 tensor) scales codes narrow (inr wide) = not_both 4 codes narrow.1 wide
 
-pub block_in_once : (format : BlockFormat) (f : Format) (mode : Round) (values : List Datum)
-    → DeterminesBoth (IsBlockIn format f mode values)
-block_in_once (Mx element) f mode values = block_once element f mode values
-block_in_once (Nvfp4 tensor) f mode values = nv_block_once f mode (quanta_of (tensor_of tensor)) values
+pub block_in_once : (rule : ScaleRule) (format : BlockFormat) (f : Format) (mode : Round) (values : List Datum)
+    → DeterminesBoth (IsBlockIn rule format f mode values)
+block_in_once rule (Mx element) f mode values = block_once rule element f mode values
+block_in_once rule (Nvfp4 tensor) f mode values = nv_block_once f mode (quanta_of (tensor_of tensor)) values
 
 pub scaled_in_once : (format : BlockFormat) (g : Format) (mode : Round) (scale code : ℕ)
     → Once (IsScaledIn format g mode scale code)
@@ -51,26 +52,26 @@ scaled_in_once (Mx element) g mode scale code = scaled_once element g mode scale
 scaled_in_once (Nvfp4 tensor) g mode scale code = nv_scaled_once g mode (quanta_of (tensor_of tensor)) scale code
 
 -- a block with an infinity or a NaN
-pub nan_block : (format : BlockFormat) (f : Format) (mode : Round) (values : List Datum) (codes : List ℕ)
-    (block : Block)
+pub nan_block : (rule : ScaleRule) (format : BlockFormat) (f : Format) (mode : Round) (values : List Datum)
+    (codes : List ℕ) (block : Block)
     → are_finite values ≡ false → IsBlockOfNan (nan_scale format) values codes block
-    → IsBlockIn format f mode values codes block
-nan_block (Mx element) f mode values codes block e h = match_false _ _ _ e h
-nan_block (Nvfp4 tensor) f mode values codes block e h = match_false _ _ _ e h
+    → IsBlockIn rule format f mode values codes block
+nan_block rule (Mx element) f mode values codes block e h = match_false _ _ _ e h
+nan_block rule (Nvfp4 tensor) f mode values codes block e h = match_false _ _ _ e h
 
 -- a block of numbers
-pub mx_block : (format : BlockFormat) (element : ElementFormat) (f : Format) (mode : Round) (values : List Datum)
-    (codes : List ℕ) (block : Block) → format ≡ Mx element → are_finite values ≡ true
-    → IsBlockOfNumbers element f mode values codes block → IsBlockIn format f mode values codes block
-mx_block format element f mode values codes block same finite h =
-    subst (λ (b : BlockFormat). IsBlockIn b f mode values codes block) (sym same) (match_true _ _ _ finite h)
+pub mx_block : (rule : ScaleRule) (format : BlockFormat) (element : ElementFormat) (f : Format) (mode : Round)
+    (values : List Datum) (codes : List ℕ) (block : Block) → format ≡ Mx element → are_finite values ≡ true
+    → IsBlockOfNumbers rule element f mode values codes block → IsBlockIn rule format f mode values codes block
+mx_block rule format element f mode values codes block same finite h =
+    subst (λ (b : BlockFormat). IsBlockIn rule b f mode values codes block) (sym same) (match_true _ _ _ finite h)
 
-pub nvfp4_block : (format : BlockFormat) (tensor : ℕ) (scale : Datum) (f : Format) (mode : Round)
+pub nvfp4_block : (rule : ScaleRule) (format : BlockFormat) (tensor : ℕ) (scale : Datum) (f : Format) (mode : Round)
     (values : List Datum) (codes : List ℕ) (block : Block) → format ≡ Nvfp4 tensor → scale ≡ tensor_of tensor
     → are_finite values ≡ true → IsNvBlockOfNumbers f mode (quanta_of scale) values codes block
-    → IsBlockIn format f mode values codes block
-nvfp4_block format tensor scale f mode values codes block same is finite h =
-    subst (λ (b : BlockFormat). IsBlockIn b f mode values codes block) (sym same)
+    → IsBlockIn rule format f mode values codes block
+nvfp4_block rule format tensor scale f mode values codes block same is finite h =
+    subst (λ (b : BlockFormat). IsBlockIn rule b f mode values codes block) (sym same)
     (match_true _ _ _ finite
     (subst (λ (x : Datum). IsNvBlockOfNumbers f mode (quanta_of x) values codes block) is h))
 

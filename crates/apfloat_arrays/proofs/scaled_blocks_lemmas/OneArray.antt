@@ -30,7 +30,7 @@ use Rattle.apfloat_arrays.specs.scaled_blocks.OneArray.{AreLeftIn, IsDequantized
 use Rattle.apfloat_arrays.specs.scaled_blocks.Quantized.{AreQuantized, IsBlockOf, IsQuantizedArray, no_counts, total_of, width_in}
 use Rattle.apfloat_arrays.specs.scaled_blocks.Values.{values_in}
 use Rattle.apfloat_arrays.proofs.scaled_blocks_lemmas.Fitting.{fitting}
-use Rattle.apfloat_arrays.proofs.scaled_blocks_lemmas.FormatLaws.{HasLaw, format_law}
+use Rattle.formats_at_run_time.proofs.FormatLaws.{HasLaw, format_law}
 use Rattle.apfloat_arrays.proofs.scaled_blocks_lemmas.Formats.{block_in_once, not_both_in, scaled_in_once}
 
 -- bytes that are all determined are equal
@@ -46,7 +46,7 @@ whole_once width count before after other size a b same =
 blocks_fixed : (q : Quantization) (values : List ℕ) → FixesPlaces (IsBlockOf q values)
 blocks_fixed q values index codes other block also h k =
     let c = constants_in q.source in
-    let same = block_in_once q.format (format_with c) q.round
+    let same = block_in_once q.rule q.format (format_with c) q.round
     (values_in c (width_in q) values (index * q.length) q.length) codes other block also h k in
     (ap number_of same.0, same.1)
 

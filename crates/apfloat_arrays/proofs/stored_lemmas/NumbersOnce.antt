@@ -8,7 +8,7 @@ use Rattle.apfloat_arrays.specs.declared.counts.Outcome.{Outcome}
 use Rattle.apfloat_arrays.specs.declared.stored.array.Ends.{Ends}
 use Rattle.apfloat_arrays.specs.declared.stored.array.Ends.TheVariants.{Into, OutOf}
 use Rattle.apfloat_arrays.specs.stored.Numbers.{IsConvertedNumber}
-use Rattle.apfloat_arrays.proofs.scaled_blocks_lemmas.FormatLaws.{format_law}
+use Rattle.formats_at_run_time.proofs.FormatLaws.{format_law}
 use Rattle.apfloat_arrays.proofs.stored_lemmas.StoredOnce.{loaded_once, stored_once}
 
 pub converted_number_once : (overflow : Overflow) (mode : Round) (ends : Ends) (bits value other : ℕ)

@@ -10,8 +10,9 @@ use Rattle.apfloat_model.specs.order.Positive.{IsPositive}
 use Rattle.formats_at_run_time.specs.ValueKinds.{value_of}
 use Rattle.small_formats.specs.Scales.{nan_code}
 use Rattle.small_formats.specs.declared.blocks.Block.{Block}
+use Rattle.small_formats.specs.declared.blocks.ScaleRule.{ScaleRule}
 use Rattle.small_formats.specs.blocks.Elements.{width}
-use Rattle.small_formats.specs.blocks.MxBlocks.{IsBlock, IsScaled}
+use Rattle.small_formats.specs.blocks.MxBlocks.{IsBlockBy, IsScaled}
 use Rattle.small_formats.specs.blocks.Nvfp4.{IsNvBlock, IsNvScaled, is_positive, nan_scale as nan_of_nvfp4}
 use Rattle.apfloat_arrays.specs.declared.scaled_blocks.formats.BlockFormat.{BlockFormat}
 use Rattle.apfloat_arrays.specs.declared.scaled_blocks.formats.BlockFormat.TheVariants.{Mx, Nvfp4}
@@ -51,9 +52,10 @@ AreWide (Nvfp4 tensor) scales codes = Any (λ scale. 2 ^ 7 ≤ scale) scales ⊎
 
 -- ---- what a block and an element say
 
-abbrev pub IsBlockIn : BlockFormat → Format → Round → List Datum → List ℕ → Block → Type 0
-IsBlockIn (Mx element) f mode values codes block = IsBlock element f mode values codes block
-IsBlockIn (Nvfp4 tensor) f mode values codes block = IsNvBlock f mode (quanta_of (tensor_of tensor)) values codes block
+abbrev pub IsBlockIn : ScaleRule → BlockFormat → Format → Round → List Datum → List ℕ → Block → Type 0
+IsBlockIn rule (Mx element) f mode values codes block = IsBlockBy rule element f mode values codes block
+IsBlockIn rule (Nvfp4 tensor) f mode values codes block =
+    IsNvBlock f mode (quanta_of (tensor_of tensor)) values codes block
 
 abbrev pub IsScaledIn : BlockFormat → Format → Round → ℕ → ℕ → Datum → ℕ → Type 0
 IsScaledIn (Mx element) g mode scale code value status = IsScaled element g mode scale code value status

@@ -40,7 +40,7 @@ total_of length before (block ∷ blocks) = total_of length (sum_of before (coun
 -- the values of the block with that index, its codes, and what stands beside them
 abbrev pub IsBlockOf : Quantization → List ℕ → ℕ → List ℕ → Block → Type 0
 IsBlockOf q values index codes block =
-    IsBlockIn q.format (format_with (constants_in q.source)) q.round
+    IsBlockIn q.rule q.format (format_with (constants_in q.source)) q.round
     (values_in (constants_in q.source) (width_in q) values (index * q.length) q.length) codes block
 
 -- each block is quantized, in its place

@@ -24,7 +24,7 @@ use formats_at_run_time::{BuiltInFormat, ReadsInFormat};
 use rustc_apfloat::Round;
 use rustc_apfloat::ieee::{BFloatS, DoubleS, IeeeFloat, Semantics};
 use small_formats::blocks::{
-    Block, Counts as ElementCounts, ElementFormat, nvfp4_scale, power_of, scale_for,
+    Block, Counts as ElementCounts, ElementFormat, ScaleRule, nvfp4_scale, power_of, scale_by,
 };
 
 /// How values become blocks.
@@ -34,6 +34,8 @@ pub struct Quantization {
     pub source: BuiltInFormat,
     /// The format of the blocks.
     pub format: BlockFormat,
+    /// The rule of their scales, in a microscaling format; NVFP4 has one of its own.
+    pub rule: ScaleRule,
     /// How many elements a block has: 32 in each format of OCP Microscaling Formats 1.0, and 16 in NVFP4.
     pub length: usize,
     /// The rounding mode.
@@ -57,7 +59,7 @@ fn counts_of(length: usize, block: Block) -> Counts
 impl Quantization {
     /// Quantizes the values in `values`, each in the bytes of its bits, lowest first; a value of the x87 format takes
     /// ten bytes, and one of `TF32` four. Writes the scale of each block, and the code of each value. A block is what
-    /// `quantize_block` or `quantize_nvfp4_block` makes of it.
+    /// `quantize_block_by` or `quantize_nvfp4_block` makes of it.
     ///
     /// Returns the number of values, of those whose rounding raised each flag, and of those in blocks whose scale is a
     /// NaN.
@@ -110,6 +112,7 @@ impl Quantization {
             let part = &mut codes[first..first + self.length];
             let call = BlockCall {
                 format: self.format,
+                rule: self.rule,
                 round: self.round,
                 width,
                 first,
@@ -127,6 +130,7 @@ impl Quantization {
 #[derive(Clone, Copy)]
 struct BlockCall<'a> {
     format: BlockFormat,
+    rule: ScaleRule,
     round: Round,
     width: usize,
     first: usize,
@@ -140,12 +144,13 @@ impl ReadsInFormat for BlockCall<'_> {
         × ((it.first + length old) * it.width ≤ length it.values.now) };
 
     ghost gives = { λ it kind old new block. IfFormat kind
-        (λ c. IsBlockIn it.format (format_with c) it.round
+        (λ c. IsBlockIn it.rule it.format (format_with c) it.round
         (values_in c it.width it.values.now it.first (length old)) new block) };
 
     fn read_in_format<S: Semantics>(self, bytes: &mut [u8]) -> Block {
         let BlockCall {
             format,
+            rule,
             round,
             width,
             first,
@@ -162,7 +167,7 @@ impl ReadsInFormat for BlockCall<'_> {
             }
             Some(greatest) => match format {
                 BlockFormat::Mx(element) => {
-                    let scale = scale_for(element, greatest);
+                    let scale = scale_by(rule, element, greatest);
                     let by = power_of(scale);
                     let counts = write_codes::<S, BFloatS>(
                         element, round, width, first, by, values, bytes,

@@ -1,6 +1,7 @@
 -- Blocks have one answer.
 use Rattle.std.proofs.Common.{◌≡◌, ℕ, ◌^◌, ◌<◌, ◌≤◌, Bool, eqb, List, length, sym, refl, ap, ◌∙◌, subst, arith}
-use Rattle.std.proofs.Common.{Result, Ok, Err}
+use Rattle.std.proofs.Common.{Result, Ok, Err, false, ⊎_elim}
+use Rattle.std.proofs.lemmas.Bool.{cases_lt, false≢true}
 use Rattle.std.specs.Prelude.{All, Any, ℤ, pos, ◌-ℤ◌}
 use Rattle.apfloat_model.specs.Determined.{Determines, DeterminesBoth}
 use Rattle.apfloat_model.specs.declared.kinds.Round.{Round}
@@ -18,12 +19,15 @@ use Rattle.small_formats.specs.declared.blocks.elements.ElementFormat.{ElementFo
 use Rattle.small_formats.specs.declared.blocks.errors.BlockError.{BlockError}
 use Rattle.small_formats.specs.declared.blocks.errors.BlockError.TheVariants.{Empty, Lengths, CodeTooWide}
 use Rattle.small_formats.specs.declared.blocks.mx.Block.{Block}
+use Rattle.small_formats.specs.declared.blocks.mx_scales.ScaleRule.{ScaleRule}
+use Rattle.small_formats.specs.declared.blocks.mx_scales.ScaleRule.TheVariants.{Floor, Ceil, Even}
 use Rattle.small_formats.specs.blocks.Elements.{IsQuotientBy, element_datum, format_of_element, max_exp}
 use Rattle.small_formats.specs.blocks.Laws.{IsDequantizedOnce, IsQuantizedOnce}
 use Rattle.small_formats.specs.blocks.Magnitudes.{are_finite, greatest_magnitude}
-use Rattle.small_formats.specs.blocks.MxBlocks.{IsBlock, IsBlockOfNan, IsBlockOfNumbers, IsDequantized}
-use Rattle.small_formats.specs.blocks.MxBlocks.{IsQuantized, IsScaled}
-use Rattle.small_formats.specs.blocks.MxScales.{IsBlockScale, IsScaleOfNumber, clamped_code}
+use Rattle.small_formats.specs.blocks.MxBlocks.{IsBlockBy, IsBlockOfNan, IsBlockOfNumbers, IsDequantized}
+use Rattle.small_formats.specs.blocks.MxBlocks.{IsQuantizedBy, IsScaled}
+use Rattle.small_formats.specs.blocks.MxScales.{IsBlockScale, IsLeastScale, IsScaleBy, IsScaleOfNumber}
+use Rattle.small_formats.specs.blocks.MxScales.{clamped_code, clips, outgrows}
 use Rattle.small_formats.specs.blocks.Places.{AreCounted}
 use Rattle.small_formats.proofs.blocks_lemmas.ElementsOnce.{quotient_by_once}
 use Rattle.small_formats.proofs.blocks_lemmas.PlacesOnce.{counted_once}
@@ -42,6 +46,32 @@ block_scale_once element f greatest =
     match_one Determines (eqb greatest 0) (λ code. code ≡ 0) (IsScaleOfNumber element f greatest)
     (λ code other x y. x ∙ sym y) (scale_of_number_once element f greatest)
 
+-- of two codes, the lower one is not past the bound or is the largest one
+not_lower : (is_past : ℕ → Bool) (code other : ℕ) → code < other
+    → IsLeastScale is_past code → IsLeastScale is_past other → ⊥
+not_lower is_past code other l x y =
+    ⊎_elim
+    (λ (e : code ≡ 254). let within = y.within in omega (arith, e, l, within))
+    (λ (e : is_past code ≡ false). false≢true (sym e ∙ y.least code l))
+    x.enough
+
+least_once : (is_past : ℕ → Bool) → Determines (IsLeastScale is_past)
+least_once is_past code other x y =
+    ⊎_elim
+    (λ (l : code < other). absurd (not_lower is_past code other l x y))
+    (λ (l : other ≤ code).
+    ⊎_elim
+    (λ (k : other < code). absurd (not_lower is_past other code k y x))
+    (λ (k : code ≤ other). omega (arith, k, l))
+    (cases_lt other code))
+    (cases_lt code other)
+
+scale_once : (rule : ScaleRule) (element : ElementFormat) (f : Format) (greatest : ℕ)
+    → Determines (IsScaleBy rule element f greatest)
+scale_once Floor element f greatest = block_scale_once element f greatest
+scale_once Ceil element f greatest = least_once (clips element f greatest)
+scale_once Even element f greatest = least_once (outgrows element f greatest)
+
 pub same_block : (block other : Block) → block.scale ≡ other.scale → block.counts ≡ other.counts
     → block.is_finite ≡ other.is_finite → block ≡ other
 same_block block other e f g =
@@ -49,10 +79,10 @@ same_block block other e f g =
     ∙ ap (λ (k : Counts). record { scale = other.scale; counts = k; is_finite = block.is_finite }) f
     ∙ ap (λ (b : Bool). record { scale = other.scale; counts = other.counts; is_finite = b }) g
 
-numbers_once : (element : ElementFormat) (f : Format) (mode : Round) (values : List Datum)
-    → DeterminesBoth (IsBlockOfNumbers element f mode values)
-numbers_once element f mode values codes others block other x y =
-    let scale = block_scale_once element f (greatest_magnitude values) block.scale other.scale x.scale_is y.scale_is in
+numbers_once : (rule : ScaleRule) (element : ElementFormat) (f : Format) (mode : Round) (values : List Datum)
+    → DeterminesBoth (IsBlockOfNumbers rule element f mode values)
+numbers_once rule element f mode values codes others block other x y =
+    let scale = scale_once rule element f (greatest_magnitude values) block.scale other.scale x.scale_is y.scale_is in
     let elements : AreCounted (IsQuotientBy element f mode (2 ^ block.scale) (2 ^ scale_format.scale)) values others
     other.counts =
     subst (λ (s : ℕ). AreCounted (IsQuotientBy element f mode (2 ^ s) (2 ^ scale_format.scale)) values others
@@ -69,23 +99,23 @@ nan_once nan values codes others block other x y = (
       (x.finite_is ∙ sym y.finite_is),
 )
 
-pub block_once : (element : ElementFormat) (f : Format) (mode : Round) (values : List Datum)
-    → DeterminesBoth (IsBlock element f mode values)
-block_once element f mode values =
-    match_case DeterminesBoth (are_finite values) (IsBlockOfNumbers element f mode values)
+pub block_once : (rule : ScaleRule) (element : ElementFormat) (f : Format) (mode : Round) (values : List Datum)
+    → DeterminesBoth (IsBlockBy rule element f mode values)
+block_once rule element f mode values =
+    match_case DeterminesBoth (are_finite values) (IsBlockOfNumbers rule element f mode values)
     (IsBlockOfNan nan_code values)
-    (numbers_once element f mode values) (nan_once nan_code values)
+    (numbers_once rule element f mode values) (nan_once nan_code values)
 
 none_some : (n : ℕ) → n ≡ 0 → 0 < n → ⊥
 none_some n e l = omega (arith, e, l)
 
 pub quantized_once : IsQuantizedOnce
-quantized_once element f mode values before after other = once
+quantized_once rule element f mode values before after other = once
   where
-    once : (answer reply : Result Block BlockError) → IsQuantized element f mode values before after answer
-        → IsQuantized element f mode values before other reply → (after ≡ other) × (answer ≡ reply)
+    once : (answer reply : Result Block BlockError) → IsQuantizedBy rule element f mode values before after answer
+        → IsQuantizedBy rule element f mode values before other reply → (after ≡ other) × (answer ≡ reply)
     once (Ok block) (Ok reply) x y =
-        let same = block_once element f mode values after other block reply x.2 y.2 in (same.0, ap Ok same.1)
+        let same = block_once rule element f mode values after other block reply x.2 y.2 in (same.0, ap Ok same.1)
     once (Ok block) (Err Empty) x y = absurd (none_some (length values) y.0 x.0)
     once (Ok block) (Err Lengths) x y = absurd (y.1 x.1)
     once (Ok block) (Err CodeTooWide) x y = absurd y

@@ -49,6 +49,14 @@ max_exp E3M2FN = 4
 max_exp E2M3FN = 2
 max_exp E2M1FN = 2
 
+-- the code of 2 to the power of that exponent
+abbrev pub power_code : ElementFormat → ℕ
+power_code E5M2 = 120
+power_code E4M3FN = 120
+power_code E3M2FN = 28
+power_code E2M3FN = 24
+power_code E2M1FN = 6
+
 -- of a code of that width: the number, or of the formats of 8 bits the infinity or the NaN that it means
 abbrev pub element_datum : ElementFormat → ℕ → Datum
 element_datum E5M2 code = bits_datum (format_with e5m2_constants) (layout_with e5m2_constants) code

@@ -13,17 +13,18 @@ use Rattle.small_formats.specs.declared.blocks.counts.Counts.{Counts}
 use Rattle.small_formats.specs.declared.blocks.elements.ElementFormat.{ElementFormat}
 use Rattle.small_formats.specs.declared.blocks.errors.BlockError.{BlockError}
 use Rattle.small_formats.specs.declared.blocks.mx.Block.{Block}
+use Rattle.small_formats.specs.declared.blocks.mx_scales.ScaleRule.{ScaleRule}
 use Rattle.small_formats.specs.blocks.Elements.{element_datum, format_of_element, max_exp, width}
-use Rattle.small_formats.specs.blocks.MxBlocks.{IsDequantized, IsQuantized, IsScaled}
+use Rattle.small_formats.specs.blocks.MxBlocks.{IsDequantized, IsQuantizedBy, IsScaled}
 use Rattle.small_formats.specs.blocks.Nvfp4.{IsNvDequantized, IsNvQuantized, IsTensorAnswer}
 
 -- quantizing has one result: the codes, and the answer, which is the scale and the counts, or the error
 abbrev pub IsQuantizedOnce : Type 0
 IsQuantizedOnce =
-    (element : ElementFormat) (f : Format) (mode : Round) (values : List Datum) (before after other : List ℕ)
-    (answer reply : Result Block BlockError)
-    → IsQuantized element f mode values before after answer → IsQuantized element f mode values before other reply
-    → (after ≡ other) × (answer ≡ reply)
+    (rule : ScaleRule) (element : ElementFormat) (f : Format) (mode : Round) (values : List Datum)
+    (before after other : List ℕ) (answer reply : Result Block BlockError)
+    → IsQuantizedBy rule element f mode values before after answer
+    → IsQuantizedBy rule element f mode values before other reply → (after ≡ other) × (answer ≡ reply)
 
 -- dequantizing has one result: the values, and the answer, which is the counts or the error
 abbrev pub IsDequantizedOnce : Type 0

@@ -15,17 +15,19 @@ use Rattle.small_formats.specs.declared.blocks.elements.ElementFormat.{ElementFo
 use Rattle.small_formats.specs.declared.blocks.errors.BlockError.{BlockError}
 use Rattle.small_formats.specs.declared.blocks.errors.BlockError.TheVariants.{Empty, Lengths, CodeTooWide}
 use Rattle.small_formats.specs.declared.blocks.mx.Block.{Block}
+use Rattle.small_formats.specs.declared.blocks.mx_scales.ScaleRule.{ScaleRule}
+use Rattle.small_formats.specs.declared.blocks.mx_scales.ScaleRule.TheVariants.{Floor}
 use Rattle.small_formats.specs.blocks.Elements.{IsQuotientBy, element_datum, format_of_element, width}
 use Rattle.small_formats.specs.blocks.Magnitudes.{are_finite, greatest_magnitude}
-use Rattle.small_formats.specs.blocks.MxScales.{IsBlockScale}
+use Rattle.small_formats.specs.blocks.MxScales.{IsScaleBy}
 use Rattle.small_formats.specs.blocks.Places.{AreCounted, counts_of}
 
 -- ---- into a block
 
--- each element is the exact quotient by the scale, rounded once
-pub record IsBlockOfNumbers (element : ElementFormat) (f : Format) (mode : Round) (values : List Datum)
-    (codes : List ℕ) (block : Block) : Type 0 where
-  pub scale_is : IsBlockScale element f (greatest_magnitude values) block.scale
+-- the scale follows from the greatest magnitude, and each element is the exact quotient by it, rounded once
+pub record IsBlockOfNumbers (rule : ScaleRule) (element : ElementFormat) (f : Format) (mode : Round)
+    (values : List Datum) (codes : List ℕ) (block : Block) : Type 0 where
+  pub scale_is : IsScaleBy rule element f (greatest_magnitude values) block.scale
   pub elements : AreCounted (λ x code status. IsQuotientBy element f mode (2 ^ block.scale) (2 ^ scale_format.scale) x
       code status) values codes block.counts
   pub finite_is : block.is_finite ≡ true
@@ -37,20 +39,25 @@ pub record IsBlockOfNan (nan : ℕ) (values : List Datum) (codes : List ℕ) (bl
   pub counted : block.counts ≡ counts_of (replicate (length values) ok_bits)
   pub finite_is : block.is_finite ≡ false
 
-abbrev pub IsBlock : ElementFormat → Format → Round → List Datum → List ℕ → Block → Type 0
-IsBlock element f mode values codes block =
-    MatchBool (are_finite values) (IsBlockOfNumbers element f mode values codes block)
+abbrev pub IsBlockBy : ScaleRule → ElementFormat → Format → Round → List Datum → List ℕ → Block → Type 0
+IsBlockBy rule element f mode values codes block =
+    MatchBool (are_finite values) (IsBlockOfNumbers rule element f mode values codes block)
     (IsBlockOfNan nan_code values codes block)
 
 -- the answer of a call, and the codes before and after it: nothing is written with an error
+abbrev pub IsQuantizedBy : ScaleRule → ElementFormat → Format → Round → List Datum → List ℕ → List ℕ
+    → Result Block BlockError → Type 0
+IsQuantizedBy rule element f mode values before after (Ok block) =
+    (0 < length values) × (length before ≡ length values) × IsBlockBy rule element f mode values after block
+IsQuantizedBy rule element f mode values before after (Err Empty) = (length values ≡ 0) × (after ≡ before)
+IsQuantizedBy rule element f mode values before after (Err Lengths) =
+    (0 < length values) × (length before ≢ length values) × (after ≡ before)
+IsQuantizedBy rule element f mode values before after (Err CodeTooWide) = ⊥
+
+-- by the rule of the specification
 abbrev pub IsQuantized : ElementFormat → Format → Round → List Datum → List ℕ → List ℕ
     → Result Block BlockError → Type 0
-IsQuantized element f mode values before after (Ok block) =
-    (0 < length values) × (length before ≡ length values) × IsBlock element f mode values after block
-IsQuantized element f mode values before after (Err Empty) = (length values ≡ 0) × (after ≡ before)
-IsQuantized element f mode values before after (Err Lengths) =
-    (0 < length values) × (length before ≢ length values) × (after ≡ before)
-IsQuantized element f mode values before after (Err CodeTooWide) = ⊥
+IsQuantized = IsQuantizedBy Floor
 
 -- ---- out of a block
 

@@ -19,7 +19,7 @@ ghost use Rattle.small_formats.specs.Storage.{format_with as stored_format};
 ghost use Rattle.small_formats.specs.Types.{constants_of as stored_constants};
 ghost use Rattle.small_formats.specs.blocks.Elements.{IsElement, IsElementIn, IsSaturatedIn, element_datum};
 ghost use Rattle.small_formats.specs.blocks.Elements.{format_of_element};
-ghost use Rattle.small_formats.specs.blocks.Elements.{max_exp, width};
+ghost use Rattle.small_formats.specs.blocks.Elements.{max_exp, power_code, width};
 
 use crate::{E2M1FN, E2M3FN, E3M2FN, StorageFormat, StoredFloat};
 use apfloat_base::{ExpInt, Float, FloatConvert, Round, StatusAnd};
@@ -68,6 +68,19 @@ impl ElementFormat {
             ElementFormat::E3M2FN => 4,
             ElementFormat::E2M3FN => 2,
             ElementFormat::E2M1FN => 2,
+        }
+    }
+
+    /// The code of 2 to the power of `max_exp`.
+    pub(crate) fn power_code(self) -> u8
+        ensures { result ≡ power_code self }
+    {
+        match self {
+            ElementFormat::E5M2 => 0x78,
+            ElementFormat::E4M3FN => 0x78,
+            ElementFormat::E3M2FN => 0x1c,
+            ElementFormat::E2M3FN => 0x18,
+            ElementFormat::E2M1FN => 0x6,
         }
     }
 }
@@ -147,6 +160,7 @@ fn stored_quotient<F: StorageFormat, S: Semantics, R: Semantics>(
 }
 
 /// The quotient of a finite value and a positive one as an element, rounded once and saturating.
+#[inline(always)]
 pub fn quotient_code<S: Semantics, R: Semantics>(
     element: ElementFormat,
     x: IeeeFloat<S>,

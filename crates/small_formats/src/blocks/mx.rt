@@ -9,14 +9,15 @@ ghost use Rattle.apfloat_model.specs.order.Classes.{quanta_of};
 ghost use Rattle.small_formats.specs.Scales.{largest_code, scale_format};
 ghost use Rattle.small_formats.specs.blocks.Elements.{IsQuotientBy, width};
 ghost use Rattle.small_formats.specs.blocks.Magnitudes.{are_finite};
-ghost use Rattle.small_formats.specs.blocks.MxBlocks.{IsBlock, IsDequantized, IsQuantized, IsScaled};
+ghost use Rattle.small_formats.specs.blocks.MxBlocks.{IsBlockBy, IsDequantized, IsQuantized, IsQuantizedBy};
+ghost use Rattle.small_formats.specs.blocks.MxBlocks.{IsScaled};
 ghost use Rattle.small_formats.specs.blocks.Places.{AreCounted};
 
 use crate::blocks::counts::Counts;
 use crate::blocks::elements::{ElementFormat, product_of, quotient_code};
 use crate::blocks::errors::BlockError;
 use crate::blocks::magnitudes::{are_finite, greatest_of};
-use crate::blocks::mx_scales::{power_of, scale_for};
+use crate::blocks::mx_scales::{ScaleRule, power_of, scale_by};
 use crate::packing::are_narrow;
 use apfloat_base::{Float, Round, Status, StatusAnd};
 use apfloat_ieee::{Flagged, IeeeFloat, Semantics};
@@ -72,13 +73,14 @@ pub(crate) fn write_zeros(codes: &mut [u8])
 
 /// A block with as many codes as values.
 pub(crate) fn quantize_some<S: Semantics>(
+    rule: ScaleRule,
     element: ElementFormat,
     values: &[IeeeFloat<S>],
     round: Round,
     codes: &mut [u8],
 ) -> Block
     requires { length codes.old ≡ length values.now }
-    ensures { IsBlock element (format_of S.Semantics) round values.now codes.new result }
+    ensures { IsBlockBy rule element (format_of S.Semantics) round values.now codes.new result }
 {
     if !are_finite(values) {
         write_zeros(codes);
@@ -88,7 +90,7 @@ pub(crate) fn quantize_some<S: Semantics>(
             is_finite: false,
         };
     }
-    let scale = scale_for(element, greatest_of(values));
+    let scale = scale_by(rule, element, greatest_of(values));
     let counts = write_quotients(element, values, power_of(scale), round, codes);
     Block {
         scale,
@@ -116,13 +118,31 @@ pub fn quantize_block<S: Semantics>(
     ensures { IsQuantized element (format_of S.Semantics) round values.now codes.old codes.new
         result }
 {
+    quantize_block_by(ScaleRule::Floor, element, values, round, codes)
+}
+
+/// `quantize_block` with a scale by that rule.
+///
+/// # Errors
+///
+/// Those of `quantize_block`.
+pub fn quantize_block_by<S: Semantics>(
+    rule: ScaleRule,
+    element: ElementFormat,
+    values: &[IeeeFloat<S>],
+    round: Round,
+    codes: &mut [u8],
+) -> Result<Block, BlockError>
+    ensures { IsQuantizedBy rule element (format_of S.Semantics) round values.now codes.old
+        codes.new result }
+{
     if values.is_empty() {
         return Err(BlockError::Empty);
     }
     if codes.len() != values.len() {
         return Err(BlockError::Lengths);
     }
-    Ok(quantize_some(element, values, round, codes))
+    Ok(quantize_some(rule, element, values, round, codes))
 }
 
 /// An element times the scale with that code, rounded once.

@@ -42,25 +42,35 @@ enum Side {
     Below,
 }
 
-/// A value at a limit, or next to one.
-type Place = (Limit, Side);
+/// A value at a limit, or next to one, and whether its sign is minus.
+type Place = (Limit, Side, bool);
 
-static PLACES: [Place; 12] = [
-    (Limit::Zero, Side::At),
-    (Limit::Smallest, Side::At),
-    (Limit::Smallest, Side::Above),
-    (Limit::SmallestNormalized, Side::Below),
-    (Limit::SmallestNormalized, Side::At),
-    (Limit::SmallestNormalized, Side::Above),
-    (Limit::One, Side::At),
-    (Limit::Largest, Side::Below),
-    (Limit::Largest, Side::At),
-    (Limit::Infinity, Side::At),
-    (Limit::QuietNan, Side::At),
-    (Limit::SignalingNan, Side::At),
+static PLACES: [Place; 24] = [
+    (Limit::Zero, Side::At, false),
+    (Limit::Zero, Side::At, true),
+    (Limit::Smallest, Side::At, false),
+    (Limit::Smallest, Side::At, true),
+    (Limit::Smallest, Side::Above, false),
+    (Limit::Smallest, Side::Above, true),
+    (Limit::SmallestNormalized, Side::Below, false),
+    (Limit::SmallestNormalized, Side::Below, true),
+    (Limit::SmallestNormalized, Side::At, false),
+    (Limit::SmallestNormalized, Side::At, true),
+    (Limit::SmallestNormalized, Side::Above, false),
+    (Limit::SmallestNormalized, Side::Above, true),
+    (Limit::One, Side::At, false),
+    (Limit::One, Side::At, true),
+    (Limit::Largest, Side::Below, false),
+    (Limit::Largest, Side::Below, true),
+    (Limit::Largest, Side::At, false),
+    (Limit::Largest, Side::At, true),
+    (Limit::Infinity, Side::At, false),
+    (Limit::Infinity, Side::At, true),
+    (Limit::QuietNan, Side::At, false),
+    (Limit::QuietNan, Side::At, true),
+    (Limit::SignalingNan, Side::At, false),
+    (Limit::SignalingNan, Side::At, true),
 ];
-
-static SIGNS: [bool; 2] = [false, true];
 
 /// The positive value of a limit.
 fn limit_of<S: Semantics>(limit: Limit) -> IeeeFloat<S> {
@@ -76,8 +86,8 @@ fn limit_of<S: Semantics>(limit: Limit) -> IeeeFloat<S> {
     }
 }
 
-/// The value of a place with this sign.
-fn value_at<S: Semantics>((limit, side): Place, negative: bool) -> IeeeFloat<S> {
+/// The value of a place.
+fn value_at<S: Semantics>((limit, side, negative): Place) -> IeeeFloat<S> {
     let x = limit_of::<S>(limit);
     let x = match side {
         Side::At => x,
@@ -190,32 +200,27 @@ fn check_bits<S: Semantics>(rt: &impl Abort, x: IeeeFloat<S>)
 
 /// The laws on one, two and three values that hold in every format.
 fn check_laws<S: Semantics>(rt: &impl Abort) {
-    for left in PLACES {
-        for left_sign in SIGNS {
-            let x = value_at::<S>(left, left_sign);
-            check_steps(rt, x);
-            check_conversions(rt, x);
-            check_laws_beside(rt, x);
-        }
+    for left in &PLACES {
+        let x = value_at::<S>(*left);
+        check_steps(rt, x);
+        check_conversions(rt, x);
+        check_laws_beside(rt, x);
     }
 }
 
 /// The laws on two and three values, with `x` as the first.
 fn check_laws_beside<S: Semantics>(rt: &impl Abort, x: IeeeFloat<S>) {
-    for right in PLACES {
-        for right_sign in SIGNS {
-            let y = value_at::<S>(right, right_sign);
-            check_difference(rt, x, y);
-            check_all_sums(rt, x, y);
-        }
+    for right in &PLACES {
+        let y = value_at::<S>(*right);
+        check_difference(rt, x, y);
+        check_all_sums(rt, x, y);
     }
 }
 
 /// The law of sums, with each third value.
 fn check_all_sums<S: Semantics>(rt: &impl Abort, x: IeeeFloat<S>, y: IeeeFloat<S>) {
-    for third in PLACES {
-        check_sums(rt, x, y, value_at::<S>(third, false));
-        check_sums(rt, x, y, value_at::<S>(third, true));
+    for third in &PLACES {
+        check_sums(rt, x, y, value_at::<S>(*third));
     }
 }
 
@@ -223,9 +228,8 @@ fn check_all_sums<S: Semantics>(rt: &impl Abort, x: IeeeFloat<S>, y: IeeeFloat<S
 fn check_products<S: Semantics>(rt: &impl Abort)
     requires { S.PRECISION ≤ product_limit }
 {
-    for left in PLACES {
-        check_all_products(rt, value_at::<S>(left, false));
-        check_all_products(rt, value_at::<S>(left, true));
+    for left in &PLACES {
+        check_all_products(rt, value_at::<S>(*left));
     }
 }
 
@@ -233,9 +237,8 @@ fn check_products<S: Semantics>(rt: &impl Abort)
 fn check_all_products<S: Semantics>(rt: &impl Abort, x: IeeeFloat<S>)
     requires { S.PRECISION ≤ product_limit }
 {
-    for right in PLACES {
-        check_product(rt, x, value_at::<S>(right, false));
-        check_product(rt, x, value_at::<S>(right, true));
+    for right in &PLACES {
+        check_product(rt, x, value_at::<S>(*right));
     }
 }
 
@@ -243,10 +246,8 @@ fn check_all_products<S: Semantics>(rt: &impl Abort, x: IeeeFloat<S>)
 fn check_values_and_bits<S: Semantics>(rt: &impl Abort)
     requires { S.PRECISION < S.BITS }
 {
-    for place in PLACES {
-        for negative in SIGNS {
-            check_bits(rt, value_at::<S>(place, negative));
-        }
+    for place in &PLACES {
+        check_bits(rt, value_at::<S>(*place));
     }
 }
 

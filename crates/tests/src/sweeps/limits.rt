@@ -94,35 +94,34 @@ fn check_rows<S: Semantics>(rt: &impl Abort, rows: &[Row]) {
     }
 }
 
-/// Whether the ends of a format are in order, from zero up.
-fn are_in_order<S: Semantics>(
-    smallest: IeeeFloat<S>,
-    normalized: IeeeFloat<S>,
-    largest: IeeeFloat<S>,
-) -> [bool; 3] {
+/// Whether the ends of a type are in order, from zero up.
+fn are_in_order<F: Float>(smallest: F, normalized: F, largest: F) -> [bool; 3] {
     [
-        IeeeFloat::zero() < smallest,
+        F::zero() < smallest,
         smallest < normalized,
         normalized < largest,
     ]
 }
 
 /// Whether the minimum and the maximum of two values, the first of which is less, are these values.
-fn are_extrema<S: Semantics>(less: IeeeFloat<S>, greater: IeeeFloat<S>) -> [bool; 2] {
+fn are_extrema<F: Float>(less: F, greater: F) -> [bool; 2] {
     [
         less.min(greater).bitwise_eq(less),
         less.maximum(greater).bitwise_eq(greater),
     ]
 }
 
-/// The order of the ends of a format, and its minima and maxima.
-fn check_ends<S: Semantics>(rt: &impl Abort) {
-    let smallest = IeeeFloat::<S>::smallest();
-    let normalized = IeeeFloat::<S>::smallest_normalized();
-    let largest = IeeeFloat::<S>::largest();
+/// The order of the ends of a type, its minima and maxima, and the classes of its least values.
+fn ends<F: Float>() -> ([bool; 3], [bool; 2], [bool; 2]) {
+    let (smallest, normalized, largest) = (F::smallest(), F::smallest_normalized(), F::largest());
     let ordered = are_in_order(smallest, normalized, largest);
     let classes = [smallest.is_denormal(), normalized.is_normal()];
-    let got = (ordered, are_extrema(smallest, largest), classes);
+    (ordered, are_extrema(smallest, largest), classes)
+}
+
+/// The order of the ends of a format, and its minima and maxima. That `IeeeFloat` is a `Float` is proved here alone.
+fn check_ends<S: Semantics>(rt: &impl Abort) {
+    let got = ends::<IeeeFloat<S>>();
     same(rt, got, ([true; 3], [true; 2], [true; 2]), "ends");
 }
 

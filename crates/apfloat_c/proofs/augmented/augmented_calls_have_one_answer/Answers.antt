@@ -1,4 +1,4 @@
-use Rattle.apfloat_c.proofs.AugmentedOnce.{augmented_calls_once}
+use Rattle.coded_calls.proofs.AugmentedOnce.{augmented_calls_once}
 use Rattle.apfloat_c.proofs.augmented.augmented_calls_have_one_answer.Goals as goal
 
 pub returns : goal.returns

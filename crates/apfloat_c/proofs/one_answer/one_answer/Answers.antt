@@ -1,10 +1,10 @@
 use Rattle.apfloat_c.proofs.ArraysOnce.{converted_array_once, mapped_array_once}
 use Rattle.apfloat_c.proofs.BlocksOnce.{dequantized_call_once, packed_call_once, quantized_call_once}
 use Rattle.apfloat_c.proofs.BlocksOnce.{unpacked_call_once}
-use Rattle.apfloat_c.proofs.ExportsOnce.{reply_once}
-use Rattle.apfloat_c.proofs.FlaglessOnce.{flagless_reply_once}
-use Rattle.apfloat_c.proofs.IeeeOnce.{EachHasOne, ieee_reply_once, in_another_reply_once}
-use Rattle.apfloat_c.proofs.MachineOnce.{machine_reply_once}
+use Rattle.coded_calls.proofs.ExportsOnce.{reply_once}
+use Rattle.coded_calls.proofs.FlaglessOnce.{flagless_reply_once}
+use Rattle.coded_calls.proofs.IeeeOnce.{EachHasOne, ieee_reply_once, in_another_reply_once}
+use Rattle.coded_calls.proofs.MachineOnce.{machine_reply_once}
 use Rattle.apfloat_c.proofs.ParsedOnce.{parsed_once}
 use Rattle.apfloat_c.proofs.TextsOnce.{error_text_once, text_once}
 use Rattle.apfloat_c.proofs.one_answer.one_answer.Goals as goal

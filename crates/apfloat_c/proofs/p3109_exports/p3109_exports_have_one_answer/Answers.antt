@@ -1,4 +1,4 @@
-use Rattle.apfloat_c.proofs.P3109Once.{p3109_reply_once}
+use Rattle.coded_calls.proofs.P3109Once.{p3109_reply_once}
 use Rattle.apfloat_c.proofs.p3109_exports.p3109_exports_have_one_answer.Goals as goal
 
 pub returns : goal.returns

@@ -18,6 +18,7 @@ use Rattle.small_formats.specs.declared.blocks.elements.ElementFormat.{ElementFo
 use Rattle.small_formats.specs.blocks.Elements.{IsQuotientBy, element_datum, format_of_element, max_exp, width}
 use Rattle.small_formats.specs.blocks.Laws.{IsExactlyScaled}
 use Rattle.small_formats.specs.blocks.Magnitudes.{are_finite, greatest_magnitude}
+use Rattle.small_formats.specs.declared.blocks.mx_scales.ScaleRule.TheVariants.{Floor}
 use Rattle.small_formats.specs.blocks.MxBlocks.{IsBlockOfNan, IsBlockOfNumbers}
 use Rattle.small_formats.specs.blocks.Places.{AreElementsInPlaces}
 use Rattle.small_formats.proofs.blocks_lemmas.ElementNumbers.{IsElementNumber, element_number}
@@ -117,8 +118,9 @@ quantized_again element g mode scale codes before again values counts block belo
     → Type 0 = λ code value status. IsExactlyScaled element g scale code value status in
     let all = exact.in_places in
     let b = known_block element g scale codes values exact.flags narrow all in
-    let numbers : IsBlockOfNumbers element g mode values again block =
-    MatchBool-at_true (IsBlockOfNumbers element g mode values again block) (IsBlockOfNan nan_code values again block)
+    let numbers : IsBlockOfNumbers Floor element g mode values again block =
+    MatchBool-at_true (IsBlockOfNumbers Floor element g mode values again block)
+    (IsBlockOfNan nan_code values again block)
     b.finite_is q.2 in
     let greatest : ℕ = greatest_element element codes in
     let within = below_end element greatest b.number.within in

@@ -1,6 +1,6 @@
 -- The formats that have room for the elements of a block.
 use Rattle.std.proofs.Common.{lit≤}
-use Rattle.std.proofs.Common.{◌≡◌, ℕ, ◌+◌, ◌-◌, ◌*◌, ◌^◌, ◌≤◌, refl, arith}
+use Rattle.std.proofs.Common.{◌≡◌, ℕ, ◌+◌, ◌-◌, ◌*◌, ◌^◌, ◌<◌, ◌≤◌, refl, arith}
 use Rattle.apfloat_model.specs.declared.kinds.NonfiniteBehavior.TheVariants.{IEEE754}
 use Rattle.apfloat_model.specs.formats.Format.{Format, largest}
 use Rattle.small_formats.specs.declared.blocks.elements.ElementFormat.{ElementFormat}
@@ -10,6 +10,7 @@ use Rattle.small_formats.proofs.blocks_lemmas.ExactProducts.{HasProducts}
 
 -- what the element formats have in common
 pub record IsShortElement (element : ElementFormat) : Type 0 where
+  pub full : 0 < (format_of_element element).precision
   pub digits : (format_of_element element).precision ≤ 4
   pub quantum : (format_of_element element).scale ≤ 16
   pub exponents : max_exp element ≤ 15
@@ -21,22 +22,23 @@ pub record IsShortElement (element : ElementFormat) : Type 0 where
   pub most : largest (format_of_element element)
       ≤ (2 ^ (format_of_element element).precision - 1) * 2 ^ (format_of_element element).span
 
-short_from : (element : ElementFormat) → (format_of_element element).precision ≤ 4
+short_from : (element : ElementFormat) → 0 < (format_of_element element).precision
+    → (format_of_element element).precision ≤ 4
     → (format_of_element element).scale ≤ 16 → max_exp element ≤ 15 → 2 ≤ max_exp element
     → (format_of_element element).precision + (format_of_element element).span
     ≡ (format_of_element element).scale + max_exp element + 1
     → largest (format_of_element element)
     ≤ (2 ^ (format_of_element element).precision - 1) * 2 ^ (format_of_element element).span
     → IsShortElement element
-short_from element a b c d e f =
-    record { digits = a; quantum = b; exponents = c; exponents_low = d; ends = e; most = f }
+short_from element z a b c d e f =
+    record { full = z; digits = a; quantum = b; exponents = c; exponents_low = d; ends = e; most = f }
 
 pub short : (element : ElementFormat) → IsShortElement element
-short E5M2 = short_from E5M2 (lit≤ tt) (lit≤ tt) (lit≤ tt) (lit≤ tt) refl (lit≤ tt)
-short E4M3FN = short_from E4M3FN (lit≤ tt) (lit≤ tt) (lit≤ tt) (lit≤ tt) refl (lit≤ tt)
-short E3M2FN = short_from E3M2FN (lit≤ tt) (lit≤ tt) (lit≤ tt) (lit≤ tt) refl (lit≤ tt)
-short E2M3FN = short_from E2M3FN (lit≤ tt) (lit≤ tt) (lit≤ tt) (lit≤ tt) refl (lit≤ tt)
-short E2M1FN = short_from E2M1FN (lit≤ tt) (lit≤ tt) (lit≤ tt) (lit≤ tt) refl (lit≤ tt)
+short E5M2 = short_from E5M2 (lit≤ tt) (lit≤ tt) (lit≤ tt) (lit≤ tt) (lit≤ tt) refl (lit≤ tt)
+short E4M3FN = short_from E4M3FN (lit≤ tt) (lit≤ tt) (lit≤ tt) (lit≤ tt) (lit≤ tt) refl (lit≤ tt)
+short E3M2FN = short_from E3M2FN (lit≤ tt) (lit≤ tt) (lit≤ tt) (lit≤ tt) (lit≤ tt) refl (lit≤ tt)
+short E2M3FN = short_from E2M3FN (lit≤ tt) (lit≤ tt) (lit≤ tt) (lit≤ tt) (lit≤ tt) refl (lit≤ tt)
+short E2M1FN = short_from E2M1FN (lit≤ tt) (lit≤ tt) (lit≤ tt) (lit≤ tt) (lit≤ tt) refl (lit≤ tt)
 
 -- the greatest element is below the end of the format, and the quantum is not below that of the format
 pub room_in : (element : ElementFormat) (g : Format) (scale : ℕ) → g.nonfinite ≡ IEEE754 → 4 ≤ g.precision

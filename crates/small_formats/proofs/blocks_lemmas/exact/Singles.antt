@@ -24,7 +24,8 @@ use Rattle.small_formats.specs.declared.blocks.elements.ElementFormat.{ElementFo
 use Rattle.small_formats.specs.declared.blocks.mx.Block.{Block}
 use Rattle.small_formats.specs.blocks.Elements.{IsQuotientBy, element_datum, format_of_element, max_exp}
 use Rattle.small_formats.specs.blocks.Magnitudes.{are_finite, greatest_magnitude}
-use Rattle.small_formats.specs.blocks.MxBlocks.{IsBlock, IsBlockOfNan, IsBlockOfNumbers}
+use Rattle.small_formats.specs.declared.blocks.mx_scales.ScaleRule.TheVariants.{Floor}
+use Rattle.small_formats.specs.blocks.MxBlocks.{IsBlockBy, IsBlockOfNan, IsBlockOfNumbers}
 use Rattle.small_formats.specs.blocks.MxScales.{IsBlockScale, IsScaleOfNumber}
 use Rattle.small_formats.proofs.blocks_lemmas.ExactBlocks.{exact_into_single}
 use Rattle.small_formats.proofs.blocks_lemmas.again.Lists.{some_at}
@@ -89,12 +90,12 @@ quotient_finite element f mode divisor unit x code status q =
 
 -- a block that is finite is that of numbers
 of_numbers : (element : ElementFormat) (f : Format) (mode : Round) (values : List Datum) (codes : List ℕ)
-    (block : Block) → block.is_finite ≡ true → IsBlock element f mode values codes block
-    → IsBlockOfNumbers element f mode values codes block
+    (block : Block) → block.is_finite ≡ true → IsBlockBy Floor element f mode values codes block
+    → IsBlockOfNumbers Floor element f mode values codes block
 of_numbers element f mode values codes block number h = by_test (are_finite values) h
   where
-    by_test : (test : Bool) → MatchBool test (IsBlockOfNumbers element f mode values codes block)
-        (IsBlockOfNan nan_code values codes block) → IsBlockOfNumbers element f mode values codes block
+    by_test : (test : Bool) → MatchBool test (IsBlockOfNumbers Floor element f mode values codes block)
+        (IsBlockOfNan nan_code values codes block) → IsBlockOfNumbers Floor element f mode values codes block
     by_test true b = b
     by_test false b = let off = b.finite_is in cc
 

@@ -1,6 +1,6 @@
 //! What the words of a command line ask for.
 
-use crate::blocks::{RULES, ScaleRule};
+use crate::blocks::{RULES, rule_named};
 use crate::erased::commands::{FORMATS, MODES, WrongWord, suggested};
 use crate::erased::formats_at_run_time::mode_named;
 use crate::erased::small_formats::saturation::{FiniteNan, Overflow};
@@ -156,7 +156,7 @@ impl<'a> Options<'a> {
     fn target(&self, word: &'a str) -> Result<Target, Fault<'a>> {
         let (format, rule) = word.split_once('+').unwrap_or((word, "floor"));
         let is_block = |target: &Target| matches!(target, Target::Blocks(_)) || format == word;
-        let rule = ScaleRule::named(rule).ok_or(unknown("no such rule of scales", rule, RULES))?;
+        let rule = rule_named(rule).ok_or(unknown("no such rule of scales", rule, RULES))?;
         let known = if suggested(format, FORMATS).is_some() { FORMATS } else { OTHER_TARGETS };
         Target::named(format, self.length, rule).filter(is_block).ok_or(unknown("no such format", word, known))
     }

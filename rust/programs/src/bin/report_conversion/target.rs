@@ -1,15 +1,14 @@
 //! What values are converted to, and which numbers that has.
 
-use crate::blocks::{Blocks, ScaleRule};
+use crate::blocks::Blocks;
 use crate::erased::apfloat_arrays::scaled_blocks::{BlockFormat, Dequantization, Quantization};
 use crate::erased::apfloat_arrays::stored::{Ends, StorageArray, StoredFormat};
 use crate::erased::apfloat_arrays::{ArrayConversion, Counts, Extended, width};
 use crate::erased::formats_at_run_time::{BuiltInFormat, BuiltInKind, FlaggedFormat, InFormat};
 use crate::erased::rustc_apfloat::Round;
 use crate::erased::rustc_apfloat::ieee::Semantics;
-use crate::erased::small_formats::blocks::ElementFormat;
+use crate::erased::small_formats::blocks::{ElementFormat, ScaleRule};
 use crate::erased::small_formats::saturation::Overflow;
-use crate::measures::doubles;
 
 /// The bytes of a double.
 const DOUBLE: usize = 8;
@@ -113,14 +112,8 @@ impl Target {
                 let Blocks { element, length, rule } = blocks;
                 let (mut scales, mut codes) = (vec![0; count / length], vec![0; count]);
                 let format = BlockFormat::Mx(element);
-                let counts = if rule == ScaleRule::Floor {
-                    let to = Quantization { source, format, length, round };
-                    to.quantize(values, &mut scales, &mut codes).unwrap_or(Counts::NONE)
-                } else {
-                    doubles_of(source, values, &mut results);
-                    let values: Vec<_> = doubles(&results).collect();
-                    blocks.quantize(element_digits(element).precision, round, &values, &mut scales, &mut codes)
-                };
+                let to = Quantization { source, format, rule, length, round };
+                let counts = to.quantize(values, &mut scales, &mut codes).unwrap_or(Counts::NONE);
                 let target = FlaggedFormat::BuiltIn(BuiltInFormat::Double);
                 let from = Dequantization { format, length, target, round: EXACT };
                 // The lengths fit together, and the codes are of the format.

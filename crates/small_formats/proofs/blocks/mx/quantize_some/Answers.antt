@@ -4,7 +4,7 @@ use Rattle.apfloat_model.specs.order.Classes.{quanta_of}
 use Rattle.apfloat_model.proofs.general.Choices.{match_false, match_true}
 use Rattle.apfloat_ieee.specs.Types.{format_of}
 use Rattle.small_formats.specs.blocks.Magnitudes.{greatest_magnitude}
-use Rattle.small_formats.specs.blocks.MxScales.{IsBlockScale}
+use Rattle.small_formats.specs.blocks.MxScales.{IsScaleBy}
 use Rattle.small_formats.proofs.blocks_lemmas.Counted.{none_counted}
 use Rattle.small_formats.proofs.blocks_lemmas.Greatest.{own_quanta}
 use Rattle.small_formats.proofs.blocks_lemmas.Powers.{scale_quanta}
@@ -21,19 +21,19 @@ returns-then-not-are_finite g c =
       finite_is = refl;
     })
 
-pub scale_for-scale-requires-clause-sign : goal.scale_for-scale-requires-clause-sign
-scale_for-scale-requires-clause-sign g c =
+pub scale_by-scale-requires-clause-sign : goal.scale_by-scale-requires-clause-sign
+scale_by-scale-requires-clause-sign g c =
     own_quanta c.greatest_of.result (greatest_magnitude c.args.values.now) c.greatest_of.ensures.value
 
--- a block of numbers: the scale by `scale_for`, the elements by `write_quotients` for 2 ^ scale / 2 ^ 127
+-- a block of numbers: the scale by `scale_by`, the elements by `write_quotients` for 2 ^ scale / 2 ^ 127
 pub returns : goal.returns
 returns g c =
-    let scale = c.scale_for-scale.result in
+    let scale = c.scale_by-scale.result in
     let divided : 2 ^ scale * 2 ^ 133 ≡ 2 ^ (scale + 6) * 2 ^ 127 = sym (scale_quanta scale) in
     match_true _ _ _ (sym c.are_finite.ensures ∙ c.if-not-are_finite.false)
     (record {
-      scale_is = subst (λ (n : ℕ). IsBlockScale c.args.element (format_of g.S.Semantics) n scale)
-          (ap quanta_of c.greatest_of.ensures.value) c.scale_for-scale.ensures.value;
+      scale_is = subst (λ (n : ℕ). IsScaleBy c.args.rule c.args.element (format_of g.S.Semantics) n scale)
+          (ap quanta_of c.greatest_of.ensures.value) c.scale_by-scale.ensures.value;
       elements = c.write_quotients-counts.ensures (2 ^ scale) (2 ^ 127) (pow_pos scale)
           (divided ∙ ap (λ (n : ℕ). n * 2 ^ 127) (sym c.power_of.ensures.value));
       finite_is = refl;

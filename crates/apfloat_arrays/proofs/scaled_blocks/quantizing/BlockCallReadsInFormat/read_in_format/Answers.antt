@@ -2,7 +2,7 @@ use Rattle.std.proofs.Common.{ℕ, ◌*◌, ◌^◌, length, max, replicate, ref
 use Rattle.std.proofs.lemmas.Nat.{pow_pos}
 use Rattle.apfloat_model.specs.order.Classes.{quanta_of}
 use Rattle.rustc_apfloat.specs.Types.{constants_of, format_of}
-use Rattle.small_formats.specs.blocks.MxScales.{IsBlockScale}
+use Rattle.small_formats.specs.blocks.MxScales.{IsScaleBy}
 use Rattle.small_formats.specs.blocks.Nvfp4.{IsNvScale, scale_quanta as quanta_of_scale}
 use Rattle.small_formats.proofs.blocks_lemmas.Counted.{none_counted}
 use Rattle.small_formats.proofs.blocks_lemmas.Greatest.{own_quanta}
@@ -17,7 +17,7 @@ pub returns-in-None : goal.returns-in-None
 returns-in-None g c =
     let many = values_length (constants_of g.S.Semantics) c.args.self.width c.args.self.values.now c.args.self.first
     (length c.args.bytes.now) in
-    nan_block c.args.self.format _ _ _ _ _ c.in-None.ensures
+    nan_block c.args.self.rule c.args.self.format _ _ _ _ _ c.in-None.ensures
     (record {
       scale_is = c.nan_scale.ensures;
       codes_are = c.fill.ensures.after (λ y e. e) ∙ ap (λ (n : ℕ). replicate n 0) (sym many);
@@ -26,16 +26,16 @@ returns-in-None g c =
     })
 
 -- a block of numbers
-pub scale_for-scale-requires-clause-sign : goal.scale_for-scale-requires-clause-sign
-scale_for-scale-requires-clause-sign g c = own_quanta c.in-Some.greatest _ c.in-Some.ensures.1
+pub scale_by-scale-requires-clause-sign : goal.scale_by-scale-requires-clause-sign
+scale_by-scale-requires-clause-sign g c = own_quanta c.in-Some.greatest _ c.in-Some.ensures.1
 
 pub returns-in-Mx : goal.returns-in-Mx
 returns-in-Mx g c =
-    let scale = c.scale_for-scale.result in
-    mx_block c.args.self.format c.in-Mx.element _ _ _ _ _ c.in-Mx.is c.in-Some.ensures.0
+    let scale = c.scale_by-scale.result in
+    mx_block c.args.self.rule c.args.self.format c.in-Mx.element _ _ _ _ _ c.in-Mx.is c.in-Some.ensures.0
     (record {
-      scale_is = subst (λ (n : ℕ). IsBlockScale c.in-Mx.element (format_of g.S.Semantics) n scale)
-          (ap quanta_of c.in-Some.ensures.1) c.scale_for-scale.ensures.value;
+      scale_is = subst (λ (n : ℕ). IsScaleBy c.args.self.rule c.in-Mx.element (format_of g.S.Semantics) n scale)
+          (ap quanta_of c.in-Some.ensures.1) c.scale_by-scale.ensures.value;
       elements = c.write_codes-counts.ensures (2 ^ scale) (2 ^ 127) (pow_pos scale)
           (sym (scale_quanta scale) ∙ ap (λ (n : ℕ). n * 2 ^ 127) (sym c.power_of-by.ensures.value));
       finite_is = refl;
@@ -51,7 +51,7 @@ returns-in-Nvfp4 g c =
     let t : ℕ = quanta_of tensor in
     let some = (tensor_positive c.args.self.format c.in-Nvfp4.tensor tensor c.in-Nvfp4.is c.tensor_of.ensures
     c.requires.can.0).some in
-    nvfp4_block c.args.self.format c.in-Nvfp4.tensor tensor _ _ _ _ _ c.in-Nvfp4.is c.tensor_of.ensures
+    nvfp4_block c.args.self.rule c.args.self.format c.in-Nvfp4.tensor tensor _ _ _ _ _ c.in-Nvfp4.is c.tensor_of.ensures
     c.in-Some.ensures.0
     (record {
       scale_is = subst (λ (n : ℕ). IsNvScale (format_of g.S.Semantics) c.args.self.round t n code)

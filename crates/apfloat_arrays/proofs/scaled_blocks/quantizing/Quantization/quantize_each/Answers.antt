@@ -41,9 +41,9 @@ loop-index-preserved c =
     let long : length part ≡ q.length =
     place_size q.length index c.args.blocks c.loop-index.codes c.loop-index-test.true size in
     let here : IsBlockOf q values index new block =
-    subst (λ (n : ℕ). IsBlockIn q.format (format_with k) q.round
+    subst (λ (n : ℕ). IsBlockIn q.rule q.format (format_with k) q.round
     (values_in k (width_in q) values (index * q.length) n) new block) long
-    (subst (λ (w : ℕ). IsBlockIn q.format (format_with k) q.round
+    (subst (λ (w : ℕ). IsBlockIn q.rule q.format (format_with k) q.round
     (values_in k w values (index * q.length) (length part)) new block) c.requires.width
     c.read-block.ensures) in
     rw c.add.ensures

@@ -1,7 +1,8 @@
-/* Calls the library from C for the rows of tests/c/nvfp4, which evidence/nvfp4_calls.py computes, and compares each
- * field of the answer. The columns, with tabs between them, are the call (quantize_nvfp4 or dequantize_nvfp4), the
- * format of 32 values, the mode, the scale of the tensor, the values, the scales of the blocks, the codes, how many
- * roundings raised INEXACT, UNDERFLOW and OVERFLOW, how many values are NaNs, and the flags. The program prints each
+/* Calls the library from C for the rows of tests/c/blocks, which evidence/block_calls.py computes, and compares each
+ * field of the answer. The columns, with tabs between them, are the call (quantize_blocks, quantize_nvfp4 or
+ * dequantize_nvfp4), the format of 32 values, the mode, the format of elements and the rule of scales, or the scale of
+ * the tensor, the values, the scales of the blocks, the codes, how many roundings raised INEXACT, UNDERFLOW and
+ * OVERFLOW, how many values are NaNs, and the flags. The program prints each
  * row that differs, how many of each call agree, and how many errors do. */
 #include "apfloat.h"
 #include "row_kinds.h"
@@ -12,7 +13,7 @@
 enum { VALUES = 32, BLOCK = 16 };
 
 struct given {
-    uint32_t format, mode, tensor;
+    uint32_t format, mode, tensor, element;
     uint8_t values[16 * VALUES], scales[VALUES], codes[VALUES];
     size_t width, blocks, length;
 };
@@ -43,6 +44,17 @@ static bool read_row(char *columns[], struct given *row) {
     row->format = format_of(columns[1]);
     row->mode = code_of(modes, COUNT(modes), columns[2]);
     row->tensor = (uint32_t)strtoul(columns[3], NULL, 16);
+    const char *rule = strchr(columns[3], '+');
+    if (rule) {
+        static const struct code elements[] = {{"e5m2", APFLOAT_E5M2}, {"e4m3fn", APFLOAT_E4M3FN},
+                                               {"e3m2fn", APFLOAT_E3M2FN}, {"e2m3fn", APFLOAT_E2M3FN},
+                                               {"e2m1fn", APFLOAT_E2M1FN}};
+        static const struct code rules[] = {{"floor", 0}, {"ceil", APFLOAT_SCALE_CEIL}, {"even", APFLOAT_SCALE_EVEN}};
+        char element[16] = "";
+        strncat(element, columns[3], (size_t)(rule - columns[3]) % sizeof element);
+        row->element = code_of(elements, COUNT(elements), element);
+        row->mode |= code_of(rules, COUNT(rules), rule + 1);
+    }
     if (read_bytes(columns[4], row->width, row->values) != VALUES) return false;
     row->blocks = read_bytes(columns[5], 1, row->scales);
     if (row->blocks == 0 || VALUES % row->blocks != 0) return false;
@@ -66,9 +78,13 @@ static bool is_quantized(char *columns[]) {
     uint8_t scales[VALUES], codes[VALUES];
     struct given row;
     apfloat_array_answer answer;
-    return read_row(columns, &row) &&
-           apfloat_quantize_nvfp4(row.format, row.mode, row.tensor, row.length, row.values, VALUES * row.width, scales,
-                                  row.blocks, codes, VALUES, &answer) == APFLOAT_ANSWERED &&
+    if (!read_row(columns, &row)) return false;
+    const bool is_nvfp4 = strcmp(columns[0], "quantize_nvfp4") == 0;
+    return (is_nvfp4 ? apfloat_quantize_nvfp4(row.format, row.mode, row.tensor, row.length, row.values,
+                                              VALUES * row.width, scales, row.blocks, codes, VALUES, &answer)
+                     : apfloat_quantize_blocks(row.format, row.mode, row.element, row.length, row.values,
+                                               VALUES * row.width, scales, row.blocks, codes, VALUES, &answer)) ==
+               APFLOAT_ANSWERED &&
            memcmp(scales, row.scales, row.blocks) == 0 && memcmp(codes, row.codes, VALUES) == 0 &&
            are_counts(&answer, columns);
 }
@@ -93,11 +109,18 @@ static unsigned refusals(void) {
     const uint32_t one = 0x3f800000, none = 0, minus_one = 0xbf800000, infinite = 0x7f800000, nan = 0x7fc00000;
 #define INTO(format, mode, tensor, length, given, many, room) \
     apfloat_quantize_nvfp4(format, mode, tensor, length, bytes, given, scales, many, codes, room, &answer)
+#define BY_RULE(mode) \
+    apfloat_quantize_blocks(APFLOAT_HALF, mode, APFLOAT_E5M2, BLOCK, bytes, 2 * BLOCK, scales, 1, codes, BLOCK, &answer)
 #define OUT_OF(tensor, mode, to, scale, many, from, given, room) \
     apfloat_dequantize_nvfp4(tensor, mode, to, BLOCK, scale, many, from, given, results, room, &answer)
     const uint32_t errors[][2] = {
         {INTO(0, 7, none, 0, 0, 0, 0), APFLOAT_UNKNOWN_FORMAT},
         {INTO(APFLOAT_HALF, APFLOAT_TO_ODD, none, 0, 0, 0, 0), APFLOAT_UNKNOWN_MODE},
+        {INTO(APFLOAT_HALF, APFLOAT_SCALE_CEIL, none, 0, 0, 0, 0), APFLOAT_UNKNOWN_MODE},
+        {BY_RULE(APFLOAT_SCALE_CEIL | APFLOAT_SCALE_EVEN), APFLOAT_UNKNOWN_MODE},
+        {BY_RULE(APFLOAT_SCALE_CEIL | APFLOAT_TO_ODD), APFLOAT_UNKNOWN_MODE},
+        {BY_RULE(2 * APFLOAT_SCALE_EVEN), APFLOAT_UNKNOWN_MODE},
+        {BY_RULE(APFLOAT_SCALE_EVEN | APFLOAT_SATURATE), APFLOAT_UNKNOWN_MODE},
         {INTO(APFLOAT_DOUBLE_PAIR, 0, none, 0, 0, 0, 0), APFLOAT_NO_SUCH_OPERATION},
         {INTO(APFLOAT_HALF, 0, none, 0, 2 * BLOCK, 1, BLOCK), APFLOAT_WRONG_LENGTH},
         {INTO(APFLOAT_HALF, 0, none, 3, 2 * BLOCK, 1, BLOCK), APFLOAT_WRONG_LENGTH},
@@ -127,7 +150,9 @@ static unsigned refusals(void) {
 }
 
 int main(void) {
-    struct row_kind kinds[] = {{"quantize_nvfp4", 10, is_quantized, 0}, {"dequantize_nvfp4", 10, is_dequantized, 0}};
+    struct row_kind kinds[] = {{"quantize_blocks", 10, is_quantized, 0},
+                               {"quantize_nvfp4", 10, is_quantized, 0},
+                               {"dequantize_nvfp4", 10, is_dequantized, 0}};
     count_rows(kinds, COUNT(kinds), NULL);
     printf("%u errors agree\n", refusals());
     return 0;

@@ -14,9 +14,8 @@ use Rattle.coded_calls.specs.declared.flagless_call.FlaglessCall.TheVariants.{Le
 use Rattle.coded_calls.specs.declared.flagless_call.FlaglessCall.TheVariants.{Maximum, QuietNan, SignalingNan, SignTest}
 use Rattle.coded_calls.specs.Answers.{whole}
 use Rattle.coded_calls.specs.FlaglessCalls.{IsFlagless, IsFlaglessAnswer, IsFlaglessKindAnswer, kind_without_rule}
-use Rattle.apfloat_c.specs.OneAnswer.{IsFlaglessReplyOnce}
-use Rattle.apfloat_c.proofs.ExportsOnce.{KindHasLaw, OnceAnswer, format_determined, given_once, unchanged}
-use Rattle.apfloat_c.proofs.ParsedOnce.{built_in_kind_law}
+use Rattle.coded_calls.specs.OneReply.{IsFlaglessReplyOnce}
+use Rattle.coded_calls.proofs.ExportsOnce.{KindHasLaw, OnceAnswer, built_in_kind_law, format_determined, given_once, unchanged}
 
 -- no value of a type is written as two numbers
 module _ {A : Type 0} (meaning : Meaning A) (order : A → A → Option Ordering)

@@ -1,17 +1,17 @@
 -- A format has one description.
-use Rattle.std.proofs.Common.{◌≡◌, ℕ, ◌-◌, ◌^◌, ◌<◌, ◌≤◌, Ok, Err, refl, sym, ◌∙◌, subst, arith, lit<, ⊎_elim}
+use Rattle.std.proofs.Common.{◌≡◌, ℕ, ◌-◌, ◌^◌, ◌<◌, ◌≤◌, refl, sym, ◌∙◌, arith, lit<, ⊎_elim}
 use Rattle.std.proofs.Math.Nat.{pow-le-pow_right}
 use Rattle.std.proofs.lemmas.Bool.{cases_lt}
 use Rattle.rustc_apfloat.specs.declared.Round.TheVariants.{NearestTiesToEven}
 use Rattle.rustc_apfloat.specs.Datum.{Datum}
-use Rattle.coded_calls.specs.declared.data.Halves.{Halves}
-use Rattle.coded_calls.specs.Answers.{whole}
 use Rattle.formats_at_run_time.specs.declared.BuiltInFormat.{BuiltInFormat}
 use Rattle.formats_at_run_time.specs.BuiltIns.{constants_in}
-use Rattle.apfloat_arrays.proofs.scaled_blocks_lemmas.FormatLaws.{built_in_law}
-use Rattle.apfloat_c.specs.declared.facts.Facts.{Facts}
-use Rattle.apfloat_c.specs.Facts.{AreFactsOnce, IsDigitCountToReadBack, IsEncoding, SameFacts}
-use Rattle.apfloat_c.proofs.ExportsOnce.{format_determined}
+use Rattle.formats_at_run_time.proofs.FormatLaws.{built_in_law}
+use Rattle.coded_calls.specs.declared.data.Halves.{Halves}
+use Rattle.coded_calls.specs.declared.facts.Facts.{Facts}
+use Rattle.coded_calls.specs.Answers.{whole}
+use Rattle.coded_calls.specs.Facts.{AreFacts, IsDigitCountToReadBack, IsEncoding, SameFacts}
+use Rattle.coded_calls.proofs.ExportsOnce.{format_determined}
 
 -- a datum has one encoding
 encoding_once : (format : BuiltInFormat) (datum : Datum) (first second : Halves)
@@ -43,7 +43,7 @@ count_once precision a b x y =
     let least = count_at_most precision b a y x in
     omega (arith, most, least)
 
-same_facts : (facts : Facts) → SameFacts facts facts
+pub same_facts : (facts : Facts) → SameFacts facts facts
 same_facts facts =
     record {
       largest = refl;
@@ -59,23 +59,20 @@ same_facts facts =
       nans = refl;
     }
 
-pub facts_once : AreFactsOnce
-facts_once (Err error) old a b code other x y =
-    (x.0 ∙ sym y.0, subst (λ (facts : Facts). SameFacts a facts) (x.1 ∙ sym y.1) (same_facts a))
-facts_once (Ok format) old a b code other x y = (
-  x.0 ∙ sym y.0,
-  record {
-    largest = encoding_once format _ a.largest b.largest x.1.largest y.1.largest;
-    smallest_normal = encoding_once format _ a.smallest_normal b.smallest_normal x.1.smallest_normal
-        y.1.smallest_normal;
-    smallest = encoding_once format _ a.smallest b.smallest x.1.smallest y.1.smallest;
-    bits = x.1.bits ∙ sym y.1.bits;
-    bytes = x.1.bytes ∙ sym y.1.bytes;
-    precision = x.1.precision ∙ sym y.1.precision;
-    least_exponent = x.1.least_exponent ∙ sym y.1.least_exponent;
-    greatest_exponent = x.1.greatest_exponent ∙ sym y.1.greatest_exponent;
-    decimal_digits = count_once _ a.decimal_digits b.decimal_digits x.1.decimal_digits y.1.decimal_digits;
-    has_infinities = x.1.has_infinities ∙ sym y.1.has_infinities;
-    nans = x.1.nans ∙ sym y.1.nans;
-  },
-)
+pub facts_of_once : (format : BuiltInFormat) (size : ℕ) (first second : Facts)
+    → AreFacts (constants_in format) size first → AreFacts (constants_in format) size second
+    → SameFacts first second
+facts_of_once format size a b x y =
+    record {
+      largest = encoding_once format _ a.largest b.largest x.largest y.largest;
+      smallest_normal = encoding_once format _ a.smallest_normal b.smallest_normal x.smallest_normal y.smallest_normal;
+      smallest = encoding_once format _ a.smallest b.smallest x.smallest y.smallest;
+      bits = x.bits ∙ sym y.bits;
+      bytes = x.bytes ∙ sym y.bytes;
+      precision = x.precision ∙ sym y.precision;
+      least_exponent = x.least_exponent ∙ sym y.least_exponent;
+      greatest_exponent = x.greatest_exponent ∙ sym y.greatest_exponent;
+      decimal_digits = count_once _ a.decimal_digits b.decimal_digits x.decimal_digits y.decimal_digits;
+      has_infinities = x.has_infinities ∙ sym y.has_infinities;
+      nans = x.nans ∙ sym y.nans;
+    }

@@ -9,16 +9,16 @@ use Rattle.ieee_operations.specs.augmented.Augmented.{IsAugmentedSum}
 use Rattle.formats_at_run_time.specs.declared.BuiltInFormat.{BuiltInFormat}
 use Rattle.formats_at_run_time.specs.BuiltIns.{constants_in}
 use Rattle.formats_at_run_time.specs.ValueKinds.{value_of}
-use Rattle.apfloat_arrays.proofs.scaled_blocks_lemmas.FormatLaws.{built_in_law}
+use Rattle.formats_at_run_time.proofs.FormatLaws.{built_in_law}
 use Rattle.coded_calls.specs.declared.data.Answer.{Answer}
 use Rattle.coded_calls.specs.declared.data.Halves.{Halves}
 use Rattle.coded_calls.specs.Answers.{whole}
 use Rattle.coded_calls.specs.declared.augmented.Augmentation.{Augmentation}
 use Rattle.coded_calls.specs.declared.augmented.Augmentation.TheVariants.{Sum, Difference, Product}
 use Rattle.coded_calls.specs.Augmented.{IsAugmentedBy, IsAugmentedCall, IsPayloadCall, KnownAugmentation, KnownPayload}
-use Rattle.apfloat_c.specs.Augmented.{AreAugmentedCallsOnce}
-use Rattle.apfloat_c.specs.OneAnswer.{SameAnswer}
-use Rattle.apfloat_c.proofs.ExportsOnce.{format_determined, unchanged}
+use Rattle.coded_calls.specs.OneReply.{AreAugmentedCallsOnce}
+use Rattle.coded_calls.specs.OneReply.{SameAnswer}
+use Rattle.coded_calls.proofs.ExportsOnce.{format_determined, unchanged}
 
 -- a datum has one encoding
 encoding_once : (format : BuiltInFormat) (datum other : Datum) (a b : ℕ) → datum ≡ other

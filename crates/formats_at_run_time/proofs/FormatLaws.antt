@@ -3,9 +3,9 @@ use Rattle.std.proofs.Common.{◌<◌, Bool, true}
 use Rattle.std.proofs.lemmas.Bool.{ltb-true}
 use Rattle.rustc_apfloat.specs.Lawful.{Constants, IsLawful}
 use Rattle.apfloat_model.proofs.formats.OtherFlags.{other_flags}
-use Rattle.formats_at_run_time.specs.declared.BuiltInFormat.{BuiltInFormat}
-use Rattle.formats_at_run_time.specs.declared.FlaggedFormat.{FlaggedFormat}
-use Rattle.formats_at_run_time.specs.declared.FlaggedFormat.TheVariants.{BuiltIn, AfterRounding, BeforeRounding}
+use Rattle.formats_at_run_time.specs.declared.built_in.BuiltInFormat.{BuiltInFormat}
+use Rattle.formats_at_run_time.specs.declared.flagged.FlaggedFormat.{FlaggedFormat}
+use Rattle.formats_at_run_time.specs.declared.flagged.FlaggedFormat.TheVariants.{BuiltIn, AfterRounding, BeforeRounding}
 use Rattle.formats_at_run_time.specs.BuiltIns.{constants_in, known_format}
 use Rattle.formats_at_run_time.specs.FlaggedKinds.{flagged_constants, format_of_ieee}
 

@@ -5,15 +5,15 @@ use Rattle.apfloat_model.proofs.Once.{conversion_once}
 use Rattle.formats_at_run_time.specs.BuiltIns.{constants_in}
 use Rattle.formats_at_run_time.specs.FlaggedKinds.{flagged_constants}
 use Rattle.formats_at_run_time.specs.ValueKinds.{value_of}
-use Rattle.apfloat_arrays.proofs.scaled_blocks_lemmas.FormatLaws.{format_law}
+use Rattle.formats_at_run_time.proofs.FormatLaws.{format_law}
 use Rattle.p3109_formats.specs.ModeLaws.{IsProjectedByOnce}
 use Rattle.p3109_formats.specs.Projections.{projected_datum, projected_format}
 use Rattle.coded_calls.specs.declared.p3109.P3109Call.{P3109Call}
 use Rattle.coded_calls.specs.declared.p3109.P3109Call.TheVariants.{Into, OutOf}
 use Rattle.coded_calls.specs.Answers.{one_if}
 use Rattle.coded_calls.specs.P3109.{IsP3109Answer}
-use Rattle.apfloat_c.specs.OneAnswer.{IsP3109ReplyOnce}
-use Rattle.apfloat_c.proofs.ExportsOnce.{OnceAnswer, converted_once, unchanged}
+use Rattle.coded_calls.specs.OneReply.{IsP3109ReplyOnce}
+use Rattle.coded_calls.proofs.ExportsOnce.{OnceAnswer, converted_once, unchanged}
 
 answer_once : IsProjectedByOnce → (call : P3109Call) → OnceAnswer (IsP3109Answer call)
 answer_once once (Into source mode target bits) a b x y =

@@ -23,20 +23,23 @@ use Rattle.apfloat_pair_theory.proofs.calls.PairsDetermined.{pairs_determined}
 use Rattle.apfloat_pair_theory.proofs.calls.PairsOnce.{wide_answer_once}
 use Rattle.coded_calls.specs.declared.data.Answer.{Answer}
 use Rattle.coded_calls.specs.declared.data.Halves.{Halves}
+use Rattle.formats_at_run_time.specs.declared.BuiltInKind.{BuiltInKind}
+use Rattle.formats_at_run_time.specs.declared.BuiltInKind.TheVariants.{OfFormat as OfBuiltIn, Pairs as PairsOfDoubles}
 use Rattle.formats_at_run_time.specs.declared.FlaggedKind.{FlaggedKind}
 use Rattle.formats_at_run_time.specs.declared.FlaggedKind.TheVariants.{OfFormat, Pairs}
+use Rattle.formats_at_run_time.specs.BuiltIns.{kind_of}
 use Rattle.formats_at_run_time.specs.FlaggedKinds.{flagged_kind_of}
 use Rattle.formats_at_run_time.specs.Relations.{Relations, in_format, in_pairs}
 use Rattle.formats_at_run_time.specs.ValueKinds.{Kind, of_format, of_pairs, value_of}
 use Rattle.formats_at_run_time.proofs.OfTwoOnce.{of_two_once}
-use Rattle.apfloat_arrays.proofs.scaled_blocks_lemmas.FormatLaws.{HasLaw, format_law}
+use Rattle.formats_at_run_time.proofs.FormatLaws.{HasLaw, built_in_law, format_law}
 use Rattle.coded_calls.specs.declared.exported_call.ExportedCall.{ExportedCall}
 use Rattle.coded_calls.specs.declared.exported_call.ExportedCall.TheVariants.{OfTwo, FusedSum, SquareRoot, FromUnsigned}
 use Rattle.coded_calls.specs.declared.exported_call.ExportedCall.TheVariants.{FromSigned, ToUnsigned, ToSigned}
 use Rattle.coded_calls.specs.declared.exported_call.ExportedCall.TheVariants.{RoundToIntegral, Scaling, Fraction}
 use Rattle.coded_calls.specs.declared.exported_call.ExportedCall.TheVariants.{Exponent, NextUp, NextDown, Comparison}
 use Rattle.coded_calls.specs.declared.exported_call.ExportedCall.TheVariants.{Class, Conversion, Text}
-use Rattle.apfloat_c.specs.OneAnswer.{SameAnswer}
+use Rattle.coded_calls.specs.OneReply.{SameAnswer}
 use Rattle.coded_calls.specs.KnownCalls.{fault_in, known_call, without}
 use Rattle.coded_calls.specs.Answers.{IsKindAnswer, IsConverted, IsConvertedInto, IsAnswerConverted, IsFractionOf}
 use Rattle.coded_calls.specs.Answers.{IsNumberAlone, IsReturned, IsSignedAnswer, IsTypeAnswer, IsUnsigned, IsUntold}
@@ -146,6 +149,10 @@ KindHasLaw of_pairs = ⊤
 pub kind_law : (known : FlaggedKind) → KindHasLaw (flagged_kind_of known)
 kind_law (OfFormat format) = format_law format
 kind_law Pairs = tt
+
+pub built_in_kind_law : (kind : BuiltInKind) → KindHasLaw (kind_of kind)
+built_in_kind_law (OfBuiltIn format) = built_in_law format
+built_in_kind_law PairsOfDoubles = tt
 
 -- ---- in a format
 

@@ -2,7 +2,7 @@ use Rattle.std.proofs.Common.{◌≡◌, ◌<◌, ◌∙◌, ◌+◌, ◌-◌, �
 use native.Mathlib.Numerals.{unary_clauses}
 use Rattle.std.proofs.Math.Nat.{mod-eq_of_lt}
 use Rattle.std.proofs.Math.Pow.{pow-lt}
-use Rattle.apfloat_c.proofs.facts.digits_to_read_back.Goals as goal
+use Rattle.coded_calls.proofs.facts.digits_to_read_back.Goals as goal
 
 pub returns : goal.returns
 returns c =

@@ -29,10 +29,10 @@ use Rattle.coded_calls.specs.declared.ieee_call.InAnotherCall.TheVariants.{SumTo
 use Rattle.coded_calls.specs.declared.ieee_call.InAnotherCall.TheVariants.{QuotientTo, FusedSumTo, RootTo}
 use Rattle.coded_calls.specs.Answers.{IsValue, one_if}
 use Rattle.coded_calls.specs.IeeeCalls.{IsExtremumBy, IsIeeeAnswer, IsInAnotherFormat, IsTruth}
-use Rattle.apfloat_c.specs.OneAnswer.{IsIeeeReplyOnce, IsInAnotherReplyOnce}
-use Rattle.apfloat_c.proofs.ExportsOnce.{OnceAnswer, format_determined, given_once, unchanged}
-use Rattle.apfloat_arrays.proofs.scaled_blocks_lemmas.FormatLaws.{HasLaw, format_law}
-use Rattle.apfloat_c.proofs.ExportsOnce.{value_once}
+use Rattle.coded_calls.specs.OneReply.{IsIeeeReplyOnce, IsInAnotherReplyOnce}
+use Rattle.coded_calls.proofs.ExportsOnce.{OnceAnswer, format_determined, given_once, unchanged}
+use Rattle.formats_at_run_time.proofs.FormatLaws.{HasLaw, format_law}
+use Rattle.coded_calls.proofs.ExportsOnce.{value_once}
 
 -- if a relation has one truth value with one status, it leaves one result
 truth_once : (Holds : StatusAnd Bool → Type 0) → Determines Holds → OnceAnswer (IsTruth Holds)

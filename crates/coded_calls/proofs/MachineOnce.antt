@@ -28,10 +28,10 @@ use Rattle.coded_calls.specs.declared.machine_call.MachineOperation.TheVariants.
 use Rattle.coded_calls.specs.declared.machine_call.MachineOperation.TheVariants.{IntegralExact, Integral, ToUnsigned}
 use Rattle.coded_calls.specs.declared.machine_call.MachineOperation.TheVariants.{ToSigned, Least, Greatest}
 use Rattle.coded_calls.specs.MachineCalls.{IsInteger, IsMachineAnswer, IsMachineCallAnswer, IsMachineOfTwo, format_on}
-use Rattle.apfloat_c.specs.OneAnswer.{IsMachineReplyOnce}
-use Rattle.apfloat_c.proofs.ExportsOnce.{OnceAnswer, unchanged}
-use Rattle.apfloat_arrays.proofs.scaled_blocks_lemmas.FormatLaws.{HasLaw, format_law}
-use Rattle.apfloat_c.proofs.IeeeOnce.{in_format_once}
+use Rattle.coded_calls.specs.OneReply.{IsMachineReplyOnce}
+use Rattle.coded_calls.proofs.ExportsOnce.{OnceAnswer, unchanged}
+use Rattle.formats_at_run_time.proofs.FormatLaws.{HasLaw, format_law}
+use Rattle.coded_calls.proofs.IeeeOnce.{in_format_once}
 
 -- an operation on two values has one value and one status
 of_two_once : (f : Format) (machine : Machine) (arithmetic : Arithmetic) (mode : Round) (x y : Datum)

@@ -1,4 +1,4 @@
-// Makes the calls of tests/c/nvfp4 from C++ (tests/c/check_nvfp4.c has what its columns say), and compares their
+// Makes the calls of tests/c/blocks from C++ (tests/c/check_blocks.c has what its columns say), and compares their
 // results. Prints each row that differs, and then how many agree. Rows of x87, whose values have padding, and of blocks
 // of other lengths have no call.
 #include "rows.hpp"
@@ -41,9 +41,35 @@ bool are_counts(const expected<array_counts> &counts, const row &r) {
            counts->nans == std::stoull(r[8]) && counts->status.names() == r[9];
 }
 
+template <class F, class Code>
+bool agrees_in_blocks(const row &r, rounding mode, scale_rule rule) {
+    const auto values = values_of<value<F>>(r[4]);
+    const auto scales = values_of<stored<e8m0fnu>>(r[5]);
+    const auto codes = values_of<Code>(r[6]);
+    std::vector<stored<e8m0fnu>> by(scales.size());
+    std::vector<Code> made(codes.size());
+    const auto counts = quantize_blocks(values.data(), values.size(), values.size() / scales.size(), by.data(),
+                                        made.data(), mode, rule);
+    return are_counts(counts, r) && are_same(by, scales) && are_same(made, codes);
+}
+
+template <class F>
+bool agrees_by_rule(const row &r, rounding mode) {
+    const auto words = rows::split(r[3], '+');
+    const auto rule = words[1] == "floor" ? scale_rule::floor
+                      : words[1] == "ceil" ? scale_rule::ceil
+                                           : scale_rule::even;
+    if (words[0] == "e5m2") return agrees_in_blocks<F, value<e5m2>>(r, mode, rule);
+    if (words[0] == "e4m3fn") return agrees_in_blocks<F, value<e4m3fn>>(r, mode, rule);
+    if (words[0] == "e3m2fn") return agrees_in_blocks<F, stored<e3m2fn>>(r, mode, rule);
+    if (words[0] == "e2m3fn") return agrees_in_blocks<F, stored<e2m3fn>>(r, mode, rule);
+    return words[0] == "e2m1fn" && agrees_in_blocks<F, stored<e2m1fn>>(r, mode, rule);
+}
+
 template <class F>
 bool agrees_in(const row &r) {
     const auto mode = rows::mode_of(r[2]).value();
+    if (r[0] == "quantize_blocks") return agrees_by_rule<F>(r, mode);
     const auto tensor = value<binary32>::from_bits(word_of(r[3]));
     const auto values = values_of<value<F>>(r[4]);
     const auto scales = values_of<value<e4m3fn>>(r[5]);
@@ -108,6 +134,6 @@ int main() {
         else all = false, std::cout << line << '\n';
     }
     if (!is_right()) all = false, std::cout << "a call that no row has\n";
-    std::cout << agreeing << " rows of NVFP4 agree\n";
+    std::cout << agreeing << " rows of blocks agree\n";
     return all && agreeing > 0 ? 0 : 1;
 }
