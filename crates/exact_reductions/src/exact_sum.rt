@@ -1,7 +1,8 @@
 //! A sum in progress, which takes its terms one after another.
 
 ghost use Rattle.std.specs.Prelude.{◌≡◌, ◌+◌, ◌*◌, ◌/◌, ◌^◌, ◌<◌, ◌≤◌, false, true, length};
-ghost use Rattle.apfloat_model.specs.arithmetic.Products.{product};
+ghost use Rattle.apfloat_model.specs.arithmetic.Products.{product, IsProduct};
+ghost use Rattle.apfloat_model.specs.declared.kinds.Round.TheVariants.{TowardZero};
 ghost use Rattle.apfloat_model.specs.order.Classes.{is_finite};
 ghost use Rattle.apfloat_model.specs.rounding.Flags.{Gives, bits_of};
 ghost use Rattle.apfloat_ieee.specs.FlaggedTypes.{format_of};
@@ -72,6 +73,14 @@ fn first_of<S: Flagged>(
         Some(nan) => Some(nan),
         None => later,
     }
+}
+
+/// A product that is an infinity or a NaN, apart from the steps of each term.
+#[cold]
+fn special_product<S: Flagged>(x: IeeeFloat<S>, y: IeeeFloat<S>) -> StatusAnd<IeeeFloat<S>>
+    ensures { Gives (IsProduct (format_of S.Flagged) TowardZero x y) result }
+{
+    x.wide_mul_r(y, Round::TowardZero)
 }
 
 impl<S: Flagged, const WORDS: usize> ExactSum<S, WORDS> {
@@ -181,7 +190,7 @@ impl<S: Flagged, const WORDS: usize> ExactSum<S, WORDS> {
                 self.add_wide_number(negative, product, place);
             }
         } else {
-            self.add_special(x.wide_mul_r(y, Round::TowardZero));
+            self.add_special(special_product(x, y));
         }
     }
 

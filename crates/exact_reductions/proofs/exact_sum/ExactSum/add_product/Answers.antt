@@ -145,8 +145,8 @@ add_special-requires g c =
     let special : (is_finite c.args.x && is_finite c.args.y) ≡ false = rw (left, right) at c.if-finite.false in (
       sum_size g.row.WORDS c.requires.format.few,
       (
-        (special_product (format_of g.S.Flagged) TowardZero c.args.x c.args.y c.wide_mul_r.result.value
-            (bits_of c.wide_mul_r.result.status) special c.wide_mul_r.ensures).special,
+        (special_product (format_of g.S.Flagged) TowardZero c.args.x c.args.y c.special_product.result.value
+            (bits_of c.special_product.result.status) special c.special_product.ensures).special,
         c.requires.room,
       ),
     )
@@ -156,6 +156,6 @@ returns-else-finite g c =
     let left : c.is_finite.result ≡ is_finite c.args.x = c.is_finite.ensures ∙ finite_agrees c.args.x in
     let right : c.is_finite-2.result ≡ is_finite c.args.y = c.is_finite-2.ensures ∙ finite_agrees c.args.y in
     let special : (is_finite c.args.x && is_finite c.args.y) ≡ false = rw (left, right) at c.if-finite.false in
-    let same = (special_product (format_of g.S.Flagged) TowardZero c.args.x c.args.y c.wide_mul_r.result.value
-    (bits_of c.wide_mul_r.result.status) special c.wide_mul_r.ensures).same in
+    let same = (special_product (format_of g.S.Flagged) TowardZero c.args.x c.args.y c.special_product.result.value
+    (bits_of c.special_product.result.status) special c.special_product.ensures).same in
     c.add_special.ensures ∙ ap (λ (t : Tally). joined c.args.self.now t) same
