@@ -128,10 +128,11 @@ pub struct ExactSum<S: Semantics, const WORDS: usize = NARROW>(library::ExactSum
 ///
 /// ```
 /// use rustc_apfloat::reductions::WideSum;
-/// use rustc_apfloat::{Float, Round, ieee::QuadS};
+/// use rustc_apfloat::ieee::{Quad, QuadS};
+/// use rustc_apfloat::{Float, Round};
 ///
 /// let mut sum = WideSum::<QuadS>::wide();
-/// let [large, small] = ["1e4900", "1e-4900"].map(|text| text.parse().unwrap());
+/// let [large, small] = ["1e4900", "1e-4900"].map(|text| text.parse::<Quad>().unwrap());
 /// for x in [large, small, -large] {
 ///     sum.add_product(x, x.abs());
 /// }
