@@ -32,7 +32,8 @@ static bool read_array(char *words, uint32_t format, struct array *array) {
     array->length = 0;
     for (char *word = strtok(words, " "); word && strcmp(word, "-") != 0; word = strtok(NULL, " ")) {
         if (array->length + width > MOST || !read_integer(word, 16, &bits)) return false;
-        for (size_t n = 0; n < width; n++) array->bytes[array->length++] = (uint8_t)(bits.low >> 8 * n);
+        for (size_t n = 0; n < width; n++)
+            array->bytes[array->length++] = (uint8_t)((n < 8 ? bits.low : bits.high) >> 8 * (n % 8));
     }
     return true;
 }
