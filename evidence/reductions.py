@@ -25,7 +25,10 @@ KINDS = (
     "e5m2 e5m2+ieee e4m3fn e4m3fn+ieee+before e4m3fnuz tf32+ieee"
 ).split()
 
-# A user's format with as many digits as sums allow, and the exponents of double.
+# The formats whose sums have most words.
+WIDE_KINDS = "x87 quad quad+ieee".split()
+
+# A user's format with as many digits as short sums allow, and the exponents of double.
 OWN = Format("own75", 75, 11, 64, -1022, 1023)
 
 CALLS = ("sum", "sum_abs", "sum_square", "dot")
@@ -119,9 +122,9 @@ def word(form, negative, quanta):
 
 
 def filled(form):
-    """Numbers whose digits together are all ones, from the quantum up, and the next power of two."""
+    """At most 40 numbers whose digits together are all ones, from the quantum up, and the next power of two."""
     step = form.precision
-    places = range(0, form.largest.bit_length() - step, step)
+    places = range(0, form.largest.bit_length() - step, step)[:40]
     return [word(form, False, (1 << step) - 1 << place) for place in places], 1 << places[-1] + step
 
 
@@ -319,7 +322,7 @@ def rows(form, random):
 def main():
     random = Random(9)
     print("# Sums and dot products, rounded once. Computed by evidence/reductions.py.")
-    for form in (*[FORMATS[kind] for kind in KINDS], OWN):
+    for form in (*[FORMATS[kind] for kind in KINDS], OWN, *[FORMATS[kind] for kind in WIDE_KINDS]):
         print("\n".join(rows(form, random)))
 
 

@@ -790,9 +790,9 @@ APFLOAT_INLINE apfloat_error apfloat_map_array_in_place(apfloat_format format, a
  * +0, or -0 with APFLOAT_DOWNWARD, but the sum of zeros of one sign keeps it. The first term that is a NaN is the sum,
  * quieted, also beside an infinity; the product of an infinity and a zero is such a term, without a payload.
  * APFLOAT_INVALID_OP is raised if a NaN was signaling or a product invalid, and for infinities of both signs, whose
- * sum is the quiet NaN without a payload. The formats are those of at most 64 bits: APFLOAT_QUAD, APFLOAT_X87 and
- * APFLOAT_DOUBLE_PAIR have no exact sums (APFLOAT_NO_SUCH_OPERATION). APFLOAT_WRONG_LENGTH says that an array ends
- * inside a value, or that two have different lengths. */
+ * sum is the quiet NaN without a payload. APFLOAT_DOUBLE_PAIR has no exact sums (APFLOAT_NO_SUCH_OPERATION).
+ * APFLOAT_WRONG_LENGTH says that an array ends inside a value, or that two have different lengths. A sum in
+ * APFLOAT_QUAD or APFLOAT_X87 takes less than 100 KB of stack. */
 
 /* The sum of the values, of their magnitudes, and of their squares. */
 apfloat_error apfloat_sum(apfloat_format format, apfloat_mode mode, const uint8_t *xs, size_t xs_length,

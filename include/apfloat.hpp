@@ -2850,7 +2850,7 @@ namespace detail {
 template <class F, class... Parameters, class... Arrays>
 expected<result<value<F>>> exact_sum(apfloat_error (*call)(Parameters...), rounding mode, bool is_missing,
                                      Arrays... arrays) noexcept {
-    static_assert(!F::is_pair && F::width <= 64, "exact sums are of formats of at most 64 bits");
+    static_assert(!F::is_pair, "pairs of doubles have no exact sums");
     if (!has_lowest_byte_first()) return errc::no_such_operation;
     apfloat_answer answer = {{0, 0}, 0, 0};
     const apfloat_error code = call(F::code, code_of(mode), arrays..., &answer);
@@ -2870,9 +2870,8 @@ expected<result<value<F>>> exact_sum_of_one(apfloat_error (*call)(Parameters...)
 } // namespace detail
 
 /// The sum of `count` values, of their magnitudes, or of their squares: the exact sum, rounded once, whatever their
-/// order (IEEE 754-2019 9.4; apfloat.h says what NaNs, infinities and zeros give). The formats have at most 64 bits. If
-/// `xs` is null and `count` is not 0, the error is wrong_length, and on a processor that stores the highest byte first
-/// it is no_such_operation.
+/// order (IEEE 754-2019 9.4; apfloat.h says what NaNs, infinities and zeros give). If `xs` is null and `count` is not
+/// 0, the error is wrong_length, and on a processor that stores the highest byte first it is no_such_operation.
 template <class F>
 expected<result<value<F>>> sum(const value<F> *xs, std::size_t count,
                                rounding mode = rounding::nearest_even) noexcept {

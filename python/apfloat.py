@@ -2706,7 +2706,7 @@ class Array(_Numbers, _Arithmetic[Any]):
     def sum(self, axis: int | None = None, dtype: None = None, out: None = None) -> Any:
         """The sum of the values, of all or along an axis: the exact sum, rounded once, whatever their order.
 
-        That of none is 0. Formats of more than 64 bits have no such sums. numpy passes `dtype` and `out`, as None.
+        That of none is 0. `double_pair` has no such sums. numpy passes `dtype` and `out`, as None.
 
         >>> xs = half.array([[65504, 1, -65504], [0.5, 0.25, 8]])
         >>> xs.sum(), xs.sum(axis=1), xs.sum_square(axis=0)[2]

@@ -1240,7 +1240,7 @@ class TensorTests(unittest.TestCase):
 
     def test_sums_along_axes(self):
         draw = random.Random(17)
-        for format in apfloat.half, apfloat.e5m2, apfloat.double.ieee:
+        for format in apfloat.half, apfloat.e5m2, apfloat.double.ieee, apfloat.x87:
             xs = format.array([[draw.randint(-9, 9) / 4 for _ in range(4)] for _ in range(3)])
             ys = format.array([[draw.randint(-9, 9) / 4 for _ in range(2)] for _ in range(4)])
             rows = [list(map(float, row)) for row in xs.tolist()]
@@ -1258,14 +1258,13 @@ class TensorTests(unittest.TestCase):
         for wrong in ([1, 2], [[1, 2]], 2, 'text'):
             with self.assertRaises((ValueError, TypeError)):
                 apfloat.half.array([1, 2, 3]) @ wrong
-        for format in apfloat.quad, apfloat.x87, apfloat.double_pair:
-            for call in 'sum', 'sum_abs', 'sum_square', 'mean':
-                with self.assertRaises(apfloat.Refused):
-                    getattr(format.array([1, 2]), call)()
+        for call in 'sum', 'sum_abs', 'sum_square', 'mean':
+            with self.assertRaises(apfloat.Refused):
+                getattr(apfloat.double_pair.array([1, 2]), call)()
 
     def test_means(self):
         draw = random.Random(19)
-        for format in apfloat.half, apfloat.bfloat, apfloat.e4m3fn, apfloat.single, apfloat.double.ieee:
+        for format in apfloat.half, apfloat.bfloat, apfloat.e4m3fn, apfloat.single, apfloat.double.ieee, apfloat.quad:
             for mode in MODES:
                 xs = format.array([draw.uniform(-8, 8) * 2.0 ** draw.randint(-3, 3) for _ in range(draw.randint(1, 9))])
                 exact = sum((value._fraction() for value in xs), Fraction()) / len(xs)

@@ -2,7 +2,7 @@
 //! is also taken in other orders, and in parts that are joined.
 
 use rustc_apfloat::ieee::*;
-use rustc_apfloat::reductions::{self, ExactSum, LengthsDiffer};
+use rustc_apfloat::reductions::{self, LengthsDiffer, WideSum};
 use rustc_apfloat::{ExpInt, Float, Round, Status, StatusAnd};
 use std::fs;
 use std::path::Path;
@@ -34,8 +34,8 @@ impl<S: Semantics> Reduction<'_, S> {
     }
 
     /// The sum of the terms at these places, one after another.
-    fn part(&self, places: impl Iterator<Item = usize>) -> ExactSum<S> {
-        let mut sum = ExactSum::default();
+    fn part(&self, places: impl Iterator<Item = usize>) -> WideSum<S> {
+        let mut sum = WideSum::default();
         for i in places {
             match self.call {
                 "sum" => sum.add(self.x[i]),
@@ -78,7 +78,7 @@ fn flags(names: &str) -> Status {
     names.split('|').map(|name| Status::from_name(name).unwrap()).collect()
 }
 
-/// A format of the most digits that sums have.
+/// A format of the most digits that short sums have.
 struct Own75S;
 
 impl Semantics for Own75S {
@@ -86,7 +86,7 @@ impl Semantics for Own75S {
     const EXP_BITS: usize = 11;
 }
 
-/// A format of the most digits and exponents that sums have.
+/// A format of the most digits and exponents that short sums have.
 struct LimitS;
 
 impl Semantics for LimitS {
@@ -149,6 +149,8 @@ fn rows_of_reductions() {
             "e4m3fnuz": Float8E4M3FNUZS,
             "tf32": FloatTF32S,
             "own75": Own75S,
+            "x87": X87DoubleExtendedS,
+            "quad": QuadS,
         }
     });
     let differences: Vec<String> = differences.collect();
@@ -156,9 +158,9 @@ fn rows_of_reductions() {
     assert!(rows.len() > 2000);
 }
 
-/// The built-in formats of at most 64 bits have these calls, with each rule of flags.
+/// The built-in formats have these calls, with each rule of flags.
 #[test]
-fn every_small_format() {
+fn every_format() {
     fn check<S: Semantics>() {
         let one = IeeeFloat::<S>::from_u128(1).value;
         let two = Status::OK.and(IeeeFloat::from_u128(2).value);
@@ -175,7 +177,7 @@ fn every_small_format() {
     }
     check_all! {
         HalfS SingleS DoubleS BFloatS Float8E5M2S Float8E4M3FNS Float8E4M3FNUZS Float8E4M3S Float8E5M2FNUZS
-        Float8E4M3B11FNUZS FloatTF32S
+        Float8E4M3B11FNUZS FloatTF32S X87DoubleExtendedS QuadS
     }
 }
 

@@ -32,7 +32,8 @@ static bool read_array(char *words, uint32_t format, struct array *array) {
     array->length = 0;
     for (char *word = strtok(words, " "); word && strcmp(word, "-") != 0; word = strtok(NULL, " ")) {
         if (array->length + width > MOST || !read_integer(word, 16, &bits)) return false;
-        for (size_t n = 0; n < width; n++) array->bytes[array->length++] = (uint8_t)(bits.low >> 8 * n);
+        for (size_t n = 0; n < width; n++)
+            array->bytes[array->length++] = (uint8_t)((n < 8 ? bits.low : bits.high) >> 8 * (n % 8));
     }
     return true;
 }
@@ -76,8 +77,8 @@ static unsigned refusals(void) {
         {apfloat_sum(APFLOAT_E2M1FN, 0, bytes, 1, &answer), APFLOAT_UNKNOWN_FORMAT},
         {apfloat_sum_abs(APFLOAT_QUAD, 5, bytes, 1, &answer), APFLOAT_UNKNOWN_MODE},
         {apfloat_sum_square(APFLOAT_HALF, APFLOAT_SATURATE, bytes, 2, &answer), APFLOAT_UNKNOWN_MODE},
-        {apfloat_sum(APFLOAT_QUAD, 0, bytes, 16, &answer), APFLOAT_NO_SUCH_OPERATION},
-        {apfloat_sum_abs(APFLOAT_X87 | APFLOAT_IEEE_FLAGS, 0, bytes, 10, &answer), APFLOAT_NO_SUCH_OPERATION},
+        {apfloat_sum(APFLOAT_QUAD, 0, bytes, 8, &answer), APFLOAT_WRONG_LENGTH},
+        {apfloat_sum_abs(APFLOAT_DOUBLE_PAIR, 0, bytes, 16, &answer), APFLOAT_NO_SUCH_OPERATION},
         {apfloat_dot(APFLOAT_DOUBLE_PAIR, 0, bytes, 1, bytes, 2, &answer), APFLOAT_NO_SUCH_OPERATION},
         {apfloat_sum(APFLOAT_HALF, 0, bytes, 3, &answer), APFLOAT_WRONG_LENGTH},
         {apfloat_sum_square(APFLOAT_TF32, 0, bytes, 6, &answer), APFLOAT_WRONG_LENGTH},

@@ -64,15 +64,16 @@ int main() {
     if (!all) std::cout << "a call that has to be refused\n";
     for (std::string line; std::getline(std::cin, line);) {
         const auto columns = rows::split(line, '\t');
-        // Slices of two lengths are none of a count, and the format of a user has no name.
+        // Slices of two lengths are none of a count, the format of a user has no name, and values of x87 have padding.
         if (line[0] == '#' || columns.at(4) == "LengthsDiffer") continue;
-        bool found = false;
+        bool found = false, has_padding = false;
         const bool is_known = rows::with_format(columns.at(1), [&](auto format) {
             using F = typename decltype(format)::format;
-            if constexpr (!F::is_pair && F::width <= 64) found = agrees<F>(columns);
+            if constexpr (!F::is_pair && F::width != 80) found = agrees<F>(columns);
+            else has_padding = true;
         });
         if (found) agreeing++;
-        else if (is_known) all = false, std::cout << line << '\n';
+        else if (is_known && !has_padding) all = false, std::cout << line << '\n';
     }
     std::cout << agreeing << " rows of exact sums agree\n";
     return all && agreeing > 0 ? 0 : 1;

@@ -27,7 +27,7 @@ use Rattle.formats_at_run_time.specs.declared.FlaggedFormat.TheVariants.{BuiltIn
 use Rattle.formats_at_run_time.specs.declared.FlaggedKind.{FlaggedKind}
 use Rattle.formats_at_run_time.specs.declared.FlaggedKind.TheVariants.{OfFormat, Pairs}
 use Rattle.formats_at_run_time.specs.BuiltIns.{constants_in}
-use Rattle.formats_at_run_time.specs.FlaggedKinds.{flagged_constants, format_of_ieee, format_without_rule}
+use Rattle.formats_at_run_time.specs.FlaggedKinds.{flagged_constants, format_of_ieee}
 use Rattle.formats_at_run_time.specs.Relations.{in_format}
 use Rattle.formats_at_run_time.specs.ValueKinds.{value_of}
 use Rattle.apfloat_arrays.specs.Blocks.{value_at}
@@ -40,42 +40,39 @@ use Rattle.apfloat_c.specs.declared.reductions.Reduction.{Reduction}
 use Rattle.apfloat_c.specs.declared.reductions.Reduction.TheVariants.{Sum, Magnitudes, Products}
 use Rattle.apfloat_c.specs.ArrayCalls.{bytes_in}
 use Rattle.apfloat_c.specs.Reductions.{IsReducedArray, IsReducedCall, IsReducedCallOnce, IsReducedIn, IsReductionOf}
-use Rattle.apfloat_c.specs.Reductions.{fitting_sum, has_exact_sums, known_reduction, sums_fit, term_of, values_from}
+use Rattle.apfloat_c.specs.Reductions.{fitting_sum, known_reduction, sums_fit, term_of, values_from}
 use Rattle.apfloat_c.proofs.ArrayCalls.{if_fitting_ok}
 use Rattle.coded_calls.proofs.ExportsOnce.{OnceAnswer, format_determined, unchanged, value_once}
 
--- ---- the formats of at most 64 bits
+-- ---- the formats
 
-reducible_built_in : (format : BuiltInFormat) → has_exact_sums format ≡ true
-    → IsReducible (format_with (constants_in format))
-reducible_built_in Half e = record { short = lit≤ tt; narrow = lit≤ tt }
-reducible_built_in Single e = record { short = lit≤ tt; narrow = lit≤ tt }
-reducible_built_in Double e = record { short = lit≤ tt; narrow = lit≤ tt }
-reducible_built_in Quad e = absurd (false≢true e)
-reducible_built_in BFloat e = record { short = lit≤ tt; narrow = lit≤ tt }
-reducible_built_in E5M2 e = record { short = lit≤ tt; narrow = lit≤ tt }
-reducible_built_in E4M3FN e = record { short = lit≤ tt; narrow = lit≤ tt }
-reducible_built_in E4M3FNUZ e = record { short = lit≤ tt; narrow = lit≤ tt }
-reducible_built_in X87 e = absurd (false≢true e)
-reducible_built_in E4M3 e = record { short = lit≤ tt; narrow = lit≤ tt }
-reducible_built_in E5M2FNUZ e = record { short = lit≤ tt; narrow = lit≤ tt }
-reducible_built_in E4M3B11FNUZ e = record { short = lit≤ tt; narrow = lit≤ tt }
-reducible_built_in TF32 e = record { short = lit≤ tt; narrow = lit≤ tt }
+reducible_built_in : (format : BuiltInFormat) → IsReducible (format_with (constants_in format))
+reducible_built_in Half = record { room = lit≤ tt; few = lit≤ tt }
+reducible_built_in Single = record { room = lit≤ tt; few = lit≤ tt }
+reducible_built_in Double = record { room = lit≤ tt; few = lit≤ tt }
+reducible_built_in Quad = record { room = lit≤ tt; few = lit≤ tt }
+reducible_built_in BFloat = record { room = lit≤ tt; few = lit≤ tt }
+reducible_built_in E5M2 = record { room = lit≤ tt; few = lit≤ tt }
+reducible_built_in E4M3FN = record { room = lit≤ tt; few = lit≤ tt }
+reducible_built_in E4M3FNUZ = record { room = lit≤ tt; few = lit≤ tt }
+reducible_built_in X87 = record { room = lit≤ tt; few = lit≤ tt }
+reducible_built_in E4M3 = record { room = lit≤ tt; few = lit≤ tt }
+reducible_built_in E5M2FNUZ = record { room = lit≤ tt; few = lit≤ tt }
+reducible_built_in E4M3B11FNUZ = record { room = lit≤ tt; few = lit≤ tt }
+reducible_built_in TF32 = record { room = lit≤ tt; few = lit≤ tt }
 
-pub reducible : (format : FlaggedFormat) → has_exact_sums (format_without_rule format) ≡ true
-    → IsReducible (format_with (flagged_constants format))
-reducible (BuiltIn format) e = reducible_built_in format e
-reducible (AfterRounding format) e =
-    let plain = reducible_built_in (format_of_ieee format) e in
-    record { short = plain.short; narrow = plain.narrow }
-reducible (BeforeRounding format) e =
-    let plain = reducible_built_in (format_of_ieee format) e in
-    record { short = plain.short; narrow = plain.narrow }
+pub reducible : (format : FlaggedFormat) → IsReducible (format_with (flagged_constants format))
+reducible (BuiltIn format) = reducible_built_in format
+reducible (AfterRounding format) =
+    let plain = reducible_built_in (format_of_ieee format) in
+    record { room = plain.room; few = plain.few }
+reducible (BeforeRounding format) =
+    let plain = reducible_built_in (format_of_ieee format) in
+    record { room = plain.room; few = plain.few }
 
 -- ---- calls that are not refused
 
 pub record IsKnownReduction (first second : ℕ) (known : KnownReduction) : Type 0 where
-  pub has : has_exact_sums (format_without_rule known.format) ≡ true
   pub whole : first ≡ first / bytes_in (OfFormat known.format) * bytes_in (OfFormat known.format)
   pub same : second ≡ first
 
@@ -85,17 +82,14 @@ whole_of first width e =
     let all : first / width * width + first % width ≡ first = div-add-mod' first width in
     omega arith
 
-known_if : (format : FlaggedFormat) (mode : Round) (first second : ℕ) (known : KnownReduction) (has : Bool)
-    → has_exact_sums (format_without_rule format) ≡ has
-    → (ok_or (if has then Some format else None) no_such_operation >>= fitting_sum mode first second) ≡ Ok known
-    → IsKnownReduction first second known
-known_if format mode first second known false has e = absurd (cc)
-known_if format mode first second known true has e =
+known_if : (format : FlaggedFormat) (mode : Round) (first second : ℕ) (known : KnownReduction)
+    → fitting_sum mode first second format ≡ Ok known → IsKnownReduction first second known
+known_if format mode first second known e =
     let both = if_fitting_ok (sums_fit (bytes_in (OfFormat format)) first second)
     (record { format = format; round = mode }) known e in
     let parts = and_parts (first % bytes_in (OfFormat format) == 0) _ both.0 in
     subst (λ (k : KnownReduction). IsKnownReduction first second k) both.1
-    (record { has = has; whole = whole_of first _ parts.0; same = eqb-true _ _ parts.1 })
+    (record { whole = whole_of first _ parts.0; same = eqb-true _ _ parts.1 })
 
 pub reduction_is_known : (kind : Option FlaggedKind) (mode : Option Round) (first second : ℕ) (known : KnownReduction)
     → known_reduction kind mode first second ≡ Ok known → IsKnownReduction first second known
@@ -103,7 +97,7 @@ reduction_is_known None mode first second known e = absurd (cc)
 reduction_is_known (Some kind) None first second known e = absurd (cc)
 reduction_is_known (Some Pairs) (Some mode) first second known e = absurd (cc)
 reduction_is_known (Some (OfFormat format)) (Some mode) first second known e =
-    known_if format mode first second known (has_exact_sums (format_without_rule format)) refl e
+    known_if format mode first second known e
 
 pub reduced_call : (reduction : Reduction) (call : Result KnownReduction ℕ) (known : KnownReduction) (width : ℕ)
     (xs ys : List ℕ) (old new : Answer) → width ≡ bytes_in (OfFormat known.format) → call ≡ Ok known

@@ -10,12 +10,10 @@ use Rattle.rustc_apfloat.specs.Lawful.{Constants, format_with}
 use Rattle.apfloat_model.specs.rounding.Outcome.{Outcome}
 use Rattle.apfloat_model.specs.arithmetic.Products.{product}
 use Rattle.exact_reductions.specs.Reductions.{IsDot, IsSumOf, IsSumOfMagnitudes, magnitude_of, value_term}
-use Rattle.formats_at_run_time.specs.declared.BuiltInFormat.{BuiltInFormat}
-use Rattle.formats_at_run_time.specs.declared.BuiltInFormat.TheVariants.{Quad, X87}
 use Rattle.formats_at_run_time.specs.declared.FlaggedFormat.{FlaggedFormat}
 use Rattle.formats_at_run_time.specs.declared.FlaggedKind.{FlaggedKind}
 use Rattle.formats_at_run_time.specs.declared.FlaggedKind.TheVariants.{OfFormat, Pairs}
-use Rattle.formats_at_run_time.specs.FlaggedKinds.{flagged_constants, format_without_rule}
+use Rattle.formats_at_run_time.specs.FlaggedKinds.{flagged_constants}
 use Rattle.formats_at_run_time.specs.Relations.{in_format}
 use Rattle.formats_at_run_time.specs.ValueKinds.{value_of}
 use Rattle.apfloat_arrays.specs.Blocks.{value_at}
@@ -31,15 +29,10 @@ use Rattle.coded_calls.specs.OneReply.{SameAnswer}
 
 -- ---- what a call asks for
 
--- the formats of at most 64 bits
-abbrev pub has_exact_sums : BuiltInFormat → Bool
-has_exact_sums Quad = false
-has_exact_sums X87 = false
-has_exact_sums format = true
-
+-- every format but pairs of doubles
 abbrev pub reducible_format : FlaggedKind → Option FlaggedFormat
 reducible_format Pairs = None
-reducible_format (OfFormat format) = if has_exact_sums (format_without_rule format) then Some format else None
+reducible_format (OfFormat format) = Some format
 
 -- an integral number of values, and as many bytes in a second array
 abbrev pub sums_fit : ℕ → ℕ → ℕ → Bool

@@ -4,22 +4,22 @@
 ghost use Rattle.std.specs.Prelude.{◌≡◌, ◌+◌, ◌*◌, ◌^◌, ◌<◌, ◌≤◌, length, pos};
 ghost use Rattle.rustc_apfloat.specs.FlaggedTypes.{constants_of, format_of};
 ghost use Rattle.rustc_apfloat.specs.Lawful.{format_with};
-ghost use Rattle.exact_reductions.specs.Reductions.{IsReducible, joined, tally_of};
+ghost use Rattle.exact_reductions.specs.Reductions.{IsReducible, IsSummable, joined, tally_of};
 ghost use Rattle.formats_at_run_time.specs.FlaggedKinds.{flagged_kind_coded};
 ghost use Rattle.formats_at_run_time.specs.FormatKinds.{IfFormat};
 ghost use Rattle.formats_at_run_time.specs.Modes.{mode_coded};
 ghost use Rattle.formats_at_run_time.specs.Relations.{in_format};
 ghost use Rattle.coded_calls.specs.Answers.{IsValueWritten};
 ghost use Rattle.apfloat_c.specs.declared.reductions.Reduction.TheVariants.{Sum, Magnitudes, Products};
-ghost use Rattle.apfloat_c.specs.Reductions.{IsReducedCall, IsReducedCallOnce, IsReducedIn, has_exact_sums};
+ghost use Rattle.apfloat_c.specs.Reductions.{IsReducedCall, IsReducedCallOnce, IsReducedIn};
 ghost use Rattle.apfloat_c.specs.Reductions.{known_reduction, reducible_format, sums_fit, term_of, values_from};
 
 use crate::array_calls::bytes_in;
 use crate::elements::number_at;
 use coded_calls::codes::{ANSWERED, NO_SUCH_OPERATION, UNKNOWN_FORMAT, UNKNOWN_MODE, WRONG_LENGTH};
 use coded_calls::data::Answer;
-use exact_reductions::ExactSum;
-use formats_at_run_time::{BuiltInFormat, FlaggedFormat, FlaggedKind, WritesInFormat, mode_coded};
+use exact_reductions::{ExactSum, NARROW_WORDS, WIDE_WORDS, are_enough};
+use formats_at_run_time::{FlaggedFormat, FlaggedKind, WritesInFormat, mode_coded};
 use rustc_apfloat::ieee::{Flagged, IeeeFloat};
 use rustc_apfloat::{Float, Round, StatusAnd};
 
@@ -156,25 +156,8 @@ fn reducible_format(kind: FlaggedKind) -> Option<FlaggedFormat>
     ensures { result ≡ reducible_format kind }
 {
     match kind {
-        FlaggedKind::OfFormat(format) => {
-            if has_exact_sums(format.built_in()) {
-                Some(format)
-            } else {
-                None
-            }
-        }
+        FlaggedKind::OfFormat(format) => Some(format),
         FlaggedKind::Pairs => None,
-    }
-}
-
-/// Whether the values of the format have at most 64 bits.
-fn has_exact_sums(format: BuiltInFormat) -> bool
-    ensures { result ≡ has_exact_sums format }
-{
-    match format {
-        BuiltInFormat::Quad => false,
-        BuiltInFormat::X87 => false,
-        _ => true,
     }
 }
 
@@ -216,12 +199,16 @@ impl WritesInFormat for TermsCall<'_> {
             ys,
             count,
         } = self;
-        reduced_in::<S>(reduction, round, width, xs, ys, count)
+        if are_enough::<S>(NARROW_WORDS) {
+            reduced_in::<S, NARROW_WORDS>(reduction, round, width, xs, ys, count)
+        } else {
+            reduced_in::<S, WIDE_WORDS>(reduction, round, width, xs, ys, count)
+        }
     }
 }
 
-/// The sum in the format `S`.
-fn reduced_in<S: Flagged>(
+/// The sum in the format `S`, in so many words.
+fn reduced_in<S: Flagged, const WORDS: usize>(
     reduction: Reduction,
     round: Round,
     width: usize,
@@ -230,7 +217,7 @@ fn reduced_in<S: Flagged>(
     count: usize,
 ) -> Answer
     requires written { S.PRECISION < S.BITS }
-    requires format { IsReducible (format_of S.Flagged) }
+    requires format { IsSummable WORDS (format_of S.Flagged) }
     requires few { width ≤ 16 }
     requires xs { length xs.now ≡ count * width }
     requires ys { length ys.now ≡ count * width }
@@ -238,7 +225,7 @@ fn reduced_in<S: Flagged>(
         IsReducedIn c reduction round (values_from c width xs.now 0 count)
         (values_from c width ys.now 0 count) result }
 {
-    let mut sum = ExactSum::<S>::new();
+    let mut sum = ExactSum::<S, WORDS>::new();
     for index in 0..count {
         let place = index * width;
         let x = number_at(xs, place, width);
@@ -258,9 +245,14 @@ fn in_bits<S: Flagged>(total: StatusAnd<IeeeFloat<S>>) -> Answer
 
 /// Adds the term of values of these bits.
 #[inline(always)]
-fn add_term<S: Flagged>(sum: &mut ExactSum<S>, reduction: Reduction, x: u128, y: u128)
+fn add_term<S: Flagged, const WORDS: usize>(
+    sum: &mut ExactSum<S, WORDS>,
+    reduction: Reduction,
+    x: u128,
+    y: u128,
+)
     requires written { S.PRECISION < S.BITS }
-    requires format { IsReducible (format_of S.Flagged) }
+    requires format { IsSummable WORDS (format_of S.Flagged) }
     requires room { sum.old.terms + 1 < 2 ^ 64 }
     ensures { sum.new
         ≡ joined sum.old (tally_of (term_of reduction (constants_of S.Flagged) x y)) }

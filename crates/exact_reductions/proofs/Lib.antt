@@ -1,5 +1,6 @@
 pub mod Laws
 pub mod Placed
 pub mod Rooms
+pub mod Sizes
 pub mod Spelled
 pub mod Tallies

@@ -1,30 +1,32 @@
 -- How many terms fit in the words of a sum.
-use Rattle.std.proofs.Common.{◌≡◌, ℕ, ◌+◌, ◌*◌, ◌^◌, ◌<◌, ◌≤◌, arith}
+use Rattle.std.proofs.Common.{ℕ, ◌+◌, ◌*◌, ◌^◌, ◌<◌, ◌≤◌, arith}
 use Rattle.std.proofs.Math.Nat.{mul-le-mul_right}
 use Rattle.apfloat_decimals.specs.Words.{weight}
-use Rattle.apfloat_decimals.proofs.numbers.Values.{weight_next, weight_some}
+use Rattle.apfloat_decimals.proofs.numbers.Values.{weight_some}
 
-below_top : (amount terms : ℕ) → amount ≤ terms * weight 66 → terms < 2 ^ 64 → amount < weight 67
-below_top amount terms a t =
-    let some : 0 < weight 66 = weight_some 66 in
-    let next : weight 67 ≡ weight 66 * 2 ^ 64 = weight_next 66 in
-    let most : (terms + 1) * weight 66 ≤ 2 ^ 64 * weight 66 = mul-le-mul_right (weight 66) (omega arith) in
+below_top : (amount terms words : ℕ) → amount * 2 ^ 64 ≤ terms * weight words → terms < 2 ^ 64
+    → amount < weight words
+below_top amount terms words a t =
+    let some : 0 < weight words = weight_some words in
+    let most : (terms + 1) * weight words ≤ 2 ^ 64 * weight words = mul-le-mul_right (weight words) (omega arith) in
     omega arith
 
 -- one term more
-pub one_more : (amount more terms : ℕ) → amount ≤ terms * weight 66 → more ≤ weight 66
-    → amount + more ≤ (terms + 1) * weight 66
-one_more amount more terms a m = omega arith
+pub one_more : (amount more terms words : ℕ) → amount * 2 ^ 64 ≤ terms * weight words
+    → more * 2 ^ 64 ≤ weight words → (amount + more) * 2 ^ 64 ≤ (terms + 1) * weight words
+one_more amount more terms words a m = omega arith
 
-pub one_fits : (amount more terms : ℕ) → amount ≤ terms * weight 66 → more ≤ weight 66 → terms + 1 < 2 ^ 64
-    → amount + more < weight 67
-one_fits amount more terms a m t = below_top (amount + more) (terms + 1) (one_more amount more terms a m) t
+pub one_fits : (amount more terms words : ℕ) → amount * 2 ^ 64 ≤ terms * weight words
+    → more * 2 ^ 64 ≤ weight words → terms + 1 < 2 ^ 64 → amount + more < weight words
+one_fits amount more terms words a m t =
+    below_top (amount + more) (terms + 1) words (one_more amount more terms words a m) t
 
 -- the terms of two sums
-pub both_more : (amount other m n : ℕ) → amount ≤ m * weight 66 → other ≤ n * weight 66
-    → amount + other ≤ (m + n) * weight 66
-both_more amount other m n a b = omega arith
+pub both_more : (amount other m n words : ℕ) → amount * 2 ^ 64 ≤ m * weight words
+    → other * 2 ^ 64 ≤ n * weight words → (amount + other) * 2 ^ 64 ≤ (m + n) * weight words
+both_more amount other m n words a b = omega arith
 
-pub both_fit : (amount other m n : ℕ) → amount ≤ m * weight 66 → other ≤ n * weight 66 → m + n < 2 ^ 64
-    → amount + other < weight 67
-both_fit amount other m n a b t = below_top (amount + other) (m + n) (both_more amount other m n a b) t
+pub both_fit : (amount other m n words : ℕ) → amount * 2 ^ 64 ≤ m * weight words
+    → other * 2 ^ 64 ≤ n * weight words → m + n < 2 ^ 64 → amount + other < weight words
+both_fit amount other m n words a b t =
+    below_top (amount + other) (m + n) words (both_more amount other m n words a b) t

@@ -251,6 +251,13 @@ pub amount_added : (sides : Amounts) (negative : Bool) (amount : ℕ)
 amount_added sides true amount = omega (arith, ints)
 amount_added sides false amount = omega (arith, ints)
 
+pub amount_twice : (sides : Amounts) (negative : Bool) (first second both : ℕ) → first + second ≡ both
+    → with_amount negative second (with_amount negative first sides) ≡ with_amount negative both sides
+amount_twice sides true first second both e =
+    let f : sides.minus + first + second ≡ sides.minus + both = omega (arith, e) in rw f refl
+amount_twice sides false first second both e =
+    let f : sides.plus + first + second ≡ sides.plus + both = omega (arith, e) in rw f refl
+
 pub gross_added : (sides : Amounts) (negative : Bool) (amount : ℕ)
     → (with_amount negative amount sides).plus + (with_amount negative amount sides).minus
     ≡ sides.plus + sides.minus + amount

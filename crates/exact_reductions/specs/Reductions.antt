@@ -1,5 +1,5 @@
 -- Exact sums of any number of terms, rounded once (IEEE 754-2019 9.4): of values, products, squares and magnitudes.
-use Rattle.std.specs.Prelude.{ℕ, ◌+◌, ◌*◌, ◌^◌, ◌≤◌, eqb, Bool, true, false, not, ◌&&◌, ◌||◌, ℤ, pos, ◌+ℤ◌}
+use Rattle.std.specs.Prelude.{ℕ, ◌+◌, ◌*◌, ◌/◌, ◌^◌, ◌<◌, ◌≤◌, eqb, Bool, true, false, not, ◌&&◌, ◌||◌, ℤ, pos, ◌+ℤ◌}
 use Rattle.std.specs.Prelude.{List, [], ◌∷◌, Option, Some, None, if◌then◌else◌}
 use Rattle.apfloat_model.specs.declared.kinds.Round.{Round}
 use Rattle.apfloat_model.specs.formats.Format.{Format}
@@ -144,8 +144,11 @@ IsSumOfSquares f mode xs value status = IsDot f mode xs xs value status
 
 -- ---- the formats that have these calls
 
--- The product of two values has at most 128 digits, and 2 ^ 64 products fit in the words of a sum. It is so for every
--- built-in format of at most 64 bits, and for no other one.
-pub record IsReducible (f : Format) : Type 0 where
-  pub short : f.precision ≤ 64
-  pub narrow : f.span ≤ 2048
+-- So many words hold 2 ^ 64 products of values whose significands take whole words.
+pub record IsSummable (words : ℕ) (f : Format) : Type 0 where
+  pub room : 2 * (64 * ((f.precision + 63) / 64) + f.span) + 64 ≤ 64 * words
+  pub few : words < 2 ^ 16
+
+-- 1,029 words do: it is so for every built-in format
+abbrev pub IsReducible : Format → Type 0
+IsReducible f = IsSummable 1029 f

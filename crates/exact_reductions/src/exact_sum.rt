@@ -1,30 +1,33 @@
 //! A sum in progress, which takes its terms one after another.
 
-ghost use Rattle.std.specs.Prelude.{◌≡◌, ◌+◌, ◌*◌, ◌^◌, ◌<◌, ◌≤◌, false, true, length};
-ghost use Rattle.apfloat_model.specs.arithmetic.Products.{product};
+ghost use Rattle.std.specs.Prelude.{◌≡◌, ◌+◌, ◌*◌, ◌/◌, ◌^◌, ◌<◌, ◌≤◌, false, true, length};
+ghost use Rattle.apfloat_model.specs.arithmetic.Products.{product, IsProduct};
+ghost use Rattle.apfloat_model.specs.declared.kinds.Round.TheVariants.{TowardZero};
 ghost use Rattle.apfloat_model.specs.order.Classes.{is_finite};
 ghost use Rattle.apfloat_model.specs.rounding.Flags.{Gives, bits_of};
 ghost use Rattle.apfloat_ieee.specs.FlaggedTypes.{format_of};
-ghost use Rattle.exact_reductions.specs.Reductions.{IsReducible, IsTotal, first_of, joined, no_terms, number_tally};
+ghost use Rattle.exact_reductions.specs.Reductions.{IsSummable, IsTotal, first_of, joined, no_terms, number_tally};
 ghost use Rattle.exact_reductions.specs.Reductions.{special_tally, tally, tally_of, value_term, magnitude_of};
 ghost use Rattle.exact_reductions.specs.Reductions.{value_terms, magnitude_terms, product_terms};
 ghost use Rattle.apfloat_decimals.specs.Words.{weight};
+ghost use Rattle.apfloat_words.specs.Wides.{whole};
 
 use crate::counted::{deliver_sides, in_quanta, scale_of};
 use crate::sides::Sides;
 use apfloat_arithmetic::products::product_sign;
 use apfloat_base::{Category, Float, Round, Status, StatusAnd};
 use apfloat_ieee::{Flagged, IeeeFloat};
-use apfloat_words::full_product;
+use apfloat_words::{Wide, full_product, full_wide_product};
 use std::marker::Model;
 
 /// The exact sum of the terms so far: values, products of two values, or both. It has a fixed size, and its result does
 /// not depend on the order of the terms, but for the payload of a NaN.
 ///
-/// Formats have at most 64 digits, and `MAX_EXP - MIN_EXP` is at most 2048: all built-in formats of at most 64 bits.
+/// It has two arrays of `WORDS` words: `NARROW_WORDS` do for the built-in formats of at most 64 bits, `WIDE_WORDS` for
+/// all.
 #[derive(Drop)]
-pub struct ExactSum<S: Flagged> {
-    sides: Sides,
+pub struct ExactSum<S: Flagged, const WORDS: usize> {
+    sides: Sides<WORDS>,
     terms: u64,
     first_nan: Option<IeeeFloat<S>>,
     invalid: bool,
@@ -34,8 +37,8 @@ pub struct ExactSum<S: Flagged> {
     negative: bool,
 }
 
-impl<S: Flagged> Model for ExactSum<S> {
-    ghost use Rattle.std.specs.Prelude.{◌≡◌, ◌+◌, ◌*◌, ◌≤◌, ◌||◌, true};
+impl<S: Flagged, const WORDS: usize> Model for ExactSum<S, WORDS> {
+    ghost use Rattle.std.specs.Prelude.{◌≡◌, ◌+◌, ◌*◌, ◌^◌, ◌<◌, ◌≤◌, ◌||◌, true};
     ghost use Rattle.apfloat_model.specs.declared.kinds.NonfiniteBehavior.TheVariants.{IEEE754};
     ghost use Rattle.exact_reductions.specs.Amounts.{difference};
     ghost use Rattle.exact_reductions.specs.Reductions.{Tally};
@@ -54,8 +57,9 @@ impl<S: Flagged> Model for ExactSum<S> {
       exact = difference x.sides;
     } };
 
-    ghost invariant = { λ x. (x.sides.plus + x.sides.minus ≤ x.terms * weight 66)
-        × ((x.positive_infinity || x.negative_infinity) ≡ true → S.NONFINITE_BEHAVIOR ≡ IEEE754) };
+    ghost invariant = { λ x. ((x.sides.plus + x.sides.minus) * 2 ^ 64 ≤ x.terms * weight WORDS)
+        × ((x.positive_infinity || x.negative_infinity) ≡ true → S.NONFINITE_BEHAVIOR ≡ IEEE754)
+        × (WORDS < 2 ^ 16) };
 }
 
 /// The first of two NaNs, if there are any.
@@ -71,9 +75,18 @@ fn first_of<S: Flagged>(
     }
 }
 
-impl<S: Flagged> ExactSum<S> {
+/// A product that is an infinity or a NaN, apart from the steps of each term.
+#[cold]
+fn special_product<S: Flagged>(x: IeeeFloat<S>, y: IeeeFloat<S>) -> StatusAnd<IeeeFloat<S>>
+    ensures { Gives (IsProduct (format_of S.Flagged) TowardZero x y) result }
+{
+    x.wide_mul_r(y, Round::TowardZero)
+}
+
+impl<S: Flagged, const WORDS: usize> ExactSum<S, WORDS> {
     /// The sum of no terms.
     pub fn new() -> Self
+        requires { WORDS < 2 ^ 16 }
         ensures { result ≡ no_terms }
     {
         ExactSum {
@@ -90,9 +103,25 @@ impl<S: Flagged> ExactSum<S> {
 
     /// Adds a finite term of `value * 2^shift` units.
     #[inline]
+    fn add_wide_number(&mut self, negative: bool, value: Wide, shift: u32)
+        requires near { shift / 64 + 5 ≤ WORDS }
+        requires low { shift < 2 ^ 22 }
+        requires small { whole value * 2 ^ shift * 2 ^ 64 ≤ weight WORDS }
+        requires room { self.old.terms + 1 < 2 ^ 64 }
+        ensures { self.new ≡ joined self.old (number_tally negative (whole value * 2 ^ shift)) }
+    {
+        self.sides.add(negative, value.low, shift);
+        self.sides.add(negative, value.high, shift + 128);
+        self.terms += 1;
+        self.positive |= !negative;
+        self.negative |= negative;
+    }
+
+    /// Adds a finite term of `value * 2^shift` units.
+    #[inline]
     fn add_number(&mut self, negative: bool, value: u128, shift: u32)
-        requires near { shift < 64 * 65 }
-        requires small { value * 2 ^ shift ≤ weight 66 }
+        requires near { shift / 64 + 3 ≤ WORDS }
+        requires small { value * 2 ^ shift * 2 ^ 64 ≤ weight WORDS }
         requires room { self.old.terms + 1 < 2 ^ 64 }
         ensures { self.new ≡ joined self.old (number_tally negative (value * 2 ^ shift)) }
     {
@@ -126,7 +155,7 @@ impl<S: Flagged> ExactSum<S> {
     /// Adds a value.
     #[inline]
     pub fn add(&mut self, x: IeeeFloat<S>)
-        requires format { IsReducible (format_of S.Flagged) }
+        requires format { IsSummable WORDS (format_of S.Flagged) }
         requires room { self.old.terms + 1 < 2 ^ 64 }
         ensures { self.new ≡ joined self.old (tally_of (value_term (format_of S.Flagged) x)) }
     {
@@ -143,7 +172,7 @@ impl<S: Flagged> ExactSum<S> {
     /// Adds a product.
     #[inline]
     pub fn add_product(&mut self, x: IeeeFloat<S>, y: IeeeFloat<S>)
-        requires format { IsReducible (format_of S.Flagged) }
+        requires format { IsSummable WORDS (format_of S.Flagged) }
         requires room { self.old.terms + 1 < 2 ^ 64 }
         ensures { self.new ≡ joined self.old (tally_of (product (format_of S.Flagged) x y)) }
     {
@@ -151,13 +180,17 @@ impl<S: Flagged> ExactSum<S> {
         if finite {
             let left = in_quanta(x);
             let right = in_quanta(y);
-            self.add_number(
-                product_sign(x.is_negative(), y.is_negative()),
-                full_product(left.significand, right.significand),
-                left.place + right.place,
-            );
+            let negative = product_sign(x.is_negative(), y.is_negative());
+            let place = left.place + right.place;
+            if S::PRECISION <= 64 {
+                let product = full_product(left.significand, right.significand);
+                self.add_number(negative, product, place);
+            } else {
+                let product = full_wide_product(left.significand, right.significand);
+                self.add_wide_number(negative, product, place);
+            }
         } else {
-            self.add_special(x.mul_r(y, Round::TowardZero));
+            self.add_special(special_product(x, y));
         }
     }
 
@@ -194,7 +227,7 @@ impl<S: Flagged> ExactSum<S> {
     /// and those of one sign are the result. An exact zero is +0, or -0 toward negative, but a sum of zeros of one
     /// sign keeps it; without terms it is +0.
     pub fn rounded(self, round: Round) -> StatusAnd<IeeeFloat<S>>
-        requires { IsReducible (format_of S.Flagged) }
+        requires { IsSummable WORDS (format_of S.Flagged) }
         ensures { Gives (IsTotal (format_of S.Flagged) round self) result }
     {
         if let Some(nan) = self.first_nan {
@@ -215,7 +248,7 @@ impl<S: Flagged> ExactSum<S> {
 
     /// Adds values.
     pub fn add_values(&mut self, x: &[IeeeFloat<S>])
-        requires format { IsReducible (format_of S.Flagged) }
+        requires format { IsSummable WORDS (format_of S.Flagged) }
         requires room { self.old.terms + length x.now < 2 ^ 64 }
         ensures { self.new ≡ joined self.old (tally (value_terms (format_of S.Flagged) x.now)) }
     {
@@ -226,7 +259,7 @@ impl<S: Flagged> ExactSum<S> {
 
     /// Adds the magnitudes of values: their `abs`.
     pub fn add_magnitudes(&mut self, x: &[IeeeFloat<S>])
-        requires format { IsReducible (format_of S.Flagged) }
+        requires format { IsSummable WORDS (format_of S.Flagged) }
         requires room { self.old.terms + length x.now < 2 ^ 64 }
         ensures { self.new ≡ joined self.old (tally (magnitude_terms (format_of S.Flagged) x.now)) }
     {
@@ -237,7 +270,7 @@ impl<S: Flagged> ExactSum<S> {
 
     /// Adds the products of the values at the same places of two slices of one length.
     pub fn add_products(&mut self, x: &[IeeeFloat<S>], y: &[IeeeFloat<S>])
-        requires format { IsReducible (format_of S.Flagged) }
+        requires format { IsSummable WORDS (format_of S.Flagged) }
         requires lengths { length y.now ≡ length x.now }
         requires room { self.old.terms + length x.now < 2 ^ 64 }
         ensures { self.new ≡ joined self.old

@@ -14,7 +14,9 @@ mod three_words;
 mod words;
 
 pub use exact_sum::ExactSum;
-pub use reductions::{LengthsDiffer, dot_r, sum_abs_r, sum_r, sum_square_r};
+pub use reductions::{
+    LengthsDiffer, NARROW_WORDS, WIDE_WORDS, are_enough, dot_r, sum_abs_r, sum_r, sum_square_r,
+};
 pub use theorems::{
     one_term_is_itself, parts_are_joined, sums_are_in_any_order, sums_have_answers,
     sums_have_one_answer,

@@ -32,6 +32,9 @@ use core::fmt;
 
 pub use library::LengthsDiffer;
 
+const NARROW: usize = library::NARROW_WORDS;
+const WIDE: usize = library::WIDE_WORDS;
+
 impl fmt::Display for LengthsDiffer {
     fn fmt(&self, f: &mut fmt::Formatter<'_>) -> fmt::Result {
         f.write_str("the slices of a dot product have different lengths")
@@ -42,23 +45,32 @@ impl core::error::Error for LengthsDiffer {}
 
 /// The sum of the values (IEEE 754-2019 9.4, sum), as [`ExactSum::rounded`]. Without values it is +0.
 pub fn sum<S: Semantics>(values: &[IeeeFloat<S>], round: Round) -> StatusAnd<IeeeFloat<S>> {
-    let mut sum = ExactSum::new();
-    sum.add_values(values);
-    sum.rounded(round)
+    fn within<S: Semantics, const WORDS: usize>(values: &[IeeeFloat<S>], round: Round) -> StatusAnd<IeeeFloat<S>> {
+        let mut sum = ExactSum::<S, WORDS>::empty();
+        sum.add_values(values);
+        sum.rounded(round)
+    }
+    if is_narrow::<S>() { within::<S, NARROW>(values, round) } else { within::<S, WIDE>(values, round) }
 }
 
 /// The sum of the magnitudes of the values (IEEE 754-2019 9.4, sumAbs), as [`ExactSum::rounded`].
 pub fn sum_abs<S: Semantics>(values: &[IeeeFloat<S>], round: Round) -> StatusAnd<IeeeFloat<S>> {
-    let mut sum = ExactSum::new();
-    sum.add_magnitudes(values);
-    sum.rounded(round)
+    fn within<S: Semantics, const WORDS: usize>(values: &[IeeeFloat<S>], round: Round) -> StatusAnd<IeeeFloat<S>> {
+        let mut sum = ExactSum::<S, WORDS>::empty();
+        sum.add_magnitudes(values);
+        sum.rounded(round)
+    }
+    if is_narrow::<S>() { within::<S, NARROW>(values, round) } else { within::<S, WIDE>(values, round) }
 }
 
 /// The sum of the squares of the values (IEEE 754-2019 9.4, sumSquare), as [`ExactSum::rounded`].
 pub fn sum_square<S: Semantics>(values: &[IeeeFloat<S>], round: Round) -> StatusAnd<IeeeFloat<S>> {
-    let mut sum = ExactSum::new();
-    sum.add_each_product(values, values);
-    sum.rounded(round)
+    fn within<S: Semantics, const WORDS: usize>(values: &[IeeeFloat<S>], round: Round) -> StatusAnd<IeeeFloat<S>> {
+        let mut sum = ExactSum::<S, WORDS>::empty();
+        sum.add_each_product(values, values);
+        sum.rounded(round)
+    }
+    if is_narrow::<S>() { within::<S, NARROW>(values, round) } else { within::<S, WIDE>(values, round) }
 }
 
 /// The sum of the products of the values at the same places (IEEE 754-2019 9.4, dot), as [`ExactSum::rounded`].
@@ -71,37 +83,87 @@ pub fn dot<S: Semantics>(
     y: &[IeeeFloat<S>],
     round: Round,
 ) -> Result<StatusAnd<IeeeFloat<S>>, LengthsDiffer> {
-    let mut sum = ExactSum::new();
-    sum.add_products(x, y)?;
-    Ok(sum.rounded(round))
+    fn within<S: Semantics, const WORDS: usize>(
+        x: &[IeeeFloat<S>],
+        y: &[IeeeFloat<S>],
+        round: Round,
+    ) -> Result<StatusAnd<IeeeFloat<S>>, LengthsDiffer> {
+        let mut sum = ExactSum::<S, WORDS>::empty();
+        sum.add_products(x, y)?;
+        Ok(sum.rounded(round))
+    }
+    if is_narrow::<S>() { within::<S, NARROW>(x, y, round) } else { within::<S, WIDE>(x, y, round) }
 }
 
-/// The exact sum of the terms so far: values, products of two values, or both. It has a fixed size, about a kilobyte.
+/// Whether the sums of 2^64 products in the format fit in so many words.
+const fn are_enough<S: Semantics>(words: usize) -> bool {
+    let digits = 64 * S::PRECISION.div_ceil(64) + (S::MAX_EXP - S::MIN_EXP) as usize;
+    2 * digits + 64 <= 64 * words
+}
+
+/// Whether few words do. In a format whose products `WIDE_WORDS` do not hold, sums do not compile.
+#[inline(always)]
+fn is_narrow<S: Semantics>() -> bool {
+    let () = WideSum::<S>::FITS;
+    are_enough::<S>(NARROW)
+}
+
+/// The exact sum of the terms so far: values, products of two values, or both. It has a fixed size, about a kilobyte
+/// in the built-in formats of at most 64 bits.
 ///
-/// A format has at most 64 digits, and its `MAX_EXP - MIN_EXP` is at most 2048: all built-in ones of at most 64 bits. A
-/// sum in another format does not compile.
+/// `X87DoubleExtended` and `Quad` take [`WideSum`], of 16 KB. A sum in a format whose products it does not hold, as
+/// `WORDS` says, does not compile.
 ///
 /// ```compile_fail
-/// use rustc_apfloat::ieee::X87DoubleExtended;
-/// use rustc_apfloat::{Float, Round, reductions};
+/// use rustc_apfloat::ieee::Quad;
+/// use rustc_apfloat::reductions::ExactSum;
 ///
-/// let one = X87DoubleExtended::from_u128(1).value;
-/// assert_eq!(reductions::sum(&[one], Round::NearestTiesToEven).value, one);
+/// let _ = ExactSum::<Quad>::new();
 /// ```
 // It is not `Clone`: sums joined with their copies would soon have more than 2^64 terms.
 #[must_use]
-pub struct ExactSum<S: Semantics>(library::ExactSum<FlaggedS<S>>);
+pub struct ExactSum<S: Semantics, const WORDS: usize = NARROW>(library::ExactSum<FlaggedS<S>, WORDS>);
+
+/// An exact sum in any built-in format, made by [`ExactSum::wide`].
+///
+/// ```
+/// use rustc_apfloat::reductions::WideSum;
+/// use rustc_apfloat::ieee::{Quad, QuadS};
+/// use rustc_apfloat::{Float, Round};
+///
+/// let mut sum = WideSum::<QuadS>::wide();
+/// let [large, small] = ["1e4900", "1e-4900"].map(|text| text.parse::<Quad>().unwrap());
+/// for x in [large, small, -large] {
+///     sum.add_product(x, x.abs());
+/// }
+/// assert!(sum.rounded(Round::NearestTiesToEven).value.is_pos_zero());
+/// ```
+pub type WideSum<S> = ExactSum<S, WIDE>;
 
 impl<S: Semantics> ExactSum<S> {
-    /// That the sums of 2^64 products fit into the words of a sum.
-    const FITS: () = {
-        assert!(S::PRECISION <= 64, "sums are exact in formats of at most 64 digits");
-        assert!(S::MAX_EXP - S::MIN_EXP <= 2048, "the format's exponents are too many for exact sums");
-    };
-
     /// The sum of no terms.
     pub fn new() -> Self {
         let () = Self::FITS;
+        Self::empty()
+    }
+}
+
+impl<S: Semantics> WideSum<S> {
+    /// The sum of no terms, in a format of any width.
+    pub fn wide() -> Self {
+        let () = Self::FITS;
+        Self::empty()
+    }
+}
+
+impl<S: Semantics, const WORDS: usize> ExactSum<S, WORDS> {
+    /// That the sums of 2^64 products fit into the words of a sum.
+    const FITS: () = {
+        assert!(WORDS < 1 << 16, "a sum has fewer than 65,536 words");
+        assert!(are_enough::<S>(WORDS), "the format has too many digits and exponents for so many words");
+    };
+
+    fn empty() -> Self {
         Self(library::ExactSum::new())
     }
 
@@ -167,13 +229,14 @@ impl<S: Semantics> ExactSum<S> {
     }
 }
 
-impl<S: Semantics> Default for ExactSum<S> {
+impl<S: Semantics, const WORDS: usize> Default for ExactSum<S, WORDS> {
     fn default() -> Self {
-        Self::new()
+        let () = Self::FITS;
+        Self::empty()
     }
 }
 
-impl<S: Semantics> fmt::Debug for ExactSum<S> {
+impl<S: Semantics, const WORDS: usize> fmt::Debug for ExactSum<S, WORDS> {
     fn fmt(&self, f: &mut fmt::Formatter<'_>) -> fmt::Result {
         f.debug_struct("ExactSum").finish_non_exhaustive()
     }

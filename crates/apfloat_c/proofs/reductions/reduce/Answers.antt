@@ -9,7 +9,7 @@ write-requires c =
     let width_is = c.bytes_in-width.ensures.is in
     let whole : length c.args.xs.now ≡ length c.args.xs.now / c.bytes_in-width.result * c.bytes_in-width.result =
     subst (λ (w : ℕ). length c.args.xs.now ≡ length c.args.xs.now / w * w) (sym width_is) known.whole in
-    (reducible c.in-Ok.call.format known.has, c.bytes_in-width.ensures.greatest, whole, known.same ∙ whole)
+    (reducible c.in-Ok.call.format, c.bytes_in-width.ensures.greatest, whole, known.same ∙ whole)
 
 pub returns-in-Ok : goal.returns-in-Ok
 returns-in-Ok c =

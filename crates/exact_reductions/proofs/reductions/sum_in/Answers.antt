@@ -3,7 +3,7 @@ use Rattle.apfloat_model.specs.rounding.Flags.{bits_of}
 use Rattle.apfloat_ieee.specs.FlaggedTypes.{format_of}
 use Rattle.exact_reductions.specs.Reductions.{Tally, IsTotal, value_terms, tally}
 use Rattle.exact_reductions.proofs.Tallies.{from_none}
-use Rattle.exact_reductions.proofs.reductions.sum_r.Goals as goal
+use Rattle.exact_reductions.proofs.reductions.sum_in.Goals as goal
 
 pub returns : goal.returns
 returns g c =

@@ -3,12 +3,12 @@ use Rattle.apfloat_model.specs.rounding.Flags.{bits_of}
 use Rattle.apfloat_ieee.specs.FlaggedTypes.{format_of}
 use Rattle.exact_reductions.specs.Reductions.{Tally, IsTotal, product_terms, tally}
 use Rattle.exact_reductions.proofs.Tallies.{from_none}
-use Rattle.exact_reductions.proofs.reductions.sum_square_r.Goals as goal
+use Rattle.exact_reductions.proofs.reductions.dot_in.Goals as goal
 
 pub returns : goal.returns
 returns g c =
     let f = format_of g.S.Flagged in
     subst
     (λ (t : Tally). IsTotal f c.args.round t c.rounded.result.value (bits_of c.rounded.result.status))
-    (from_none _ _ (tally (product_terms f c.args.x.now c.args.x.now)) c.new-sum.ensures c.add_products.ensures)
+    (from_none _ _ (tally (product_terms f c.args.x.now c.args.y.now)) c.new-sum.ensures c.add_products.ensures)
     c.rounded.ensures
