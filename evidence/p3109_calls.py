@@ -2,17 +2,16 @@
 
     python3 evidence/p3109_calls.py | diff - tests/c/p3109
 
-Codes are those of evidence/projections.py, and to odd of evidence/conversion_modes.py. Values are at and beside numbers
-and midpoints, or drawn.
+Codes are those of evidence/projection_rules.py. Values are at and beside numbers and midpoints, or drawn.
 """
 
-from conversion_modes import project
 from exact.bits import decoded, encoded
 from exact.data import Finite, Infinite
 from exact.drawing import Generator
 from exact.formats import E4M3FNUZ, FORMATS, HALF
 from exact.rounding import Mode, delivered
 from exact.status import OK
+from projection_rules import project
 from projections import INFINITY, NEGATIVE_INFINITY, NOT_A_NUMBER, Projection
 from row_files import MODES, hexes
 from storage_calls import SOURCES, TARGETS, line, operands
@@ -25,6 +24,10 @@ FORMS = (
     Projection(11, 5, False, False), Projection(15, 8, True, True), Projection(15, 1, True, True),
     Projection(15, 14, True, False), Projection(15, 15, False, True),
 )
+
+
+# what joins a mode, and what becomes of what is past the largest number; most rows do not saturate
+SATURATED = (("", "overflow"), ("", "overflow"), ("+saturate", "propagate"), ("+finite", "finite"))
 
 
 def load(form, target, code, mode):
@@ -54,10 +57,11 @@ def into_projections(form, sources, draw):
     for name in sources:
         source = FORMATS[name]
         for bits in operands(source, magnitudes_of(form, draw), draw):
-            mode, x = [*MODES, None][draw.between(0, 5)], decoded(source, bits)
-            code, status, loses = project(form, source, x, None) if mode is None else form.store(source, x, mode)
-            yield line("to_p3109", f"{name}>{form.name}", mode.value if mode else "odd", hexes(source, bits),
-                       hexes(form, code), status, loses)
+            mode, x = [*[mode.value for mode in MODES], "odd"][draw.between(0, 5)], decoded(source, bits)
+            word, saturation = SATURATED[draw.between(0, 3)]
+            code, status, loses = project(form, source, x, (mode, 0, 0), saturation)
+            yield line("to_p3109", f"{name}>{form.name}", mode + word, hexes(source, bits), hexes(form, code), status,
+                       loses)
 
 
 def out_of_projections(form, targets, draw):

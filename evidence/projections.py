@@ -98,32 +98,40 @@ class Projection:
             return self.nan_code
         return self.coded(negative, self.largest_index + 1)
 
-    def store(self, source, x, mode):
+    def store(self, source, x, mode, saturation="overflow"):
         """The code, the flags, and whether information is lost."""
 
         def moves(below, exact):
             return self.moves(mode, x.negative, below, exact)
 
-        return self.store_by(source, x, moves, not is_nan(x) and overflows(mode, x.negative))
+        return self.store_by(source, x, moves, not is_nan(x) and overflows(mode, x.negative), saturation)
 
-    def store_by(self, source, x, moves, leads_out):
-        """The same, given whether the point above another one is taken, and what is past the largest number."""
+    def store_by(self, source, x, moves, leads_out, saturation="overflow"):
+        """The same, given whether the point above another one is taken, and what is past the largest number.
+
+        Without a sign, what is below zero once it is rounded has no code. Saturation changes no flags of numbers.
+        """
         if is_nan(x):
             status = INVALID_OP if is_signaling(source, x) else OK
             return self.nan_code, status, source.payload_mask != 0
-        below_zero = x.negative and not (isinstance(x, Finite) and x.quanta == 0)
-        if below_zero and not self.signed:
-            return self.nan_code, INVALID_OP, True
+        without_sign = x.negative and not self.signed
         if isinstance(x, Infinite):
+            if without_sign:
+                return self.nan_code, INVALID_OP, True
+            if saturation == "finite":
+                return self.coded(x.negative, self.largest_index), INEXACT, True
             loses = not self.extended
             return self.infinity(x.negative), INEXACT if loses else OK, loses
         if x.quanta == 0:
             return 0, INEXACT if x.negative else OK, x.negative
         exact = Fraction(x.quanta, 1 << source.scale)
         index, is_exact = self.pick(exact, moves)
+        if without_sign and index:
+            return self.nan_code, INVALID_OP, True
         if index > self.largest_index:
             if leads_out:
-                return self.infinity(x.negative), OVERFLOW | INEXACT, True
+                largest = self.coded(x.negative, self.largest_index)
+                return self.infinity(x.negative) if saturation == "overflow" else largest, OVERFLOW | INEXACT, True
             return self.coded(x.negative, self.largest_index), INEXACT, True
         code = self.coded(x.negative, index)
         if is_exact:

@@ -123,14 +123,14 @@ typedef enum apfloat_mode APFLOAT_CODE {
 
     /* Joined to the mode of apfloat_convert_array by |: a number that is past the largest value of `to` once it is
      * rounded gives the largest value of its sign, with the same flags as without this. Infinities are converted as
-     * without it, in a format without infinities to a NaN. The modes of apfloat_to_storage and apfloat_from_storage may
-     * have it too; in those of all other functions it makes an unknown mode. */
+     * without it, in a format without infinities to a NaN. The modes of apfloat_to_storage, apfloat_from_storage and
+     * apfloat_to_p3109 may have it too; in those of all other functions it makes an unknown mode. */
     APFLOAT_SATURATE = 0x100,
 
     /* The same, and an infinity gives the largest value of its sign, with APFLOAT_INEXACT: the saturation of the OCP's
      * 8-bit formats. NaNs are converted as without it; with APFLOAT_SATURATE_ALL they give the largest value, sign
-     * plus, with APFLOAT_INVALID_OP. What is below zero is a NaN in APFLOAT_E8M0FNU and APFLOAT_UE4M3 with any of
-     * these. */
+     * plus, with APFLOAT_INVALID_OP, but not in apfloat_to_p3109, where it is an unknown mode. What is below zero is a
+     * NaN in APFLOAT_E8M0FNU and APFLOAT_UE4M3 with any of these. */
     APFLOAT_SATURATE_FINITE = 0x300,
     APFLOAT_SATURATE_ALL = 0x700,
 
@@ -870,9 +870,10 @@ typedef struct apfloat_p3109 {
     uint32_t is_extended; /* 1 if the last code of each sign that is not the NaN is an infinity, else 0 */
 } apfloat_p3109;
 
-/* The code in the format `to` of x, a value of `format`, rounded once. The mode may be APFLOAT_TO_ODD too. What the
- * mode leads past the largest number becomes the infinity, or the NaN where there is none; -0 the only zero, with
- * APFLOAT_INEXACT; and, without a sign, what is below zero the NaN, with APFLOAT_INVALID_OP (FORMATS.md). */
+/* The code in the format `to` of x, a value of `format`, rounded once. The mode may be APFLOAT_TO_ODD too, and may
+ * saturate. What the mode leads past the largest number becomes the infinity, or the NaN where there is none; -0 the
+ * only zero, with APFLOAT_INEXACT; and, without a sign, what is below zero once it is rounded the NaN, with
+ * APFLOAT_INVALID_OP (FORMATS.md). */
 apfloat_error apfloat_to_p3109(apfloat_format format, apfloat_mode mode, apfloat_p3109 to, apfloat_halves x,
                                apfloat_answer *answer);
 

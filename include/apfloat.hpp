@@ -3055,17 +3055,18 @@ struct p3109 {
     bool is_signed = true;
     bool is_extended = true;
 
-    /// The code of a value, rounded once: p3109{8, 4}.encode(x).
+    /// The code of a value, rounded once: p3109{8, 4}.encode(x). NaNs do not saturate (unknown_mode).
     template <class From>
-    expected<result<std::uint16_t>> encode(const value<From> &x,
-                                           rounding mode = rounding::nearest_even) const noexcept {
-        return encoded(x, detail::code_of(mode));
+    expected<result<std::uint16_t>> encode(const value<From> &x, rounding mode = rounding::nearest_even,
+                                           overflowing large = overflowing::rounds) const noexcept {
+        return encoded(x, detail::code_of(mode) | static_cast<apfloat_mode>(large));
     }
 
     /// The code of a value, rounded to odd.
     template <class From>
-    expected<result<std::uint16_t>> encode_odd(const value<From> &x) const noexcept {
-        return encoded(x, APFLOAT_TO_ODD);
+    expected<result<std::uint16_t>> encode_odd(const value<From> &x,
+                                               overflowing large = overflowing::rounds) const noexcept {
+        return encoded(x, APFLOAT_TO_ODD | static_cast<apfloat_mode>(large));
     }
 
     /// The value of a code in another format, rounded once: p3109{8, 4}.decode<binary32>(code). The bits above those of

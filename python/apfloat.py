@@ -867,13 +867,23 @@ class p3109:
         if not 3 <= self.bits <= 15 or not 1 <= self.precision <= self.bits - bool(self.signed):
             raise ValueError(f'P3109 has no {self}')
 
-    def encode(self, number: Any) -> int:
-        """The code of a value, rounded once in the mode of the context; any other number has to be one of `quad`."""
-        return self._encoded(context().mode, number)
+    def encode(self, number: Any, saturate: bool | str = False) -> int:
+        """The code of a value, rounded once in the mode of the context; any other number has to be one of `quad`.
 
-    def encode_to_odd(self, number: Any) -> int:
+        >>> p3109(8, 4).encode(300, saturate=True), p3109(8, 4).encode(float('-inf'), saturate='finite')
+        (126, 254)
+        """
+        return self._encoded(context().mode | self._saturation(saturate), number)
+
+    def encode_to_odd(self, number: Any, saturate: bool | str = False) -> int:
         """The code of a value, rounded to odd."""
-        return self._encoded(_TO_ODD, number)
+        return self._encoded(_TO_ODD | self._saturation(saturate), number)
+
+    @staticmethod
+    def _saturation(saturate: bool | str) -> int:
+        if saturate == 'all':
+            raise ValueError('NaNs of P3109 do not saturate')
+        return _saturation(saturate)
 
     def decode(self, code: int, format: Format | None = None) -> Value:
         """The value of a code in another format, or in `single`, rounded once in the mode of the context."""

@@ -1465,7 +1465,8 @@ class StorageRowTests(unittest.TestCase):
             return source.decode(bits, target, self.SATURATIONS[saturation]).bits
         x = source.from_bits(bits)
         if call == 'to_p3109':
-            return target.encode_to_odd(x) if mode == 'odd' else target.encode(x)
+            encode = target.encode_to_odd if mode == 'odd' else target.encode
+            return encode(x, self.SATURATIONS[saturation])
         if call == 'to_storage':
             return target.encode(x, self.SATURATIONS[saturation])
         if mode == 'odd':
@@ -1497,6 +1498,8 @@ class StorageRowTests(unittest.TestCase):
         form = apfloat.p3109(8, 4)
         self.assertEqual(form, pickle.loads(pickle.dumps(form)))
         self.assertNotEqual(form, apfloat.p3109(8, 4, extended=False))
+        with self.assertRaises(ValueError):
+            form.encode(1, saturate='all')
         for constants in ((2, 1), (16, 3), (8, 0), (8, 8), (8, 9, False), (-8, 3), (8 + (1 << 32), 3)):
             with self.subTest(constants), self.assertRaises(ValueError):
                 apfloat.p3109(*constants)

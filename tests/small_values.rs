@@ -6,6 +6,7 @@ use rustc_apfloat::blocks::{Block, CodeTooWide, ElementFormat, Nvfp4Block, Nvfp4
 use rustc_apfloat::conversion_modes::{ConversionRound, NanResult, RandomDigits};
 use rustc_apfloat::ieee::{Half, IeeeFloat, Semantics, Single, SingleS};
 use rustc_apfloat::p3109::{Binary8P1UF, Binary8P3, Binary8P4, Binary8P5, Projected, Projection};
+use rustc_apfloat::p3109::{ProjectionRound, ProjectionRule, Saturation};
 use rustc_apfloat::storage_formats::{E2M1FN, E2M3FN, E3M2FN, E8M0FNU, Float8E3M4, StorageFormat, StoredFloat, UE4M3};
 use rustc_apfloat::{Category, Float, Round, StatusAnd};
 use std::cmp::Ordering;
@@ -288,6 +289,53 @@ fn checksums_of_all_values() {
         agreeing += 1;
     }
     assert_eq!(agreeing, 168);
+}
+
+/// The checksum of the conversions of every 61st half by a rule, whose columns are after the format.
+fn by_rule<F: Projection>(columns: &[&str]) -> u64 {
+    let [saturation, way, digits, random, _] = columns else { panic!("{columns:?}") };
+    let bits = || RandomDigits::new(digits.parse().unwrap(), random.parse().unwrap()).unwrap();
+    let round = match *way {
+        "odd" => ProjectionRound::By(ConversionRound::ToOdd),
+        "a" => ProjectionRound::By(ConversionRound::Stochastic(bits())),
+        "b" => ProjectionRound::StochasticB(bits()),
+        "c" => ProjectionRound::StochasticC(bits()),
+        mode => ProjectionRound::By(ConversionRound::Ieee(round_of(mode))),
+    };
+    let saturation = match *saturation {
+        "overflow" => Saturation::Overflow,
+        "finite" => Saturation::Finite,
+        _ => Saturation::Propagate,
+    };
+    let mut sum = Checksum(0);
+    for bits in (0..0x10000).step_by(61) {
+        let (mut loses_info, rule) = (false, ProjectionRule { round, saturation });
+        let answer = Projected::<F>::project(Half::from_bits(bits), rule, &mut loses_info);
+        sum.add(answer.value.to_bits().into(), answer.status.bits(), loses_info);
+    }
+    sum.0
+}
+
+#[test]
+fn rules_of_projections() {
+    let rows = include_str!("projection_rules.tsv").lines().filter(|line| !line.starts_with('#'));
+    assert_eq!(rows.clone().count(), 720);
+    for row in rows {
+        let columns: Vec<&str> = row.split('\t').collect();
+        let sum = match columns[0] {
+            "binary8p3se" => by_rule::<Binary8P3>(&columns[1..]),
+            "binary8p4se" => by_rule::<Binary8P4>(&columns[1..]),
+            "binary8p5se" => by_rule::<Binary8P5>(&columns[1..]),
+            "binary8p1uf" => by_rule::<Binary8P1UF>(&columns[1..]),
+            "binary3p1sf" => by_rule::<Binary3P1SF>(&columns[1..]),
+            "binary6p2ue" => by_rule::<Binary6P2UE>(&columns[1..]),
+            "binary8p4sf" => by_rule::<Binary8P4SF>(&columns[1..]),
+            "binary15p8se" => by_rule::<Binary15P8SE>(&columns[1..]),
+            word => panic!("{word}"),
+        };
+        assert_eq!(format!("{sum:016x}"), columns[5], "{row}");
+    }
+    assert_eq!((Projected::<Binary8P4>::largest().to_bits(), Projected::<Binary8P4>::smallest().to_bits()), (0x7e, 1));
 }
 
 /// The numbers of a format by their fields, in the order of the codes.

@@ -1,7 +1,7 @@
 /* Calls the library from C for the rows of tests/c/p3109, which evidence/p3109_calls.py computes, and compares each
  * field of the answer. A row has tabs between its columns:
  *
- *   to_p3109    FORMAT>P3109  MODE  BITS  CODE  FLAGS  whether information is lost
+ *   to_p3109    FORMAT>P3109  MODE  BITS  CODE  FLAGS  whether information is lost; MODE may end in a saturation
  *   from_p3109  P3109>FORMAT  MODE  CODE  BITS  FLAGS  whether information is lost
  *
  * The program prints each row that differs, how many of each call agree, and how many errors do. */
@@ -11,8 +11,11 @@
 #include <inttypes.h>
 #include <stdlib.h>
 
-static uint32_t mode_of(const char *word) {
-    return strcmp(word, "odd") == 0 ? APFLOAT_TO_ODD : code_of(modes, COUNT(modes), word);
+static uint32_t mode_of(char *word) {
+    char *mark = strchr(word, '+');
+    uint32_t large = !mark ? 0 : strcmp(mark, "+finite") == 0 ? APFLOAT_SATURATE_FINITE : APFLOAT_SATURATE;
+    if (mark) *mark = '\0';
+    return large | (strcmp(word, "odd") == 0 ? APFLOAT_TO_ODD : code_of(modes, COUNT(modes), word));
 }
 
 /* The format of P3109 with this name: binary, the width, p, the precision, and letters for the sign and infinities. */
@@ -61,7 +64,7 @@ static unsigned refusals(void) {
     const uint32_t codes[][2] = {
         {TO(0, 7, bad[0]), APFLOAT_UNKNOWN_FORMAT},
         {TO(APFLOAT_HALF, APFLOAT_RANDOM_DIGITS, bad[0]), APFLOAT_UNKNOWN_MODE},
-        {TO(APFLOAT_HALF, APFLOAT_SATURATE, good), APFLOAT_UNKNOWN_MODE},
+        {TO(APFLOAT_HALF, APFLOAT_SATURATE_ALL, good), APFLOAT_UNKNOWN_MODE},
         {TO(APFLOAT_E2M1FN, 0, good), APFLOAT_UNKNOWN_FORMAT},
         {TO(APFLOAT_DOUBLE_PAIR, 0, good), APFLOAT_NO_SUCH_OPERATION},
         {FROM(bad[0], 7, 0), APFLOAT_UNKNOWN_FORMAT},

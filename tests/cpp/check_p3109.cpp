@@ -24,7 +24,12 @@ p3109 form_of(const std::string &name) {
 template <class F>
 bool is_encoded(const row &r, const p3109 &form) {
     const auto x = value<F>::from_halves(rows::integer_of(r[3], 16).value()).value();
-    const auto made = r[2] == "odd" ? form.encode_odd(x) : form.encode(x, rows::mode_of(r[2]).value());
+    const auto words = rows::split(r[2] + "+", '+');
+    const auto large = words.at(1) == "finite"     ? overflowing::saturates_finite
+                       : words.at(1) == "saturate" ? overflowing::saturates
+                                                   : overflowing::rounds;
+    const auto made =
+        words[0] == "odd" ? form.encode_odd(x, large) : form.encode(x, rows::mode_of(words[0]).value(), large);
     return made && made->value == word_of(r[4]) && made->status.names() == r[5];
 }
 

@@ -3,8 +3,8 @@
 ghost use Rattle.formats_at_run_time.specs.FlaggedKinds.{flagged_kind_coded};
 ghost use Rattle.formats_at_run_time.specs.Modes.{mode_coded};
 ghost use Rattle.coded_calls.specs.Answers.{whole};
-ghost use Rattle.coded_calls.specs.P3109.{IsP3109Reply, conversion_round_coded, descriptor_coded};
-ghost use Rattle.coded_calls.specs.P3109.{known_into, known_out_of};
+ghost use Rattle.coded_calls.specs.P3109.{IsP3109Reply, descriptor_coded};
+ghost use Rattle.coded_calls.specs.P3109.{known_into, known_out_of, rule_coded};
 ghost use Rattle.coded_calls.specs.OneReply.{IsP3109ReplyOnce};
 
 use coded_calls::data::{Answer, Halves};
@@ -20,7 +20,7 @@ pub extern "C" fn apfloat_to_p3109(
     x: Halves,
     answer: &mut Answer,
 ) -> u32
-    ensures { let known = known_into (flagged_kind_coded format) (conversion_round_coded mode)
+    ensures { let known = known_into (flagged_kind_coded format) (rule_coded mode)
         (descriptor_coded to) (whole x) in
         IsP3109Reply known answer.old answer.new result }
 {

@@ -16,9 +16,9 @@ use Rattle.coded_calls.specs.OneReply.{IsP3109ReplyOnce}
 use Rattle.coded_calls.proofs.ExportsOnce.{OnceAnswer, converted_once, unchanged}
 
 answer_once : IsProjectedByOnce → (call : P3109Call) → OnceAnswer (IsP3109Answer call)
-answer_once once (Into source mode target bits) a b x y =
+answer_once once (Into source rule target bits) a b x y =
     let c = constants_in source in
-    let same = once target (format_with c) mode (value_of c bits) x.code y.code x.status y.status x.loses y.loses
+    let same = once target (format_with c) rule (value_of c bits) x.code y.code x.status y.status x.loses y.loses
     x.lawful x.below y.below x.is_into y.is_into in
     record {
       bits = x.bits_are ∙ same.0 ∙ sym y.bits_are;

@@ -1,5 +1,5 @@
 -- Calls that convert one value into a format of IEEE P3109 or out of it.
-use Rattle.std.specs.Prelude.{◌≡◌, ℕ, ◌%◌, ◌^◌, ◌<◌, ◌==◌, Bool, true, false, if◌then◌else◌, Option}
+use Rattle.std.specs.Prelude.{◌≡◌, ℕ, ◌/◌, ◌%◌, ◌^◌, ◌<◌, ◌==◌, Bool, true, false, if◌then◌else◌, Option}
 use Rattle.std.specs.Prelude.{Some, None, ok_or, option_and_then, option_map, Result, Ok, Err}
 use Rattle.rustc_apfloat.specs.declared.Round.{Round}
 use Rattle.rustc_apfloat.specs.Conversions.{IsConversion}
@@ -15,6 +15,10 @@ use Rattle.formats_at_run_time.specs.Modes.{mode_coded}
 use Rattle.small_formats.specs.declared.ConversionRound.{ConversionRound}
 use Rattle.small_formats.specs.declared.ConversionRound.TheVariants.{Ieee, ToOdd}
 use Rattle.p3109_formats.specs.declared.descriptor.Descriptor.{Descriptor}
+use Rattle.p3109_formats.specs.declared.rules.ProjectionRound.TheVariants.{By}
+use Rattle.p3109_formats.specs.declared.rules.ProjectionRule.{ProjectionRule}
+use Rattle.p3109_formats.specs.declared.rules.Saturation.{Saturation}
+use Rattle.p3109_formats.specs.declared.rules.Saturation.TheVariants.{Finite, Overflow, Propagate}
 use Rattle.p3109_formats.specs.LawTest.{descriptor_with}
 use Rattle.p3109_formats.specs.ModeConversions.{IsIntoProjectionBy}
 use Rattle.p3109_formats.specs.Projections.{IsProjection, projected_datum, projected_format}
@@ -42,20 +46,34 @@ abbrev pub conversion_round_coded : ℕ → Option ConversionRound
 conversion_round_coded mode =
     if mode == 5 then Some ToOdd else option_map (λ (round : Round). Ieee round) (mode_coded mode)
 
+abbrev pub saturation_coded : ℕ → Option Saturation
+saturation_coded code =
+    if code == 0 then Some Overflow else if code == 1 then Some Propagate else if code == 3 then Some Finite else None
+
+abbrev pub rule_with : ConversionRound → Saturation → ProjectionRule
+rule_with round saturation = record { round = By round; saturation = saturation }
+
+-- that of a saturation may be joined to the code of a mode
+abbrev pub rule_coded : ℕ → Option ProjectionRule
+rule_coded mode =
+    option_and_then
+    (λ round. option_map (λ (saturation : Saturation). rule_with round saturation) (saturation_coded (mode / 256)))
+    (conversion_round_coded (mode % 256))
+
 -- there are no conversions of pairs of doubles
-abbrev pub into_by : FlaggedKind → ConversionRound → Descriptor → ℕ → Result P3109Call ℕ
-into_by (OfFormat source) mode target bits = Ok (Into (format_without_rule source) mode target bits)
-into_by Pairs mode target bits = Err no_such_operation
+abbrev pub into_by : FlaggedKind → ProjectionRule → Descriptor → ℕ → Result P3109Call ℕ
+into_by (OfFormat source) rule target bits = Ok (Into (format_without_rule source) rule target bits)
+into_by Pairs rule target bits = Err no_such_operation
 
 abbrev pub out_of_by : Descriptor → Round → FlaggedKind → ℕ → Result P3109Call ℕ
 out_of_by source mode (OfFormat target) code = Ok (OutOf source mode target code)
 out_of_by source mode Pairs code = Err no_such_operation
 
 -- The faults in their order: the format, the mode, the format converted to, that there is no conversion.
-abbrev pub known_into : Option FlaggedKind → Option ConversionRound → Option Descriptor → ℕ
+abbrev pub known_into : Option FlaggedKind → Option ProjectionRule → Option Descriptor → ℕ
     → Result P3109Call ℕ
-known_into source mode target bits =
-    ok_or source unknown_format >>= λ from. ok_or mode unknown_mode >>= λ rounding.
+known_into source rule target bits =
+    ok_or source unknown_format >>= λ from. ok_or rule unknown_mode >>= λ rounding.
     ok_or target unknown_format >>= λ to. into_by from rounding to bits
 
 abbrev pub known_out_of : Option Descriptor → Option Round → Option FlaggedKind → ℕ → Result P3109Call ℕ
@@ -64,19 +82,19 @@ known_out_of source mode target code =
     ok_or target unknown_format >>= λ to. out_of_by from rounding to code
 
 abbrev pub IsLawful : P3109Call → Type 0
-IsLawful (Into source mode target bits) = IsProjection target
+IsLawful (Into source rule target bits) = IsProjection target
 IsLawful (OutOf source mode target code) = IsProjection source
 
 -- ---- what a call leaves
 
 -- the code, its flags, and whether information was lost
-pub record IsProjectedAnswer (c : Descriptor) (f : Format) (mode : ConversionRound) (x : Datum) (answer : Answer)
+pub record IsProjectedAnswer (c : Descriptor) (f : Format) (rule : ProjectionRule) (x : Datum) (answer : Answer)
     : Type 0 where
   pub code : ℕ
   pub status : ℕ
   pub loses : Bool
   pub lawful : IsProjection c
-  pub is_into : IsIntoProjectionBy c f mode x code status loses
+  pub is_into : IsIntoProjectionBy c f rule x code status loses
   pub below : code < 2 ^ c.bits
   pub bits_are : whole answer.bits ≡ code
   pub status_is : answer.status ≡ status
@@ -89,8 +107,8 @@ IsDecodedAnswer c d mode code answer =
     answer
 
 abbrev pub IsP3109Answer : P3109Call → Answer → Type 0
-IsP3109Answer (Into source mode target bits) answer =
-    IsProjectedAnswer target (format_with (constants_in source)) mode (value_of (constants_in source) bits) answer
+IsP3109Answer (Into source rule target bits) answer =
+    IsProjectedAnswer target (format_with (constants_in source)) rule (value_of (constants_in source) bits) answer
 IsP3109Answer (OutOf source mode target code) answer =
     IsDecodedAnswer source (flagged_constants target) mode code answer
 

@@ -9,14 +9,14 @@ ghost use Rattle.formats_at_run_time.specs.ValueKinds.{value_of};
 ghost use Rattle.p3109_formats.specs.Projections.{IsProjection};
 ghost use Rattle.coded_calls.specs.P3109.{IsDecodedAnswer, IsLawful, IsP3109Answer, IsP3109Reply};
 ghost use Rattle.coded_calls.specs.P3109.{IsProjectedAnswer, conversion_round_coded, descriptor_coded, flag_coded};
-ghost use Rattle.coded_calls.specs.P3109.{known_into, known_out_of};
+ghost use Rattle.coded_calls.specs.P3109.{known_into, known_out_of, rule_coded, saturation_coded};
 
 use crate::codes::{ANSWERED, NO_SUCH_OPERATION, UNKNOWN_FORMAT, UNKNOWN_MODE, one_if};
 use crate::data::Answer;
 use formats_at_run_time::{
     BuiltInFormat, FlaggedFormat, FlaggedKind, InFormat, WritesInFormat, mode_coded,
 };
-use p3109_formats::Descriptor;
+use p3109_formats::{Descriptor, ProjectionRound, ProjectionRule, Saturation};
 use rustc_apfloat::ieee::{Flagged, IeeeFloat, Semantics};
 use rustc_apfloat::{Float, Round};
 use small_formats::ConversionRound;
@@ -44,7 +44,7 @@ const _: () = prove!(align_of::<P3109Format>() == 4);
 #[derive(Clone, Copy)]
 pub enum P3109Call {
     /// Of a value, given by its bits, into a format of P3109.
-    Into(BuiltInFormat, ConversionRound, Descriptor, u128),
+    Into(BuiltInFormat, ProjectionRule, Descriptor, u128),
     /// Of a code out of a format of P3109. The rule of flags is that of the other format.
     OutOf(Descriptor, Round, FlaggedFormat, u32),
 }
@@ -83,21 +83,45 @@ fn conversion_round_coded(mode: u32) -> Option<ConversionRound>
     }
 }
 
+/// What becomes of what is past the largest number, by the code that is joined to that of a mode.
+fn saturation_coded(code: u32) -> Option<Saturation>
+    ensures { result ≡ saturation_coded code }
+{
+    match code {
+        0 => Some(Saturation::Overflow),
+        1 => Some(Saturation::Propagate),
+        3 => Some(Saturation::Finite),
+        _ => None,
+    }
+}
+
+/// How a value is rounded and saturated, by the code of a mode, to which that of a saturation may be joined.
+fn rule_coded(mode: u32) -> Option<ProjectionRule>
+    ensures { result ≡ rule_coded mode }
+{
+    let round = conversion_round_coded(mode % 256)?;
+    let saturation = saturation_coded(mode / 256)?;
+    Some(ProjectionRule {
+        round: ProjectionRound::By(round),
+        saturation,
+    })
+}
+
 /// The conversion into a format of P3109 that is asked for, or the code of the first error.
 fn known_into(
     source: Option<FlaggedKind>,
-    mode: Option<ConversionRound>,
+    rule: Option<ProjectionRule>,
     target: Option<Descriptor>,
     bits: u128,
 ) -> Result<P3109Call, u32>
     requires { IfSome target (λ it. IsProjection it) }
-    ensures is { result ≡ known_into source mode target bits }
+    ensures is { result ≡ known_into source rule target bits }
     ensures lawful { IfOk result IsLawful }
 {
     let Some(source) = source else {
         return Err(UNKNOWN_FORMAT);
     };
-    let Some(mode) = mode else {
+    let Some(rule) = rule else {
         return Err(UNKNOWN_MODE);
     };
     let Some(target) = target else {
@@ -105,7 +129,7 @@ fn known_into(
     };
     match source {
         FlaggedKind::OfFormat(format) => {
-            Ok(P3109Call::Into(format.built_in(), mode, target, bits))
+            Ok(P3109Call::Into(format.built_in(), rule, target, bits))
         }
         FlaggedKind::Pairs => Err(NO_SUCH_OPERATION),
     }
@@ -140,13 +164,13 @@ fn known_out_of(
 /// Makes the code in a format of P3109 of a value, rounded once, and returns 0, or the code of the first error. The
 /// bits above those of the value's format are ignored.
 pub fn reply_into(format: u32, mode: u32, to: P3109Format, bits: u128, answer: &mut Answer) -> u32
-    ensures { let known = known_into (flagged_kind_coded format) (conversion_round_coded mode)
+    ensures { let known = known_into (flagged_kind_coded format) (rule_coded mode)
         (descriptor_coded to) bits in
         IsP3109Reply known answer.old answer.new result }
 {
     let known = known_into(
         FlaggedKind::coded(format),
-        conversion_round_coded(mode),
+        rule_coded(mode),
         descriptor_coded(to),
         bits,
     );
@@ -189,8 +213,8 @@ fn converted(call: P3109Call) -> Answer
     ensures { IsP3109Answer call result }
 {
     match call {
-        P3109Call::Into(source, mode, target, bits) => source.run(Projecting {
-            mode,
+        P3109Call::Into(source, rule, target, bits) => source.run(Projecting {
+            rule,
             target,
             bits,
         }),
@@ -208,7 +232,7 @@ fn converted(call: P3109Call) -> Answer
 /// The call that converts a value into a format of P3109, made at the type of its format.
 #[derive(Clone, Copy)]
 struct Projecting {
-    mode: ConversionRound,
+    rule: ProjectionRule,
     target: Descriptor,
     bits: u128,
 }
@@ -227,12 +251,12 @@ impl InFormat for Projecting {
     ghost can = { λ it kind. IsProjection it.target };
 
     ghost gives = { λ it kind answer. IfFormat kind
-        (λ c. IsProjectedAnswer it.target (format_with c) it.mode (value_of c it.bits) answer) };
+        (λ c. IsProjectedAnswer it.target (format_with c) it.rule (value_of c it.bits) answer) };
 
     fn in_format<S: Semantics>(self) -> Answer {
         let mut loses_info = false;
         let x = IeeeFloat::<S>::from_bits(self.bits);
-        let made = self.target.from_value_by(x, self.mode, &mut loses_info);
+        let made = self.target.project(x, self.rule, &mut loses_info);
         Answer::of(u128::from(made.value), made.status, one_if(loses_info))
     }
 }

@@ -1,6 +1,7 @@
 mod Codes
 mod Values
 mod OneAnswer
+mod RandomParts
 mod RandomCodes
 mod Order
 mod Neighbours

@@ -8,24 +8,32 @@ use Rattle.std.proofs.lemmas.Bool.{cases_eq, cases_lt, eq-eqb, eqb-true, false�
 use Rattle.std.proofs.lemmas.Bool.{MatchBool-at_false}
 use Rattle.std.proofs.lemmas.Nat.{mod_below, pow_pos}
 use Rattle.apfloat_model.specs.declared.kinds.Round.{Round}
+use Rattle.apfloat_model.specs.declared.kinds.Round.TheVariants.{NearestTiesToAway, NearestTiesToEven}
 use Rattle.apfloat_model.specs.formats.Datum.{Datum, finite, infinite, nan}
 use Rattle.apfloat_model.specs.formats.Format.{Format}
 use Rattle.apfloat_model.specs.order.Classes.{is_infinite, is_nan, is_negative, quanta_of}
-use Rattle.apfloat_model.specs.rounding.Rounding.{IsPick, ok_bits}
+use Rattle.apfloat_model.specs.rounding.Rounding.{IsPick, leads_out, ok_bits}
 use Rattle.apfloat_model.proofs.general.Powers.{twice_half}
 use Rattle.small_formats.specs.declared.ConversionRound.{ConversionRound}
 use Rattle.small_formats.specs.declared.ConversionRound.TheVariants.{Ieee}
+use Rattle.small_formats.specs.declared.RandomDigits.{RandomDigits}
 use Rattle.small_formats.specs.Codes.{point}
-use Rattle.small_formats.specs.Modes.{IsPickBy, ieee_mode, takes_next}
+use Rattle.small_formats.specs.Modes.{IsPickBy, takes_next}
 use Rattle.small_formats.specs.PicksBy.{IsCodePickBy, IsPointPickBy}
 use Rattle.p3109_formats.specs.Laws.{AreCodePicksPicks, IsProjectedOnce}
 use Rattle.p3109_formats.specs.ModeLaws.{AreProjectionsOfModes, IsProjectedByOnce}
 use Rattle.p3109_formats.specs.ModeConversions.{IsIntoProjectionBy, IsProjectedNumberBy}
 use Rattle.p3109_formats.specs.Projections.{IsCodeOf, IsCodePick, IsIntoProjection, IsPointPick, IsProjectedNumber}
 use Rattle.p3109_formats.specs.declared.descriptor.Descriptor.{Descriptor}
+use Rattle.p3109_formats.specs.declared.rules.ProjectionRound.{ProjectionRound}
+use Rattle.p3109_formats.specs.declared.rules.ProjectionRound.TheVariants.{By, StochasticB, StochasticC}
+use Rattle.p3109_formats.specs.declared.rules.ProjectionRule.{ProjectionRule}
+use Rattle.p3109_formats.specs.declared.rules.Saturation.{Saturation}
+use Rattle.p3109_formats.specs.declared.rules.Saturation.TheVariants.{Finite, Overflow, Propagate}
 use Rattle.p3109_formats.specs.Projections.{IsProjection, is_negative_code, largest_index, magnitude_of}
 use Rattle.p3109_formats.specs.Projections.{nan_code, projected_datum, projected_format, projected_status}
 use Rattle.p3109_formats.specs.Projections.{projected_value, sign_bits, unsigned_codes}
+use Rattle.p3109_formats.specs.Rules.{IsInfinityBy, IsRandomPick, IsRulePick, passes, plain_rule, reaches_next, round_of}
 use Rattle.small_formats.proofs.CodePicks.{code_picks_by}
 use Rattle.small_formats.proofs.IndexPicks.{index_pick_once}
 use Rattle.small_formats.proofs.ModesOnce.{pick_by_once}
@@ -52,6 +60,21 @@ point_pick_once p mode negative amount parts i j some = by_digits (eqb p 1)
         x y
     by_digits false x y =
         one_number p i j some (pick_by_once p mode negative amount parts (point p i) (point p j) x y)
+
+pub random_pick_once : (p : ℕ) (mode : Round) (bits : RandomDigits) (amount parts i j : ℕ) → 0 < p
+    → IsRandomPick p mode bits amount parts i → IsRandomPick p mode bits amount parts j → i ≡ j
+random_pick_once p mode bits amount parts i j some x y =
+    index_pick_once (λ below above odd. reaches_next mode bits below above) (point p) amount parts i j
+    (λ a b less. points_in_order p a b some less) x y
+
+rule_pick_once : (p : ℕ) (round : ProjectionRound) (negative : Bool) (amount parts i j : ℕ) → 0 < p
+    → IsRulePick p round negative amount parts i → IsRulePick p round negative amount parts j → i ≡ j
+rule_pick_once p (By mode) negative amount parts i j some x y =
+    point_pick_once p mode negative amount parts i j some x y
+rule_pick_once p (StochasticB bits) negative amount parts i j some x y =
+    random_pick_once p NearestTiesToAway bits amount parts i j some x y
+rule_pick_once p (StochasticC bits) negative amount parts i j some x y =
+    random_pick_once p NearestTiesToEven bits amount parts i j some x y
 
 -- ---- codes
 
@@ -188,55 +211,65 @@ given_once c given bits lossy code other status flags loses lost law l k x y = (
   x.loses_is ∙ sym y.loses_is,
 )
 
-number_once : (c : Descriptor) (f : Format) (mode : ConversionRound) (b : Bool) (n code other status flags : ℕ)
+number_once : (c : Descriptor) (f : Format) (rule : ProjectionRule) (b : Bool) (n code other status flags : ℕ)
     (loses lost : Bool) → IsProjection c → code < 2 ^ c.bits → other < 2 ^ c.bits
-    → IsProjectedNumberBy c f mode b n code status loses → IsProjectedNumberBy c f mode b n other flags lost
+    → IsProjectedNumberBy c f rule b n code status loses → IsProjectedNumberBy c f rule b n other flags lost
     → AreSame code status loses other flags lost
-number_once c f mode b n code other status flags loses lost law l k x y =
+number_once c f rule b n code other status flags loses lost law l k x y =
     let v = x.is_rounded in
     let w = y.is_rounded in
+    let round = round_of rule.round in
+    let leads : Bool = passes rule.saturation (leads_out round b) in
     let same : v.index ≡ w.index =
-    point_pick_once c.precision mode b _ (2 ^ f.scale) v.index w.index law.precision_low v.is_pick w.is_pick in
+    rule_pick_once c.precision rule.round b _ (2 ^ f.scale) v.index w.index law.precision_low v.is_pick w.is_pick in
     let told : status ≡ flags =
-    v.status_is ∙ ap (λ (i : ℕ). projected_status c (ieee_mode mode) b _ (2 ^ f.scale) i) same
-    ∙ sym w.status_is in (
+    v.status_is ∙ ap (λ (i : ℕ). projected_status c round b _ (2 ^ f.scale) i) same ∙ sym w.status_is in (
       projected_code_once c code other law l k
-          (v.value_is ∙ ap (λ (i : ℕ). projected_value c (ieee_mode mode) b i) same ∙ sym w.value_is),
+          (v.value_is ∙ ap (λ (i : ℕ). projected_value c leads b i) same ∙ sym w.value_is),
       told,
       x.loses_is ∙ ap (λ (s : ℕ). not (eqb s ok_bits)) told ∙ sym y.loses_is,
     )
 
-pub projected_by_once : IsProjectedByOnce
-projected_by_once c f mode (nan b s) code other status flags loses lost law l k x y =
-    given_once c _ _ _ code other status flags loses lost law l k x y
-projected_by_once c f mode (infinite b) code other status flags loses lost law l k x y =
-    by_sign (b && not c.signed) c.extended x y
+infinity_once : (c : Descriptor) (saturation : Saturation) (b : Bool) (code other status flags : ℕ)
+    (loses lost : Bool) → IsProjection c → code < 2 ^ c.bits → other < 2 ^ c.bits
+    → IsInfinityBy saturation c b code status loses → IsInfinityBy saturation c b other flags lost
+    → AreSame code status loses other flags lost
+infinity_once c saturation b code other status flags loses lost law l k = by_rule saturation
   where
-    by_sign : (none extended : Bool)
-        → MatchBool none (IsCodeOf c (nan false 0) 1 true code status loses)
-        (MatchBool extended (IsCodeOf c (infinite b) 0 false code status loses)
-        (IsCodeOf c (nan false 0) 16 true code status loses))
-        → MatchBool none (IsCodeOf c (nan false 0) 1 true other flags lost)
-        (MatchBool extended (IsCodeOf c (infinite b) 0 false other flags lost)
-        (IsCodeOf c (nan false 0) 16 true other flags lost))
-        → AreSame code status loses other flags lost
-    by_sign true extended x y = given_once c _ _ _ code other status flags loses lost law l k x y
-    by_sign false true x y = given_once c _ _ _ code other status flags loses lost law l k x y
-    by_sign false false x y = given_once c _ _ _ code other status flags loses lost law l k x y
-projected_by_once c f mode (finite b zero) code other status flags loses lost law l k x y =
+    plain : (extended : Bool)
+        → MatchBool extended (IsCodeOf c (infinite b) 0 false code status loses)
+        (IsCodeOf c (nan false 0) 16 true code status loses)
+        → MatchBool extended (IsCodeOf c (infinite b) 0 false other flags lost)
+        (IsCodeOf c (nan false 0) 16 true other flags lost) → AreSame code status loses other flags lost
+    plain true x y = given_once c _ _ _ code other status flags loses lost law l k x y
+    plain false x y = given_once c _ _ _ code other status flags loses lost law l k x y
+
+    by_rule : (saturation : Saturation) → IsInfinityBy saturation c b code status loses
+        → IsInfinityBy saturation c b other flags lost → AreSame code status loses other flags lost
+    by_rule Overflow x y = plain c.extended x y
+    by_rule Finite x y = given_once c _ _ _ code other status flags loses lost law l k x y
+    by_rule Propagate x y = plain c.extended x y
+
+pub projected_by_once : IsProjectedByOnce
+projected_by_once c f rule (nan b s) code other status flags loses lost law l k x y =
     given_once c _ _ _ code other status flags loses lost law l k x y
-projected_by_once c f mode (finite b (suc n)) code other status flags loses lost law l k x y =
-    let some : eqb (suc n) 0 ≡ false = ne_eqb (suc n) 0 (λ e. omega (arith, e)) in
-    by_sign (b && not c.signed) (MatchBool-at_false _ _ some x) (MatchBool-at_false _ _ some y)
+projected_by_once c f rule (infinite b) code other status flags loses lost law l k x y =
+    by_sign (b && not c.signed) x y
   where
     by_sign : (none : Bool)
         → MatchBool none (IsCodeOf c (nan false 0) 1 true code status loses)
-        (IsProjectedNumberBy c f mode b (suc n) code status loses)
+        (IsInfinityBy rule.saturation c b code status loses)
         → MatchBool none (IsCodeOf c (nan false 0) 1 true other flags lost)
-        (IsProjectedNumberBy c f mode b (suc n) other flags lost)
+        (IsInfinityBy rule.saturation c b other flags lost)
         → AreSame code status loses other flags lost
     by_sign true x y = given_once c _ _ _ code other status flags loses lost law l k x y
-    by_sign false x y = number_once c f mode b (suc n) code other status flags loses lost law l k x y
+    by_sign false x y = infinity_once c rule.saturation b code other status flags loses lost law l k x y
+projected_by_once c f rule (finite b zero) code other status flags loses lost law l k x y =
+    given_once c _ _ _ code other status flags loses lost law l k x y
+projected_by_once c f rule (finite b (suc n)) code other status flags loses lost law l k x y =
+    let some : eqb (suc n) 0 ≡ false = ne_eqb (suc n) 0 (λ e. omega (arith, e)) in
+    number_once c f rule b (suc n) code other status flags loses lost law l k
+    (MatchBool-at_false _ _ some x) (MatchBool-at_false _ _ some y)
 
 -- ---- the five modes
 
@@ -272,18 +305,16 @@ code_picks p mode negative amount parts index two some x =
     (code_picks_by p (Ieee mode) negative amount parts index two some x)
 
 -- only a number is rounded
-by_number : (none without : Bool) (A B C D : Type 0) → (C → D)
-    → MatchBool none A (MatchBool without B C) → MatchBool none A (MatchBool without B D)
-by_number true without A B C D h x = x
-by_number false true A B C D h x = x
-by_number false false A B C D h x = h x
+by_number : (none : Bool) (A C D : Type 0) → (C → D) → MatchBool none A C → MatchBool none A D
+by_number true A C D h x = x
+by_number false A C D h x = h x
 
 pub projections_of_modes : AreProjectionsOfModes
 projections_of_modes c f mode (nan b s) code status loses x = x
 projections_of_modes c f mode (infinite b) code status loses x = x
 projections_of_modes c f mode (finite b n) code status loses x =
-    by_number (eqb n 0) (b && not c.signed) _ _ _ _
-    (λ (y : IsProjectedNumberBy c f (Ieee mode) b n code status loses).
+    by_number (eqb n 0) _ _ _
+    (λ (y : IsProjectedNumberBy c f (plain_rule (Ieee mode)) b n code status loses).
     let r = y.is_rounded in
     let p = point_pick_of c.precision mode b (n * 2 ^ (projected_format c).scale) (2 ^ f.scale) r.index r.is_pick in
     record {
@@ -292,11 +323,12 @@ projections_of_modes c f mode (finite b n) code status loses x =
     }) x
 
 modes_of_projection : (c : Descriptor) (f : Format) (mode : Round) (x : Datum) (code status : ℕ) (loses : Bool)
-    → IsIntoProjection c f mode x code status loses → IsIntoProjectionBy c f (Ieee mode) x code status loses
+    → IsIntoProjection c f mode x code status loses
+    → IsIntoProjectionBy c f (plain_rule (Ieee mode)) x code status loses
 modes_of_projection c f mode (nan b s) code status loses x = x
 modes_of_projection c f mode (infinite b) code status loses x = x
 modes_of_projection c f mode (finite b n) code status loses x =
-    by_number (eqb n 0) (b && not c.signed) _ _ _ _
+    by_number (eqb n 0) _ _ _
     (λ (y : IsProjectedNumber c f mode b n code status loses).
     let r = y.is_rounded in
     let p = point_pick_by c.precision mode b (n * 2 ^ (projected_format c).scale) (2 ^ f.scale) r.index r.is_pick in
@@ -307,5 +339,5 @@ modes_of_projection c f mode (finite b n) code status loses x =
 
 pub projected_once : IsProjectedOnce
 projected_once c f mode x code other status flags loses lost law l k y z =
-    projected_by_once c f (Ieee mode) x code other status flags loses lost law l k
+    projected_by_once c f (plain_rule (Ieee mode)) x code other status flags loses lost law l k
     (modes_of_projection c f mode x code status loses y) (modes_of_projection c f mode x other flags lost z)

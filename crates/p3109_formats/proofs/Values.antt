@@ -1,16 +1,17 @@
 -- What is delivered in a format of P3109, and what its codes become in other formats.
-use Rattle.std.proofs.Common.{◌≡◌, ℕ, ◌-◌, ◌*◌, ◌/◌, ◌^◌, ◌<◌, ◌≤◌, Bool, true, false}
+use Rattle.std.proofs.Common.{◌≡◌, ℕ, zero, suc, ◌-◌, ◌*◌, ◌/◌, ◌^◌, ◌<◌, ◌≤◌, Bool, true, false}
 use Rattle.std.proofs.Common.{cond, not, ◌&&◌, eqb, ltb}
 use Rattle.std.proofs.Common.{sym, refl, ap, ◌∙◌, subst, arith}
 use Rattle.std.specs.Bool.{MatchBool}
 use Rattle.std.proofs.lemmas.Bool.{false≢true, le-ltb, lt-ltb, ne_eqb}
+use Rattle.std.proofs.lemmas.Nat.{pow_pos}
 use Rattle.apfloat_model.specs.declared.kinds.NonfiniteBehavior.{NonfiniteBehavior}
 use Rattle.apfloat_model.specs.declared.kinds.NonfiniteBehavior.TheVariants.{NanNegativeZero}
 use Rattle.apfloat_model.specs.declared.kinds.Round.{Round}
 use Rattle.apfloat_model.specs.arithmetic.Conversions.{IsConversion, IsConvertedNumber, IsKept, loses_zero_sign}
 use Rattle.apfloat_model.specs.formats.Datum.{Datum, finite, infinite, nan}
 use Rattle.apfloat_model.specs.formats.Format.{Format, payload_mask}
-use Rattle.apfloat_model.specs.formats.Nan.{invalid_if, is_signaling_nan, nan_sign, quiet_significand}
+use Rattle.apfloat_model.specs.formats.Nan.{invalid_bit, invalid_if, is_signaling_nan, nan_sign, quiet_significand}
 use Rattle.apfloat_model.specs.declared.kinds.Category.TheVariants.{NaN, Normal, Zero}
 use Rattle.apfloat_model.specs.rounding.Negation.{negated}
 use Rattle.apfloat_model.specs.order.Classes.{category_of, is_negative, quanta_of}
@@ -18,36 +19,73 @@ use Rattle.apfloat_model.specs.rounding.Rounding.{IsDelivered, inexact_bit, lead
 use Rattle.apfloat_model.specs.rounding.Rounding.{zero_sign}
 use Rattle.apfloat_model.proofs.order.Categories.{no_nan}
 use Rattle.small_formats.specs.Codes.{point}
-use Rattle.small_formats.specs.declared.ConversionRound.{ConversionRound}
 use Rattle.p3109_formats.specs.Picks.{IsProjectedAt}
 use Rattle.p3109_formats.specs.ModeConversions.{IsIntoProjectionBy, IsProjectedBy, IsProjectedNumberBy}
 use Rattle.p3109_formats.specs.declared.descriptor.Descriptor.{Descriptor}
-use Rattle.p3109_formats.specs.Projections.{IsCodeOf, IsProjection, IsWithoutCode, largest_index}
+use Rattle.p3109_formats.specs.declared.rules.ProjectionRule.{ProjectionRule}
+use Rattle.p3109_formats.specs.Projections.{IsCodeOf, IsProjection, lacks_point, largest_index}
 use Rattle.p3109_formats.specs.Projections.{past_value, projected_datum, projected_format}
 use Rattle.small_formats.proofs.CodesCompared.{not_below_number}
+use Rattle.small_formats.proofs.Points.{low_point}
 use Rattle.p3109_formats.proofs.Codes.{four_codes}
 
 -- ---- in
 
-pub past_projected : (c : Descriptor) (mode : Round) (negative : Bool) (amount parts index code status : ℕ)
-    → largest_index c < index
-    → projected_datum c code
-    ≡ cond (leads_out mode negative) (past_value c negative) (finite negative (point c.precision (largest_index c)))
-    → status ≡ cond (leads_out mode negative) 20 16 → IsProjectedAt c mode negative amount parts index code status
-past_projected c mode negative amount parts index code status l value flags =
-    let past : ltb (largest_index c) index ≡ true = lt-ltb (largest_index c) index l in
-    record { value_is = rw past value; status_is = rw past flags }
+-- a format that has the sign has the point
+pub has_point : (negative signed none : Bool) → (negative ≡ true → signed ≡ true)
+    → ((negative && not signed) && not none) ≡ false
+has_point true true none h = refl
+has_point true false none h = absurd (false≢true (h refl))
+has_point false signed none h = refl
 
-pub within_projected : (c : Descriptor) (mode : Round) (negative : Bool) (amount parts index code status : ℕ)
-    (exact : Bool) → index ≤ largest_index c → exact ≡ eqb (point c.precision index * parts) amount
+pub past_projected : (c : Descriptor) (mode : Round) (leads negative : Bool) (amount parts index code status : ℕ)
+    → (negative ≡ true → c.signed ≡ true) → largest_index c < index
+    → projected_datum c code
+    ≡ cond leads (past_value c negative) (finite negative (point c.precision (largest_index c)))
+    → status ≡ cond (leads_out mode negative) 20 16
+    → IsProjectedAt c mode leads negative amount parts index code status
+past_projected c mode leads negative amount parts index code status h l value flags =
+    let here : lacks_point c negative index ≡ false = has_point negative c.signed (eqb index 0) h in
+    let past : ltb (largest_index c) index ≡ true = lt-ltb (largest_index c) index l in
+    record { value_is = rw (here, past) value; status_is = rw (here, past) flags }
+
+pub within_projected : (c : Descriptor) (mode : Round) (leads negative : Bool) (amount parts index code status : ℕ)
+    (exact : Bool) → lacks_point c negative index ≡ false → index ≤ largest_index c
+    → exact ≡ eqb (point c.precision index * parts) amount
     → projected_datum c code ≡ signed_quanta NanNegativeZero negative (point c.precision index)
     → status ≡ cond exact 0 (cond (ltb index (2 ^ (c.precision - 1))) 24 16)
-    → IsProjectedAt c mode negative amount parts index code status
-within_projected c mode negative amount parts index code status exact l same value flags =
+    → IsProjectedAt c mode leads negative amount parts index code status
+within_projected c mode leads negative amount parts index code status exact here l same value flags =
     let within : ltb (largest_index c) index ≡ false = le-ltb (largest_index c) index l in
     let told = flags
     ∙ ap (λ (b : Bool). cond b 0 (cond (ltb index (2 ^ (c.precision - 1))) 24 16)) same in
-    record { value_is = rw within value; status_is = rw within told }
+    record { value_is = rw (here, within) value; status_is = rw (here, within) told }
+
+-- zero is the same with either sign
+pub zero_projected : (c : Descriptor) (mode : Round) (leads : Bool) (amount parts index code status : ℕ) → index ≡ 0
+    → IsProjectedAt c mode leads false amount parts index code status
+    → IsProjectedAt c mode leads true amount parts index code status
+zero_projected c mode leads amount parts zero code status none h =
+    let here : lacks_point c true 0 ≡ false = and_false (true && not c.signed) in
+    let within : ltb (largest_index c) 0 ≡ false = le-ltb (largest_index c) 0 (omega arith) in
+    let nothing : point c.precision 0 ≡ 0 = low_point c.precision 0 (pow_pos (c.precision - 1)) in
+    let value = rw (within, nothing) at h.value_is in
+    let flags = rw within at h.status_is in
+    record { value_is = rw (here, within, nothing) value; status_is = rw (here, within) flags }
+  where
+    and_false : (b : Bool) → (b && not true) ≡ false
+    and_false true = refl
+    and_false false = refl
+zero_projected c mode leads amount parts (suc index) code status none h = cc
+
+pub lacking_projected : (c : Descriptor) (mode : Round) (leads : Bool) (amount parts index code status : ℕ)
+    → c.signed ≡ false → (index ≡ 0 → ⊥) → projected_datum c code ≡ nan false 0 → status ≡ invalid_bit
+    → IsProjectedAt c mode leads true amount parts index code status
+lacking_projected c mode leads amount parts index code status unsigned some value flags =
+    let lacks : lacks_point c true index ≡ true =
+    ap (λ (b : Bool). (true && not b) && not (eqb index 0)) unsigned
+    ∙ ap (λ (b : Bool). true && not b) (ne_eqb index 0 some) in
+    record { value_is = rw lacks value; status_is = rw lacks flags }
 
 -- a number that is not zero keeps its sign
 pub number_signed : (p index : ℕ) (negative : Bool) → 0 < p → 0 < index
@@ -74,39 +112,35 @@ largest_some c law = by_cases c.signed c.extended (four_codes c law)
     by_cases false false l = omega (arith, l)
 
 -- what each category becomes in a projection: a NaN becomes the NaN
-pub nan_into : (c : Descriptor) (f : Format) (mode : ConversionRound) (x : Datum) (code status : ℕ) (loses : Bool)
+pub nan_into : (c : Descriptor) (f : Format) (rule : ProjectionRule) (x : Datum) (code status : ℕ) (loses : Bool)
     → category_of x ≡ NaN → projected_datum c code ≡ nan false 0
     → status ≡ invalid_if (is_signaling_nan f x) → loses ≡ not (eqb (payload_mask f) 0)
-    → IsIntoProjectionBy c f mode x code status loses
-nan_into c f mode (nan b s) code status loses is value flags lost =
+    → IsIntoProjectionBy c f rule x code status loses
+nan_into c f rule (nan b s) code status loses is value flags lost =
     record { value_is = value; status_is = flags; loses_is = lost }
-nan_into c f mode (finite b n) code status loses is value flags lost = absurd (no_nan (eqb n 0) is)
-nan_into c f mode (infinite b) code status loses is value flags lost = cc
+nan_into c f rule (finite b n) code status loses is value flags lost = absurd (no_nan (eqb n 0) is)
+nan_into c f rule (infinite b) code status loses is value flags lost = cc
 
-number_by : (c : Descriptor) (f : Format) (mode : ConversionRound) (b none unsigned : Bool) (n code status : ℕ)
-    (loses : Bool) → cond none Zero Normal ≡ Normal → unsigned ≡ false
-    → IsProjectedNumberBy c f mode b n code status loses
+number_by : (c : Descriptor) (f : Format) (rule : ProjectionRule) (b none : Bool) (n code status : ℕ)
+    (loses : Bool) → cond none Zero Normal ≡ Normal → IsProjectedNumberBy c f rule b n code status loses
     → MatchBool none (IsCodeOf c (finite false 0) (cond b inexact_bit ok_bits) b code status loses)
-    (MatchBool unsigned (IsWithoutCode c code status loses) (IsProjectedNumberBy c f mode b n code status loses))
-number_by c f mode b true unsigned n code status loses is known h = cc
-number_by c f mode b false true n code status loses is known h = absurd (false≢true (sym known))
-number_by c f mode b false false n code status loses is known h = h
+    (IsProjectedNumberBy c f rule b n code status loses)
+number_by c f rule b true n code status loses is h = cc
+number_by c f rule b false n code status loses is h = h
 
-pub number_into : (c : Descriptor) (f : Format) (mode : ConversionRound) (x : Datum) (code status : ℕ)
+pub number_into : (c : Descriptor) (f : Format) (rule : ProjectionRule) (x : Datum) (code status : ℕ)
     (loses negative : Bool) → category_of x ≡ Normal → negative ≡ is_negative x
-    → (negative && not c.signed) ≡ false
-    → IsProjectedBy c mode negative (quanta_of x * 2 ^ (projected_format c).scale) (2 ^ f.scale) code status
-    → loses ≡ not (eqb status ok_bits) → IsIntoProjectionBy c f mode x code status loses
-number_into c f mode (finite b n) code status loses negative is sign known h lost =
-    number_by c f mode b (eqb n 0) (b && not c.signed) n code status loses is
-    (ap (λ (d : Bool). d && not c.signed) (sym sign) ∙ known)
+    → IsProjectedBy c rule negative (quanta_of x * 2 ^ (projected_format c).scale) (2 ^ f.scale) code status
+    → loses ≡ not (eqb status ok_bits) → IsIntoProjectionBy c f rule x code status loses
+number_into c f rule (finite b n) code status loses negative is sign h lost =
+    number_by c f rule b (eqb n 0) n code status loses is
     (record {
-      is_rounded = subst (λ (d : Bool). IsProjectedBy c mode d (n * 2 ^ (projected_format c).scale) (2 ^ f.scale)
+      is_rounded = subst (λ (d : Bool). IsProjectedBy c rule d (n * 2 ^ (projected_format c).scale) (2 ^ f.scale)
           code status) sign h;
       loses_is = lost;
     })
-number_into c f mode (infinite b) code status loses negative is sign known h lost = cc
-number_into c f mode (nan b s) code status loses negative is sign known h lost = cc
+number_into c f rule (infinite b) code status loses negative is sign h lost = cc
+number_into c f rule (nan b s) code status loses negative is sign h lost = cc
 
 -- the number without its sign has the same quanta
 normal_negated : (none : Bool) (z : Datum) (n : ℕ) → cond none Zero Normal ≡ Normal
@@ -127,6 +161,16 @@ pub signed_if : (negative signed : Bool) → (negative && not signed) ≡ false 
 signed_if true true e h = refl
 signed_if true false e h = absurd (false≢true (sym e))
 signed_if false signed e h = absurd (false≢true h)
+
+-- a format without the sign
+pub lacked_sign : (negative signed : Bool) → (negative && not signed) ≡ true → negative ≡ true
+lacked_sign true signed e = refl
+lacked_sign false signed e = absurd (false≢true e)
+
+pub lacks_no_sign : (negative signed : Bool) → (negative && not signed) ≡ true → signed ≡ false
+lacks_no_sign true true e = absurd (false≢true e)
+lacks_no_sign true false e = refl
+lacks_no_sign false signed e = absurd (false≢true e)
 
 -- ---- out
 

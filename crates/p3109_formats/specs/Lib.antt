@@ -1,6 +1,7 @@
 pub mod Projections
 pub mod Types
 pub mod LawTest
+pub mod Rules
 pub mod Picks
 pub mod ModeConversions
 pub mod Laws

@@ -12,14 +12,16 @@ use Rattle.small_formats.specs.Modes.{IsPickBy, parts_above}
 use Rattle.small_formats.specs.PicksBy.{IsCodePickBy, IsPointPickBy}
 use Rattle.p3109_formats.specs.ModeConversions.{IsIntoProjectionBy}
 use Rattle.p3109_formats.specs.declared.descriptor.Descriptor.{Descriptor}
+use Rattle.p3109_formats.specs.declared.rules.ProjectionRule.{ProjectionRule}
 use Rattle.p3109_formats.specs.Projections.{IsIntoProjection, IsProjection}
+use Rattle.p3109_formats.specs.Rules.{IsRandomPick, plain_rule, rounded_parts}
 
 -- as `IsProjectedOnce`
 abbrev pub IsProjectedByOnce : Type 0
 IsProjectedByOnce =
-    (c : Descriptor) (f : Format) (mode : ConversionRound) (x : Datum) (code other status flags : ℕ)
+    (c : Descriptor) (f : Format) (rule : ProjectionRule) (x : Datum) (code other status flags : ℕ)
     (loses lost : Bool) → IsProjection c → code < 2 ^ c.bits → other < 2 ^ c.bits
-    → IsIntoProjectionBy c f mode x code status loses → IsIntoProjectionBy c f mode x other flags lost
+    → IsIntoProjectionBy c f rule x code status loses → IsIntoProjectionBy c f rule x other flags lost
     → (code ≡ other) × (status ≡ flags) × (loses ≡ lost)
 
 -- as `AreCodePicksPicks`
@@ -33,7 +35,7 @@ AreCodePicksPicksBy =
 abbrev pub AreProjectionsOfModes : Type 0
 AreProjectionsOfModes =
     (c : Descriptor) (f : Format) (mode : Round) (x : Datum) (code status : ℕ) (loses : Bool)
-    → IsIntoProjectionBy c f (Ieee mode) x code status loses → IsIntoProjection c f mode x code status loses
+    → IsIntoProjectionBy c f (plain_rule (Ieee mode)) x code status loses → IsIntoProjection c f mode x code status loses
 
 -- as `AreRandomNumbersCounted`, between the points with the numbers `low` and `low + 1`
 abbrev pub AreRandomCodesCounted : Type 0
@@ -45,3 +47,13 @@ AreRandomCodesCounted =
     → IsPointPickBy precision (Stochastic (bits random)) negative amount parts (index random))
     → count_below (λ random. ltb low (index random)) (2 ^ digits)
     ≡ parts_above digits (amount - point precision low * parts) (point precision (low + 1) * parts - amount)
+
+-- and if the parts are rounded
+abbrev pub AreRoundedPartsCounted : Type 0
+AreRoundedPartsCounted =
+    (precision digits low amount parts : ℕ) (mode : Round) (bits : ℕ → RandomDigits) (index : ℕ → ℕ)
+    → 1 ≤ precision → point precision low * parts < amount → amount < point precision (low + 1) * parts
+    → AreAllRandom digits bits
+    → ((random : ℕ) → random < 2 ^ digits → IsRandomPick precision mode (bits random) amount parts (index random))
+    → count_below (λ random. ltb low (index random)) (2 ^ digits)
+    ≡ rounded_parts mode digits (amount - point precision low * parts) (point precision (low + 1) * parts - amount)

@@ -1,10 +1,22 @@
 -- What is delivered for the point with an index.
-use Rattle.std.specs.Prelude.{◌≡◌, ℕ, Bool}
+use Rattle.std.specs.Prelude.{◌≡◌, ℕ, ◌+◌, ◌-◌, ◌*◌, ◌<◌, ◌≤◌, Bool}
 use Rattle.apfloat_model.specs.declared.kinds.Round.{Round}
+use Rattle.small_formats.specs.declared.RandomDigits.{RandomDigits}
+use Rattle.small_formats.specs.Codes.{point}
 use Rattle.p3109_formats.specs.declared.descriptor.Descriptor.{Descriptor}
 use Rattle.p3109_formats.specs.Projections.{projected_datum, projected_status, projected_value}
+use Rattle.p3109_formats.specs.Rules.{reaches_next}
 
-pub record IsProjectedAt (c : Descriptor) (mode : Round) (negative : Bool) (amount parts index code status : ℕ)
+pub record IsProjectedAt (c : Descriptor) (mode : Round) (leads negative : Bool) (amount parts index code status : ℕ)
     : Type 0 where
-  pub value_is : projected_datum c code ≡ projected_value c mode negative index
+  pub value_is : projected_datum c code ≡ projected_value c leads negative index
   pub status_is : status ≡ projected_status c mode negative amount parts index
+
+-- whether a random number takes a magnitude to the point above it
+pub record IsAway (precision : ℕ) (mode : Round) (bits : RandomDigits) (amount parts : ℕ) (away : Bool)
+    : Type 0 where
+  pub low : ℕ
+  pub from : point precision low * parts ≤ amount
+  pub to : amount < point precision (low + 1) * parts
+  pub is : away
+      ≡ reaches_next mode bits (amount - point precision low * parts) (point precision (low + 1) * parts - amount)

@@ -93,25 +93,31 @@ IsPointPick precision mode negative amount parts index =
 abbrev pub past_value : Descriptor → Bool → Datum
 past_value c negative = if c.extended then infinite negative else nan false 0
 
-abbrev pub projected_value : Descriptor → Round → Bool → ℕ → Datum
-projected_value c mode negative index =
-    if ltb (largest_index c) index
-    then (if leads_out mode negative then past_value c negative
-    else finite negative (point c.precision (largest_index c)))
-    else signed_quanta NanNegativeZero negative (point c.precision index)
+-- a format without a sign lacks what is below zero once it is rounded
+abbrev pub lacks_point : Descriptor → Bool → ℕ → Bool
+lacks_point c negative index = (negative && not c.signed) && not (eqb index 0)
+
+-- `leads` says whether a point past the largest number becomes what is past it
+abbrev pub projected_value : Descriptor → Bool → Bool → ℕ → Datum
+projected_value c leads negative index =
+    if lacks_point c negative index then nan false 0
+    else (if ltb (largest_index c) index
+    then (if leads then past_value c negative else finite negative (point c.precision (largest_index c)))
+    else signed_quanta NanNegativeZero negative (point c.precision index))
 
 abbrev pub projected_status : Descriptor → Round → Bool → ℕ → ℕ → ℕ → ℕ
 projected_status c mode negative amount parts index =
-    if ltb (largest_index c) index
+    if lacks_point c negative index then invalid_bit
+    else (if ltb (largest_index c) index
     then (if leads_out mode negative then overflow_bit + inexact_bit else inexact_bit)
     else (if eqb (point c.precision index * parts) amount then ok_bits
-    else (if ltb index (2 ^ (c.precision - 1)) then underflow_bit + inexact_bit else inexact_bit))
+    else (if ltb index (2 ^ (c.precision - 1)) then underflow_bit + inexact_bit else inexact_bit)))
 
 pub record IsProjected (c : Descriptor) (mode : Round) (negative : Bool) (amount parts code status : ℕ)
     : Type 0 where
   pub index : ℕ
   pub is_pick : IsPointPick c.precision mode negative amount parts index
-  pub value_is : projected_datum c code ≡ projected_value c mode negative index
+  pub value_is : projected_datum c code ≡ projected_value c (leads_out mode negative) negative index
   pub status_is : status ≡ projected_status c mode negative amount parts index
 
 -- ---- any value
@@ -127,7 +133,7 @@ pub record IsCodeOf (c : Descriptor) (given : Datum) (flags : ℕ) (loses : Bool
   pub status_is : status ≡ flags
   pub loses_is : loses_info ≡ loses
 
--- what is below zero has no code without a sign
+-- the infinity below zero has no code without a sign
 abbrev pub IsWithoutCode : Descriptor → ℕ → ℕ → Bool → Type 0
 IsWithoutCode c code status loses_info = IsCodeOf c (nan false 0) invalid_bit true code status loses_info
 
@@ -145,8 +151,7 @@ IsIntoProjection c f mode (infinite b) code status loses_info =
 IsIntoProjection c f mode (finite b n) code status loses_info =
     MatchBool (eqb n 0)
     (IsCodeOf c (finite false 0) (if b then inexact_bit else ok_bits) b code status loses_info)
-    (MatchBool (b && not c.signed) (IsWithoutCode c code status loses_info)
-    (IsProjectedNumber c f mode b n code status loses_info))
+    (IsProjectedNumber c f mode b n code status loses_info)
 
 -- ---- neighbours
 

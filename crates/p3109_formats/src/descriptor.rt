@@ -90,7 +90,7 @@ impl Descriptor {
     }
 
     /// The code of the NaN.
-    pub(crate) fn nan(self) -> u16
+    pub fn nan(self) -> u16
         requires { IsProjection self }
         ensures code { result ≡ nan_code self }
         ensures below { result < 2 ^ self.bits }
@@ -112,8 +112,8 @@ impl Descriptor {
         }
     }
 
-    /// The code of the largest number.
-    pub(crate) fn largest_index(self) -> u16
+    /// The code of the largest number. That of the smallest positive one is 1.
+    pub fn largest_index(self) -> u16
         requires { IsProjection self }
         ensures { result ≡ largest_index self }
     {

@@ -1,16 +1,17 @@
 //! Conversions of the values of a format into a format of IEEE P3109.
 
-ghost use Rattle.std.specs.Prelude.{◌≡◌, ℕ, ◌*◌, ◌^◌, ◌<◌, ◌≤◌, ◌&&◌};
-ghost use Rattle.std.specs.Prelude.{eqb, if◌then◌else◌, not, true};
+ghost use Rattle.std.specs.Prelude.{◌≡◌, ℕ, ◌*◌, ◌^◌, ◌<◌, ◌≤◌, Bool, ◌&&◌};
+ghost use Rattle.std.specs.Prelude.{eqb, false, if◌then◌else◌, not, true};
 ghost use Rattle.apfloat_model.specs.formats.Datum.{finite};
 ghost use Rattle.apfloat_model.specs.order.Classes.{quanta_of};
 ghost use Rattle.apfloat_model.specs.rounding.Flags.{Gives, bits_of};
-ghost use Rattle.apfloat_model.specs.rounding.Rounding.{leads_out};
+ghost use Rattle.apfloat_model.specs.declared.kinds.Round.{Round};
 ghost use Rattle.apfloat_ieee.specs.Types.{format_of};
 ghost use Rattle.apfloat_model.specs.order.Positive.{IsPositive};
 ghost use Rattle.small_formats.specs.Codes.{point};
 ghost use Rattle.p3109_formats.specs.Picks.{IsProjectedAt};
 ghost use Rattle.p3109_formats.specs.ModeConversions.{IsIntoProjectionBy, IsProjectedBy};
+ghost use Rattle.p3109_formats.specs.Rules.{IsInfinityBy, plain_rule};
 ghost use Rattle.p3109_formats.specs.Types.{projection_of};
 ghost use Rattle.p3109_formats.specs.Projections.{IsInfinityOf, IsIntoProjection, IsProjection, IsWithoutCode};
 ghost use Rattle.p3109_formats.specs.Projections.{exponent_bits, largest_index, past_value};
@@ -19,12 +20,14 @@ ghost use Rattle.p3109_formats.specs.Projections.{projected_datum, projected_for
 use crate::descriptor::Descriptor;
 use crate::projected::Projected;
 use crate::projection::Projection;
+use crate::random::pick_by_rule;
+use crate::rules::{ProjectionRule, Saturation, passes, plain_rule, round_of};
 use apfloat_base::{Category, Flags, Float, Round, Status, StatusAnd};
 use apfloat_ieee::{IeeeFloat, Semantics};
 use apfloat_rounding::rounding::leads_past;
 use apfloat_words::power_of_two;
 use small_formats::ConversionRound;
-use small_formats::picks::{Picked, ieee_mode, pick_value};
+use small_formats::picks::Picked;
 use small_formats::statuses::{status_of_nan, status_past, status_within};
 
 /// The bits of the exponent.
@@ -51,66 +54,103 @@ pub(crate) fn scale(format: Descriptor) -> u32
 }
 
 /// The code that takes the place of a pick past the largest number.
-fn past_value(format: Descriptor, mode: Round, negative: bool) -> u16
+fn past_value(format: Descriptor, leads: bool, negative: bool) -> u16
     requires lawful { IsProjection format }
     requires sign { negative ≡ true → format.signed ≡ true }
     ensures datum { projected_datum format result
-        ≡ (if leads_out mode negative then past_value format negative
+        ≡ (if leads then past_value format negative
         else finite negative (point format.precision (largest_index format))) }
     ensures below { result < 2 ^ format.bits }
 {
-    if leads_past(mode, negative) {
+    if leads {
         return format.past(negative);
     }
     format.number(negative, format.largest_index())
 }
 
 /// What is delivered past the largest number.
-fn past(format: Descriptor, mode: Round, negative: bool) -> StatusAnd<u16>
+fn past(format: Descriptor, mode: Round, leads: bool, negative: bool) -> StatusAnd<u16>
     requires lawful { IsProjection format }
     requires sign { negative ≡ true → format.signed ≡ true }
     ensures delivered { (amount parts index : ℕ) → largest_index format < index
-        → Gives (IsProjectedAt format mode negative amount parts index) result }
+        → Gives (IsProjectedAt format mode leads negative amount parts index) result }
     ensures below { result.value < 2 ^ format.bits }
 {
-    status_past(mode, negative).and(past_value(format, mode, negative))
+    status_past(mode, negative).and(past_value(format, leads, negative))
 }
 
-/// The code that is delivered for a pick.
-fn deliver_pick(format: Descriptor, picked: Picked, mode: Round, negative: bool) -> StatusAnd<u16>
+/// The code that is delivered for a pick, in a format that has the sign.
+fn deliver_signed(
+    format: Descriptor,
+    picked: Picked,
+    mode: Round,
+    leads: bool,
+    negative: bool,
+) -> StatusAnd<u16>
     requires lawful { IsProjection format }
     requires sign { negative ≡ true → format.signed ≡ true }
     ensures delivered { (amount parts : ℕ)
         → picked.exact ≡ eqb (point format.precision picked.index * parts) amount
-        → Gives (IsProjectedAt format mode negative amount parts picked.index) result }
+        → Gives (IsProjectedAt format mode leads negative amount parts picked.index) result }
     ensures below { result.value < 2 ^ format.bits }
 {
     if picked.index > u128::from(format.largest_index()) {
-        return past(format, mode, negative);
+        return past(format, mode, leads, negative);
     }
     let status = status_within(format.precision, picked);
     status.and(format.number(negative, picked.index as u16))
+}
+
+/// Whether a format lacks that sign.
+fn lacks_sign(format: Descriptor, negative: bool) -> bool
+    ensures { result ≡ (negative && not format.signed) }
+{
+    negative && !format.signed
+}
+
+/// The code that is delivered for a pick. Without a sign, only what is rounded to zero has one below zero.
+fn deliver_pick(
+    format: Descriptor,
+    picked: Picked,
+    mode: Round,
+    leads: bool,
+    negative: bool,
+) -> StatusAnd<u16>
+    requires { IsProjection format }
+    ensures delivered { (amount parts : ℕ)
+        → picked.exact ≡ eqb (point format.precision picked.index * parts) amount
+        → Gives (IsProjectedAt format mode leads negative amount parts picked.index) result }
+    ensures below { result.value < 2 ^ format.bits }
+{
+    if lacks_sign(format, negative) {
+        if picked.index != 0 {
+            return Status::INVALID_OP.and(format.nan());
+        }
+        return deliver_signed(format, picked, mode, leads, false);
+    }
+    deliver_signed(format, picked, mode, leads, negative)
 }
 
 /// A positive value, rounded once as a value with that sign.
 fn round_positive<S: Semantics>(
     format: Descriptor,
     x: IeeeFloat<S>,
-    mode: ConversionRound,
+    rule: ProjectionRule,
     negative: bool,
 ) -> StatusAnd<u16>
     requires lawful { IsProjection format }
     requires positive { IsPositive (format_of S.Semantics) x }
-    requires sign { negative ≡ true → format.signed ≡ true }
-    ensures rounded { Gives (IsProjectedBy format mode negative
+    ensures rounded { Gives (IsProjectedBy format rule negative
         (quanta_of x * 2 ^ (projected_format format).scale) (2 ^ (format_of S.Semantics).scale)) result }
     ensures below { result.value < 2 ^ format.bits }
 {
-    let picked = pick_value(x, format.precision, scale(format), mode, negative);
-    deliver_pick(format, picked, ieee_mode(mode), negative)
+    let picked = pick_by_rule(x, format.precision, scale(format), rule.round, negative);
+    let mode = round_of(rule.round);
+    let leads = passes(rule.saturation, leads_past(mode, negative));
+    deliver_pick(format, picked, mode, leads, negative)
 }
 
-/// The infinity of that sign.
+/// The infinity of that sign, or the NaN in its place.
 fn infinity(format: Descriptor, negative: bool, loses_info: &mut bool) -> StatusAnd<u16>
     requires lawful { IsProjection format }
     requires sign { negative ≡ true → format.signed ≡ true }
@@ -126,14 +166,30 @@ fn infinity(format: Descriptor, negative: bool, loses_info: &mut bool) -> Status
     status.and(format.past(negative))
 }
 
-/// Whether nothing of that sign has a code.
-fn lacks_sign(format: Descriptor, negative: bool) -> bool
-    ensures { result ≡ (negative && not format.signed) }
+/// What an infinity of that sign becomes.
+fn infinity_by(
+    format: Descriptor,
+    saturation: Saturation,
+    negative: bool,
+    loses_info: &mut bool,
+) -> StatusAnd<u16>
+    requires lawful { IsProjection format }
+    requires sign { negative ≡ true → format.signed ≡ true }
+    ensures is { IsInfinityBy saturation format negative result.value (bits_of result.status)
+        loses_info.new }
+    ensures below { result.value < 2 ^ format.bits }
 {
-    negative && !format.signed
+    match saturation {
+        Saturation::Overflow => infinity(format, negative, loses_info),
+        Saturation::Finite => {
+            *loses_info = true;
+            Status::INEXACT.and(past_value(format, false, negative))
+        }
+        Saturation::Propagate => infinity(format, negative, loses_info),
+    }
 }
 
-/// What is below zero, in a format without a sign.
+/// What the infinity below zero becomes, in a format without a sign.
 fn without_code(format: Descriptor, loses_info: &mut bool) -> StatusAnd<u16>
     requires { IsProjection format }
     ensures is { IsWithoutCode format result.value (bits_of result.status) loses_info.new }
@@ -144,15 +200,15 @@ fn without_code(format: Descriptor, loses_info: &mut bool) -> StatusAnd<u16>
 }
 
 impl Descriptor {
-    /// `Projected::from_value_by`, as a code of the format.
-    pub fn from_value_by<S: Semantics>(
+    /// `Projected::project`, as a code of the format.
+    pub fn project<S: Semantics>(
         self,
         x: IeeeFloat<S>,
-        mode: ConversionRound,
+        rule: ProjectionRule,
         loses_info: &mut bool,
     ) -> StatusAnd<u16>
         requires { IsProjection self }
-        ensures into { IsIntoProjectionBy self (format_of S.Semantics) mode x result.value
+        ensures into { IsIntoProjectionBy self (format_of S.Semantics) rule x result.value
             (bits_of result.status) loses_info.new }
         ensures below { result.value < 2 ^ self.bits }
     {
@@ -166,7 +222,7 @@ impl Descriptor {
                 if lacks_sign(self, negative) {
                     return without_code(self, loses_info);
                 }
-                infinity(self, negative, loses_info)
+                infinity_by(self, rule.saturation, negative, loses_info)
             }
             Category::Zero => {
                 *loses_info = negative;
@@ -178,10 +234,7 @@ impl Descriptor {
                 status.and(self.number(false, 0))
             }
             Category::Normal => {
-                if lacks_sign(self, negative) {
-                    return without_code(self, loses_info);
-                }
-                let answer = round_positive(self, x.abs(), mode, negative);
+                let answer = round_positive(self, x.abs(), rule, negative);
                 *loses_info = answer.status != Status::OK;
                 answer
             }
@@ -194,9 +247,9 @@ impl<F: Projection> Projected<F> {
     ///
     /// Past the largest number the result is the infinity, or the NaN in its place, with OVERFLOW and INEXACT, where
     /// the mode leads past it; otherwise the largest number, with INEXACT. In a format without infinities, an infinity
-    /// is the NaN, with INEXACT. In a format without a sign, what is below zero is the NaN, with INVALID_OP. -0 becomes
-    /// the only zero, with INEXACT. A NaN is the NaN, with INVALID_OP if it is signaling; information is lost if its
-    /// format has payloads.
+    /// is the NaN, with INEXACT. In a format without a sign, what is below zero once it is rounded is the NaN, with
+    /// INVALID_OP. -0 becomes the only zero, with INEXACT. A NaN is the NaN, with INVALID_OP if it is signaling;
+    /// information is lost if its format has payloads.
     pub fn from_value<S: Semantics>(
         x: IeeeFloat<S>,
         round: Round,
@@ -219,10 +272,23 @@ impl<F: Projection> Projected<F> {
         mode: ConversionRound,
         loses_info: &mut bool,
     ) -> StatusAnd<Self>
-        ensures { IsIntoProjectionBy (projection_of F.Projection) (format_of S.Semantics) mode x
+        ensures { IsIntoProjectionBy (projection_of F.Projection) (format_of S.Semantics)
+            (plain_rule mode) x result.value (bits_of result.status) loses_info.new }
+    {
+        Self::project(x, plain_rule(mode), loses_info)
+    }
+
+    /// A value of any format, rounded once and saturated by a rule, with the flags of that rounding. Saturation gives
+    /// numbers the flags that they have without it.
+    pub fn project<S: Semantics>(
+        x: IeeeFloat<S>,
+        rule: ProjectionRule,
+        loses_info: &mut bool,
+    ) -> StatusAnd<Self>
+        ensures { IsIntoProjectionBy (projection_of F.Projection) (format_of S.Semantics) rule x
             result.value (bits_of result.status) loses_info.new }
     {
-        let answer = Descriptor::of::<F>().from_value_by(x, mode, loses_info);
+        let answer = Descriptor::of::<F>().project(x, rule, loses_info);
         answer.status.and(Self::of_code(answer.value))
     }
 }

@@ -14,6 +14,8 @@ mod from_value;
 mod projected;
 mod projection;
 mod published;
+mod random;
+mod rules;
 mod theorems;
 mod to_value;
 
@@ -21,8 +23,9 @@ pub use descriptor::Descriptor;
 pub use projected::Projected;
 pub use projection::{Binary8P1UF, Binary8P3, Binary8P4, Binary8P5, Projection};
 pub use published::projections_are_those_of_p3109;
+pub use rules::{ProjectionRound, ProjectionRule, Saturation};
 pub use theorems::{
     next_values_are_nearest, one_is_in_the_middle, picks_of_codes_are_picks,
     projections_by_mode_are_projections, projections_by_mode_have_one_answer,
-    projections_have_one_answer, random_codes_are_counted,
+    projections_have_one_answer, random_codes_are_counted, rounded_parts_are_counted,
 };

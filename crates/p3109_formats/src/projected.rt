@@ -88,6 +88,13 @@ impl<F: Projection> Projected<F> {
         Self::of_code(Descriptor::of::<F>().nan())
     }
 
+    /// The largest number.
+    pub fn largest() -> Self
+        ensures { result ≡ largest_index (projection_of F.Projection) }
+    {
+        Self::of_index(false, largest_index::<F>())
+    }
+
     /// The code of a point with a sign.
     fn of_index(negative: bool, index: u16) -> Self
         requires sign { negative ≡ true → F.SIGNED ≡ true }

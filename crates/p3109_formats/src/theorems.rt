@@ -5,6 +5,7 @@ ghost use Rattle.p3109_formats.specs.Laws.{IsOneInTheMiddle, IsProjectedOnce};
 ghost use Rattle.p3109_formats.specs.ModeLaws.{AreCodePicksPicksBy};
 ghost use Rattle.p3109_formats.specs.ModeLaws.{AreProjectionsOfModes};
 ghost use Rattle.p3109_formats.specs.ModeLaws.{AreRandomCodesCounted};
+ghost use Rattle.p3109_formats.specs.ModeLaws.{AreRoundedPartsCounted};
 ghost use Rattle.p3109_formats.specs.ModeLaws.{IsProjectedByOnce};
 
 /// In each format of P3109, 1 is the code in the middle of those without a sign.
@@ -43,4 +44,9 @@ pub fn projections_by_mode_are_projections()
 /// the codes has 2^digits, that the value is past the code below.
 pub fn random_codes_are_counted()
     ensures { AreRandomCodesCounted }
+{}
+
+/// And if the parts are rounded, the rounded count.
+pub fn rounded_parts_are_counted()
+    ensures { AreRoundedPartsCounted }
 {}

@@ -37,6 +37,10 @@ impl RandomDigits {
     pub fn new(digits: u32, random: u32) -> Result<Self, RandomError> {
         small_formats::RandomDigits::new(digits, random).map(Self)
     }
+
+    pub(crate) fn given(self) -> small_formats::RandomDigits {
+        self.0
+    }
 }
 
 /// How a conversion rounds.

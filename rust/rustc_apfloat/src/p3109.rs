@@ -13,7 +13,7 @@
 //! assert_eq!(code.value.convert_r(Round::TowardZero, &mut loses_info).value, "-224".parse::<Single>().unwrap());
 //! ```
 
-use crate::conversion_modes::ConversionRound;
+use crate::conversion_modes::{ConversionRound, RandomDigits};
 use crate::erased::p3109_formats as library;
 use crate::ieee::{FlaggedS, IeeeFloat, Semantics};
 use crate::status::answered;
@@ -22,7 +22,42 @@ use core::cmp::Ordering;
 use core::fmt;
 use core::marker::PhantomData;
 
-pub use library::{Binary8P1UF, Binary8P3, Binary8P4, Binary8P5};
+pub use library::{Binary8P1UF, Binary8P3, Binary8P4, Binary8P5, Saturation};
+
+/// How a number is rounded into a format of P3109.
+///
+/// A random number takes it to the neighbour away from zero, if that number and the parts by which the value is past
+/// the other neighbour are together at least 2^digits. The distance of the neighbours has 2^digits parts. The three
+/// ways differ in what a broken part counts.
+#[derive(Clone, Copy, Debug)]
+pub enum ProjectionRound {
+    /// A mode of conversions. With random digits it is StochasticA: a broken part counts nothing.
+    By(ConversionRound),
+    /// Parts are rounded to nearest, ties up: the random number has a half added to it.
+    StochasticB(RandomDigits),
+    /// Parts are rounded to nearest, ties to even.
+    StochasticC(RandomDigits),
+}
+
+/// How a conversion into a format of P3109 rounds and saturates.
+#[derive(Clone, Copy, Debug)]
+pub struct ProjectionRule {
+    /// How a number is rounded.
+    pub round: ProjectionRound,
+    /// What becomes of what is past the largest number.
+    pub saturation: Saturation,
+}
+
+impl ProjectionRule {
+    fn given(self) -> library::ProjectionRule {
+        let round = match self.round {
+            ProjectionRound::By(mode) => library::ProjectionRound::By(mode.given()),
+            ProjectionRound::StochasticB(bits) => library::ProjectionRound::StochasticB(bits.given()),
+            ProjectionRound::StochasticC(bits) => library::ProjectionRound::StochasticC(bits.given()),
+        };
+        library::ProjectionRule { round, saturation: self.saturation }
+    }
+}
 
 /// A format of IEEE P3109. It has one zero and one NaN. The bits of a code are, from the top, the sign if there is one,
 /// the biased exponent, and `PRECISION - 1` bits of the significand; 1 is in the middle of the codes without a sign.
@@ -101,8 +136,8 @@ impl<F: Projection> Projected<F> {
     ///
     /// Past the largest number the result is the infinity, or the NaN in its place, with `OVERFLOW` and `INEXACT`,
     /// where the mode leads past it; otherwise the largest number, with `INEXACT`. In a format without infinities, an
-    /// infinity is the NaN, with `INEXACT`. In a format without a sign, what is below zero is the NaN, with
-    /// `INVALID_OP`. -0 becomes the only zero, with `INEXACT`. A NaN is the NaN, with `INVALID_OP` if it is signaling.
+    /// infinity is the NaN, with `INEXACT`. In a format without a sign, what is below zero once it is rounded is the
+    /// NaN, with `INVALID_OP`. -0 becomes the only zero, with `INEXACT`. A NaN is the NaN, with `INVALID_OP` if it is signaling.
     pub fn from_value<S: Semantics>(x: IeeeFloat<S>, round: Round, loses_info: &mut bool) -> StatusAnd<Self> {
         answered(library::Projected::from_value(x.plain(), round, loses_info)).map(Self)
     }
@@ -115,6 +150,21 @@ impl<F: Projection> Projected<F> {
         loses_info: &mut bool,
     ) -> StatusAnd<Self> {
         answered(library::Projected::from_value_by(x.plain(), mode.given(), loses_info)).map(Self)
+    }
+
+    /// The same, rounded and saturated by a rule. Saturation gives numbers the flags that they have without it.
+    pub fn project<S: Semantics>(x: IeeeFloat<S>, rule: ProjectionRule, loses_info: &mut bool) -> StatusAnd<Self> {
+        answered(library::Projected::project(x.plain(), rule.given(), loses_info)).map(Self)
+    }
+
+    /// The largest number.
+    pub fn largest() -> Self {
+        Self(library::Projected::largest())
+    }
+
+    /// The smallest positive number.
+    pub fn smallest() -> Self {
+        Self(library::Projected::smallest())
     }
 
     /// The value in another format, rounded once (IEEE 754-2019 5.4.2), with the flags of that rounding; the NaN as

@@ -1,29 +1,31 @@
-use Rattle.std.proofs.Common.{◌≡◌, ℕ, ◌-◌, ◌^◌, ◌<◌, ◌≤◌, cond, ltb, ap, ◌∙◌, arith}
-use Rattle.apfloat_model.specs.declared.kinds.NonfiniteBehavior.TheVariants.{NanNegativeZero}
-use Rattle.apfloat_model.specs.rounding.Rounding.{signed_quanta}
-use Rattle.small_formats.specs.Codes.{point}
+use Rattle.std.proofs.Common.{Bool, ℕ, ap, ◌∙◌, sym, subst, arith}
 use Rattle.apfloat_model.specs.rounding.Flags.{bits_of}
-use Rattle.p3109_formats.specs.Projections.{largest_index, projected_datum}
-use Rattle.p3109_formats.proofs.Values.{within_projected}
+use Rattle.p3109_formats.specs.Picks.{IsProjectedAt}
+use Rattle.p3109_formats.specs.Projections.{projected_datum}
+use Rattle.p3109_formats.proofs.Values.{lacked_sign, lacking_projected, lacks_no_sign, zero_projected}
 use Rattle.p3109_formats.proofs.from_value.deliver_pick.Goals as goal
 
-pub returns-then-picked-from-clause-delivered : goal.returns-then-picked-from-clause-delivered
-returns-then-picked-from-clause-delivered c = λ amount parts x.
+pub returns-then-picked-ne0-clause-delivered : goal.returns-then-picked-ne0-clause-delivered
+returns-then-picked-ne0-clause-delivered c = λ amount parts x.
     let d = c.args.format in
-    let l : largest_index d < c.args.picked.index =
-    omega (arith, c.largest_index.ensures, c.from.ensures, c.if-picked-from.true) in
-    c.past.ensures.delivered amount parts c.args.picked.index l
+    let lacks = sym c.lacks_sign.ensures ∙ c.if-lacks_sign.true in
+    subst
+    (λ (b : Bool). IsProjectedAt d c.args.mode c.args.leads b amount parts c.args.picked.index c.and.result.value
+    (bits_of c.and.result.status)) (sym (lacked_sign c.args.negative d.signed lacks))
+    (lacking_projected d c.args.mode c.args.leads amount parts c.args.picked.index c.and.result.value
+    (bits_of c.and.result.status) (lacks_no_sign c.args.negative d.signed lacks)
+    (λ e. omega (arith, e, c.if-picked-ne0.true))
+    (ap (λ (code : ℕ). projected_datum d code) c.and.ensures.value ∙ c.nan.ensures.datum)
+    (ap bits_of c.and.ensures.status))
 
-pub returns-clause-delivered : goal.returns-clause-delivered
-returns-clause-delivered c = λ amount parts x.
+pub returns-then-lacks_sign-clause-delivered : goal.returns-then-lacks_sign-clause-delivered
+returns-then-lacks_sign-clause-delivered c = λ amount parts x.
     let d = c.args.format in
-    let l : c.args.picked.index ≤ largest_index d =
-    omega (arith, c.largest_index.ensures, c.from.ensures, c.if-picked-from.false) in
-    let value : projected_datum d c.and.result.value
-    ≡ signed_quanta NanNegativeZero c.args.negative (point d.precision c.args.picked.index) =
-    ap (λ (code : ℕ). projected_datum d code) c.and.ensures.value ∙ c.number.ensures.datum in
-    let status : bits_of c.and.result.status
-    ≡ cond c.args.picked.exact 0 (cond (ltb c.args.picked.index (2 ^ (d.precision - 1))) 24 16) =
-    ap bits_of c.and.ensures.status ∙ c.status_within-status.ensures in
-    within_projected d c.args.mode c.args.negative amount parts c.args.picked.index c.and.result.value
-    (bits_of c.and.result.status) c.args.picked.exact l x value status
+    let made = c.deliver_signed in
+    subst
+    (λ (b : Bool). IsProjectedAt d c.args.mode c.args.leads b amount parts c.args.picked.index made.result.value
+    (bits_of made.result.status))
+    (sym (lacked_sign c.args.negative d.signed (sym c.lacks_sign.ensures ∙ c.if-lacks_sign.true)))
+    (zero_projected d c.args.mode c.args.leads amount parts c.args.picked.index made.result.value
+    (bits_of made.result.status) (omega (arith, c.if-picked-ne0.false))
+    (made.ensures.delivered amount parts x))

@@ -5,12 +5,12 @@ use Rattle.p3109_formats.specs.Projections.{largest_index, past_value}
 use Rattle.p3109_formats.proofs.Values.{largest_some, number_signed}
 use Rattle.p3109_formats.proofs.from_value.past_value.Goals as goal
 
-pub returns-then-leads_past-clause-datum : goal.returns-then-leads_past-clause-datum
-returns-then-leads_past-clause-datum c =
+pub returns-then-leads-clause-datum : goal.returns-then-leads-clause-datum
+returns-then-leads-clause-datum c =
     let d = c.args.format in
     c.past.ensures.datum
     ∙ sym (ap (λ (b : Bool). cond b (past_value d c.args.negative)
-    (finite c.args.negative (point d.precision (largest_index d)))) (sym c.leads_past.ensures ∙ c.if-leads_past.true))
+    (finite c.args.negative (point d.precision (largest_index d)))) c.if-leads.true)
 
 -- the largest number is not zero, so it keeps its sign
 pub returns-clause-datum : goal.returns-clause-datum
@@ -20,4 +20,4 @@ returns-clause-datum c =
     ∙ number_signed d.precision (largest_index d) c.args.negative c.requires.lawful.precision_low
     (largest_some d c.requires.lawful)
     ∙ sym (ap (λ (b : Bool). cond b (past_value d c.args.negative)
-    (finite c.args.negative (point d.precision (largest_index d)))) (sym c.leads_past.ensures ∙ c.if-leads_past.false))
+    (finite c.args.negative (point d.precision (largest_index d)))) c.if-leads.false)

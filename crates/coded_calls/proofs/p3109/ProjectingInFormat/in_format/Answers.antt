@@ -10,19 +10,19 @@ use Rattle.coded_calls.proofs.p3109.ProjectingInFormat.in_format.Goals as goal
 pub returns : goal.returns
 returns g c =
     let it = c.args.self in
-    let made = c.from_value_by-made.result in
+    let made = c.project-made.result in
     let told = to_z-of_z w32 c.one_if.result (record { sfits = c.one_if.type_inv }) in
     record {
       code = made.value;
       status = bits_of made.status;
-      loses = c.from_value_by-made.new.loses_info;
+      loses = c.project-made.new.loses_info;
       lawful = c.requires.can;
       is_into =
           subst
-          (λ (x : Datum). IsIntoProjectionBy it.target (format_of g.S.Semantics) it.mode x made.value
-          (bits_of made.status) c.from_value_by-made.new.loses_info)
-          c.from_bits-x.ensures.read c.from_value_by-made.ensures.into;
-      below = c.from_value_by-made.ensures.below;
+          (λ (x : Datum). IsIntoProjectionBy it.target (format_of g.S.Semantics) it.rule x made.value
+          (bits_of made.status) c.project-made.new.loses_info)
+          c.from_bits-x.ensures.read c.project-made.ensures.into;
+      below = c.project-made.ensures.below;
       bits_are = c.of.ensures.bits ∙ c.from.ensures;
       status_is = c.of.ensures.status;
       number_is = c.of.ensures.number ∙ told ∙ c.one_if.ensures;
