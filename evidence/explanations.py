@@ -11,8 +11,8 @@ import sys
 from fractions import Fraction
 from math import isqrt
 
-from exact import arithmetic, bits, decimals, remainders, roots, status, texts
-from exact.data import Finite, Infinite, NaN, is_signaling, qnan, quieted
+from exact import arithmetic, bits, decimals, machines, remainders, roots, status, texts
+from exact.data import Finite, Infinite, NaN, is_signaling
 from exact.formats import LATER_FORMATS, PROGRAM_FORMATS, with_ieee_flags
 from exact.rounding import Mode
 from storage_formats import FORMATS as STORED
@@ -48,29 +48,19 @@ TIES = {
     Mode.EVEN: "Ties go to the neighbour with an even last digit,",
     Mode.AWAY: "Ties go to the neighbour of greater magnitude,",
 }
-# What a machine takes of several NaNs, the sign of its default NaN, whether tininess is detected before rounding, the
-# order in a fused sum, and whether the default takes the place of a quiet and of a signaling NaN that is added to an
-# infinity times a zero, and whether that is invalid with a quiet one (docs/MACHINES.md).
-MACHINES = {
-    "x86": ("first", True, False, "ABC", False, False, False),
-    "x87": ("greater", True, False, None, False, False, False),
-    "arm": ("signaling", False, True, "CAB", True, False, True),
-    "arm_default_nan": ("default", False, True, "CAB", True, True, True),
-    "arm_alternate": ("first", True, False, "ABC", False, False, False),
-    "risc_v": ("default", False, False, "ABC", True, True, True),
-    "power": ("first", False, True, "ACB", False, False, True),
-    "s390x": ("signaling", False, True, "ABC", True, True, True),
-}
-# Other spellings of their words.
+# Other spellings of the words of machines.
 SPELLINGS = {
     "arm-default-nan": "arm_default_nan",
     "arm-alternate": "arm_alternate",
+    "arm-alternate-default-nan": "arm_alternate_default_nan",
+    "mips-2008": "mips_2008",
     "risc-v": "risc_v",
     "riscv": "risc_v",
 }
 CHOICES = {
     "first": "The first NaN is taken, quieted.",
     "signaling": "The first signaling NaN is taken, else the first NaN, quieted.",
+    "last signaling": "The last signaling NaN is taken, else the last NaN, quieted.",
     "greater": "The quiet one of two NaNs is taken, else the greater, else the positive one.\n"
     "Bits that the unit does not take give the default NaN.",
     "default": "A result that is a NaN is the default NaN.",
@@ -171,47 +161,21 @@ def computed(format, word, operation, data, mode):
 
 def on_machine(machine, format, word, operation, data, mode):
     """Why a NaN results, in lines, and the value and the flags as the machine gives them."""
-    choice, negative, before, order, drops_quiet, drops_signaling, flags_quiet = MACHINES[
-        SPELLINGS.get(machine, machine)
-    ]
-    value, flags = computed(with_ieee_flags(format)[before], word, operation, data, mode)
-    if not isinstance(value, NaN):
-        return [], value, flags
-    nans = [x for x in data if isinstance(x, NaN)]
-    default = qnan(format, negative=negative)
-    if not nans:
-        return ["No operand is a NaN: the result is the default NaN.", ""], default, flags
-    signaling = [x for x in nans if is_signaling(format, x)]
-    flags = status.INVALID_OP if signaling else status.OK
-    reason = CHOICES[choice]
-    if word == "fma":
-        invalid = any(isinstance(x, Infinite) for x in data[:2]) and any(
-            isinstance(x, Finite) and x.quanta == 0 for x in data[:2]
-        )
-        if invalid and flags_quiet:
-            flags = status.INVALID_OP
-        if invalid and (drops_signaling if signaling else drops_quiet):
-            line = "An infinity times a zero: the default NaN takes the place of C."
-            return [line, ""], default, flags
-        reason += f" Order: {', '.join(order)}."
-        data = [data["ABC".index(name)] for name in order]
-    return [*reason.split("\n"), ""], taken(choice, format, data, default), flags
+    rules = machines.MACHINES[SPELLINGS.get(machine, machine)]
+    answer = computed(with_ieee_flags(format)[rules.tiny_before_rounding], word, operation, data, mode)
+    settle = machines.settled_fused if word == "fma" else machines.settled
+    value, flags = settle(format, rules, data, answer)
+    return source_of_nan(format, rules, word, data) if isinstance(value, NaN) else [], value, flags
 
 
-def taken(choice, format, data, default):
-    """The NaN that a machine makes of operands."""
-    nans = [x for x in data if isinstance(x, NaN)]
-    signaling = [x for x in nans if is_signaling(format, x)]
-    if choice == "default":
-        return default
-    if choice == "first":
-        return quieted(format, nans[0])
-    if choice == "signaling":
-        return quieted(format, (signaling or nans)[0])
-    if any(is_signaling(format, quieted(format, x)) for x in nans):
-        return default
-    quiet = [x for x in nans if not is_signaling(format, x)]
-    return quieted(format, max(quiet or nans, key=lambda x: (x.significand, not x.negative)))
+def source_of_nan(format, rules, word, data):
+    """Where the NaN of a machine comes from, in lines."""
+    if not any(isinstance(x, NaN) for x in data):
+        return ["No operand is a NaN: the result is the default NaN.", ""]
+    if word == "fma" and machines.drops_addend(format, rules, data):
+        return ["An infinity times a zero: the default NaN takes the place of C.", ""]
+    order = f" Order: {', '.join(rules.order)}." if word == "fma" else ""
+    return [*(CHOICES[rules.choice] + order).split("\n"), ""]
 
 
 def operand(format, word):

@@ -585,6 +585,13 @@ typedef enum apfloat_machine_kind APFLOAT_CODE {
     APFLOAT_MACHINE_RISC_V = 6,
     APFLOAT_MACHINE_POWER = 7,
     APFLOAT_MACHINE_S390X = 8,
+    APFLOAT_MACHINE_ARM_ALTERNATE_DEFAULT_NAN = 9, /* with both set */
+    APFLOAT_MACHINE_WEBASSEMBLY = 10,
+    APFLOAT_MACHINE_PTX = 11,
+    APFLOAT_MACHINE_MIPS_2008 = 12, /* with FCSR.NAN2008 set */
+    APFLOAT_MACHINE_LOONGARCH = 13,
+    APFLOAT_MACHINE_SPARC = 14,
+    APFLOAT_MACHINE_M68K = 15,
     APFLOAT_MACHINE_KIND_BITS = 0x7fffffff
 } apfloat_machine_kind;
 
@@ -610,8 +617,8 @@ typedef enum apfloat_rule APFLOAT_CODE {
  * The errors, in this order: APFLOAT_UNKNOWN_FORMAT and APFLOAT_UNKNOWN_MODE; APFLOAT_NO_SUCH_OPERATION for another
  * format, for an unknown operation or rule, and for a conversion to another format, and APFLOAT_UNKNOWN_FORMAT for one
  * to an unknown format; APFLOAT_UNKNOWN_MACHINE; APFLOAT_WIDE_OPERAND if an operand has bits at or above the width of
- * its format, which other functions ignore; APFLOAT_WRONG_WIDTH; and APFLOAT_LACKING_OPERATION for fused sums and
- * unsigned integers of APFLOAT_MACHINE_X87. */
+ * its format, which other functions ignore; APFLOAT_WRONG_WIDTH; and APFLOAT_LACKING_OPERATION for fused sums of
+ * APFLOAT_MACHINE_X87 and .._M68K, and for unsigned integers of these, .._MIPS_2008 and .._SPARC. */
 apfloat_error apfloat_machine(apfloat_machine_kind machine, apfloat_operation operation, apfloat_format format,
                               apfloat_mode mode, uint32_t to, apfloat_halves x, apfloat_halves y, apfloat_halves z,
                               apfloat_answer *answer);

@@ -1606,7 +1606,14 @@ enum class machine : std::uint32_t {
     arm_alternate = APFLOAT_MACHINE_ARM_ALTERNATE,
     risc_v = APFLOAT_MACHINE_RISC_V,
     power = APFLOAT_MACHINE_POWER,
-    s390x = APFLOAT_MACHINE_S390X
+    s390x = APFLOAT_MACHINE_S390X,
+    arm_alternate_default_nan = APFLOAT_MACHINE_ARM_ALTERNATE_DEFAULT_NAN,
+    webassembly = APFLOAT_MACHINE_WEBASSEMBLY,
+    ptx = APFLOAT_MACHINE_PTX,
+    mips_2008 = APFLOAT_MACHINE_MIPS_2008,
+    loongarch = APFLOAT_MACHINE_LOONGARCH,
+    sparc = APFLOAT_MACHINE_SPARC,
+    m68k = APFLOAT_MACHINE_M68K
 };
 
 /// An operation of a machine whose result is of the format of its operands.

@@ -1708,7 +1708,8 @@ class Value(_Arithmetic[Number]):
 
 # The machines, the operations on values of a format with how many operands they take, and the rules of minima, each in
 # the order of their codes, which begin at 1. A word may have spaces or hyphens in place of its underscores.
-_MACHINES = ('x86', 'x87', 'arm', 'arm_default_nan', 'arm_alternate', 'risc_v', 'power', 's390x')
+_MACHINES = ('x86', 'x87', 'arm', 'arm_default_nan', 'arm_alternate', 'risc_v', 'power', 's390x',
+             'arm_alternate_default_nan', 'webassembly', 'ptx', 'mips_2008', 'loongarch', 'sparc', 'm68k')
 _OF_MACHINES = {'add': 2, 'sub': 2, 'mul': 2, 'div': 2, 'remainder': 2, 'fmod': 2, 'fma': 3, 'sqrt': 1,
                 'round_to_integral': 1, 'integral': 1}
 _RULES = ('second', 'second_quietly', 'first_nan', 'number_2008', 'number_2019', 'propagated')
@@ -1798,7 +1799,11 @@ class Machine:
 
 
 def machine(name: str) -> Machine:
-    """The machine x86, x87, arm, arm_default_nan, arm_alternate, risc_v, power or s390x."""
+    """The machine of a word.
+
+    It is one of x86, x87, arm, arm_default_nan, arm_alternate, risc_v, power, s390x, arm_alternate_default_nan,
+    webassembly, ptx, mips_2008, loongarch, sparc and m68k.
+    """
     return Machine(name)
 
 

@@ -636,7 +636,9 @@ class SignTests(unittest.TestCase):
         # The NaNs of two operands as the manuals have them, and the integers of invalid conversions (docs/MACHINES.md).
         quiet, signaling = apfloat.single.from_bits(0x7fc00001), apfloat.single.from_bits(0xffa00002)
         sums = {'x86': 0x7fc00001, 'x87': 0x7fc00001, 'arm': 0xffe00002, 'arm_default_nan': 0x7fc00000,
-                'arm_alternate': 0x7fc00001, 'risc_v': 0x7fc00000, 'power': 0x7fc00001, 's390x': 0xffe00002}
+                'arm_alternate': 0x7fc00001, 'risc_v': 0x7fc00000, 'power': 0x7fc00001, 's390x': 0xffe00002,
+                'arm_alternate_default_nan': 0xffc00000, 'webassembly': 0x7fc00000, 'ptx': 0x7fffffff,
+                'mips_2008': 0xffe00002, 'loongarch': 0xffe00002, 'sparc': 0xffe00002, 'm68k': 0x7fc00001}
         invalid = {'x86': (-1 << 31, (1 << 32) - 1), 'arm': ((1 << 31) - 1, (1 << 32) - 1),
                    'risc_v': ((1 << 31) - 1, (1 << 32) - 1), 's390x': ((1 << 31) - 1, (1 << 32) - 1)}
         infinity = apfloat.single('inf')

@@ -1,6 +1,7 @@
 //! What is of Rust alone: sets of flags, constants, operators, and conditions that panic.
 
 use rustc_apfloat::ieee::*;
+use rustc_apfloat::machines::{Contradiction, Flush, Machine, NanChoice};
 use rustc_apfloat::more::{FloatMore, IeeeMore, PairMore};
 use rustc_apfloat::ppc::{DoubleDouble, FallbackS};
 use rustc_apfloat::{Category, ExpInt, Float, IEK_INF, IEK_NAN, IEK_ZERO, Round, Status, StatusAnd, unpack};
@@ -156,4 +157,21 @@ fn beyond_the_crate() {
     type Machine = IeeeFloat<IeeeFlags<SingleS>>;
     let past = Machine::largest().add_r(Machine::largest(), Round::TowardZero);
     assert_eq!((past.value.is_largest(), past.status), (true, Status::OVERFLOW | Status::INEXACT));
+}
+
+/// A machine that says of NaNs both that they are always dropped and that one is kept contradicts itself.
+#[test]
+fn contradictions() {
+    assert_eq!(Machine::RISC_V.checked(), Ok(Machine::RISC_V));
+    let composed = Machine { nan_choice: NanChoice::AlwaysDefault, ..Machine::ARM };
+    assert_eq!(composed.checked(), Err(Contradiction::SignalingAddendKept));
+    let kept = Machine { drops_quiet_addend: false, ..Machine::WEBASSEMBLY };
+    assert_eq!(kept.checked(), Err(Contradiction::QuietAddendKept));
+}
+
+/// Machines have the names of variants too, and their choices are calls.
+#[test]
+fn names_of_before() {
+    assert_eq!((Machine::RiscV, Machine::S390x), (Machine::RISC_V, Machine::S390X));
+    assert_eq!((Machine::Arm.flush(), Machine::Power.tiny_before_rounding()), (Some(Flush::Arm), true));
 }

@@ -15,7 +15,7 @@ from exact.status import INEXACT, INVALID_OP, OK, UNDERFLOW
 class Machine(NamedTuple):
     """The rules of a machine."""
 
-    # Which of several NaNs: the first, the first signaling one, the greater one, or the default.
+    # Which of several NaNs: the first, the first or the last signaling one, the greater one, or the default.
     choice: str
     default_is_negative: bool
     tiny_before_rounding: bool
@@ -34,6 +34,8 @@ class Machine(NamedTuple):
     integer_is_inexact: bool
     # The flags of a result that is flushed; none if no result is.
     flushed: int | None
+    # Whether the payload of the default is all ones.
+    default_has_ones: bool = False
 
 
 X86_FLUSH, ARM_FLUSH = UNDERFLOW | INEXACT, UNDERFLOW
@@ -49,6 +51,17 @@ MACHINES = {
     "risc_v": Machine("default", False, False, "ABC", True, True, True, "greatest", "greatest", False, False, None),
     "power": Machine("first", False, True, "ACB", False, False, True, "least", "zero", False, False, None),
     "s390x": Machine("signaling", False, True, "ABC", True, True, True, "least", "zero", False, True, None),
+    "arm_alternate_default_nan": Machine(
+        "default", True, False, "ABC", True, True, False, "zero", "zero", False, False, X86_FLUSH
+    ),
+    "webassembly": Machine("default", False, False, "ABC", True, True, True, "zero", "zero", False, False, None),
+    "ptx": Machine("default", False, False, "ABC", True, True, True, "zero", "zero", False, False, X86_FLUSH, True),
+    "mips_2008": Machine("signaling", False, False, "CAB", False, False, True, "zero", None, False, False, None),
+    "loongarch": Machine("signaling", False, False, "CAB", False, False, True, "zero", "zero", False, False, None),
+    "sparc": Machine(
+        "last signaling", False, True, "ABC", False, False, True, "by sign", None, False, False, None, True
+    ),
+    "m68k": Machine("first", False, True, None, False, False, True, "by sign", None, False, False, None, True),
 }
 
 RULES = ("second", "second_quietly", "first_nan", "number_2008", "number_2019", "propagated")
@@ -76,7 +89,7 @@ def is_given(source, word):
 
 def default_nan(form, machine):
     """The default NaN."""
-    return qnan(form, negative=machine.default_is_negative)
+    return qnan(form, -1 if machine.default_has_ones else 0, machine.default_is_negative)
 
 
 def taken(form, machine, data):
@@ -89,6 +102,8 @@ def taken(form, machine, data):
         return quieted(form, nans[0])
     if machine.choice == "signaling":
         return quieted(form, (signaling or nans)[0])
+    if machine.choice == "last signaling":
+        return quieted(form, (signaling or nans)[-1])
     if any(is_signaling(form, quieted(form, x)) for x in nans):
         return default_nan(form, machine)
     quiet = [x for x in nans if not is_signaling(form, x)]
@@ -114,16 +129,22 @@ def settled_fused(form, machine, data, result):
     if not nans:
         return default_nan(form, machine), flags
     signaling = any(is_signaling(form, x) for x in nans)
-    flags = INVALID_OP if signaling else OK
-    factors = data[:2]
-    invalid = any(isinstance(x, Infinite) for x in factors) and any(
-        isinstance(x, Finite) and x.quanta == 0 for x in factors
-    )
-    if invalid and machine.flags_quiet:
-        flags = INVALID_OP
-    if invalid and (machine.drops_signaling if signaling else machine.drops_quiet):
+    flags = INVALID_OP if signaling or (is_invalid_product(*data[:2]) and machine.flags_quiet) else OK
+    if drops_addend(form, machine, data):
         return default_nan(form, machine), flags
     return taken(form, machine, [data["ABC".index(name)] for name in machine.order]), flags
+
+
+def is_invalid_product(*factors):
+    """Whether one is an infinity and the other a zero."""
+    zeros = [x for x in factors if isinstance(x, Finite) and x.quanta == 0]
+    return any(isinstance(x, Infinite) for x in factors) and bool(zeros)
+
+
+def drops_addend(form, machine, data):
+    """Whether the default takes the place of a NaN that is added to an infinity times a zero."""
+    drops = machine.drops_signaling if is_signaling(form, data[2]) else machine.drops_quiet
+    return is_invalid_product(*data[:2]) and drops
 
 
 def flushed(form, machine, result):
@@ -143,7 +164,8 @@ def to_integer(form, machine, signed, x, width, mode):
     if flags != INVALID_OP:
         return value, flags
     rule = machine.signed_of_nan if signed else machine.unsigned_of_nan
-    of_nan = {"zero": 0, "least": least, "greatest": greatest}[rule]
+    by_sign = least if x.negative else greatest
+    of_nan = {"zero": 0, "least": least, "greatest": greatest, "by sign": by_sign}[rule]
     if is_nan(x) or machine.one_integer:
         value = of_nan
     if machine.integer_is_inexact and not is_nan(x):

@@ -1,5 +1,7 @@
 """What machines give, and comparisons of two formats."""
 
+import re
+
 from exact import operations, words
 from exact.conversions import convert
 from exact.data import NaN
@@ -23,8 +25,11 @@ _COUNTS = {
     "round_to_integral_in": 1,
 }
 _WITHOUT_MODE = ("ieee_rem", "c_fmod")
-# The machines that are drawn. Stored rows are drawn again, so a machine that comes later is in rows by hand.
+# The machines that are drawn. Stored rows are drawn again, so later ones are a subject of their own. One in each has
+# the registers of x87.
 _MACHINES = ("x86", "x87", "arm", "arm_default_nan", "arm_alternate", "risc_v", "power", "s390x")
+_LATER = ("arm_alternate_default_nan", "webassembly", "ptx", "mips_2008", "loongarch", "sparc", "m68k")
+_WITHOUT_INTEGER_BIT = re.compile(r"\b(?![08]000)[0-9a-f]{4}[0-7][0-9a-f]{15}\b")
 _BETWEEN = (
     ("half", "single"),
     ("single", "half"),
@@ -39,14 +44,32 @@ _BETWEEN = (
 
 def question(choices):
     """A call without its answer."""
-    return choices.choice(_DRAWN)(choices)
+    return choices.choice([*_DRAWN, *(between,) * 5])(choices, _MACHINES)
 
 
-def machine_for(choices, name):
-    """A machine, mostly the x87 unit for its own format."""
+def later_question(choices):
+    """The same on later machines; the 68881 reads patterns of x87 without the integer bit otherwise."""
+    while True:
+        drawn = choices.choice(_DRAWN)(choices, _LATER)
+        if not _WITHOUT_INTEGER_BIT.search(drawn):
+            return drawn
+
+
+def unit_of(known):
+    """The machine that has the registers of x87, and no fused sums."""
+    return next(machine for machine in known if MACHINES[machine].order is None)
+
+
+def others(known):
+    """The machines that have fused sums."""
+    return [machine for machine in known if MACHINES[machine].order is not None]
+
+
+def machine_for(choices, name, known):
+    """A machine, mostly the one of the format's registers."""
     if name == "x87" and choices.random() < 0.8:
-        return "x87"
-    return choices.choice([machine for machine in _MACHINES if machine != "x87"])
+        return unit_of(known)
+    return choices.choice(others(known))
 
 
 def operand(operands):
@@ -62,22 +85,22 @@ def operand(operands):
     return words.word_of(VALUES[form.name], operands.any())
 
 
-def arithmetic(choices):
+def arithmetic(choices, known):
     """An operation in one format."""
     name = choices.choice(_FORMATS)
-    machine = machine_for(choices, name)
+    machine = machine_for(choices, name, known)
     operands = Operands(choices, FORMATS[name])
-    calls = [call for call in _COUNTS if machine != "x87" or call != "wide_mul_add_r"]
+    calls = [call for call in _COUNTS if machine != unit_of(known) or call != "wide_mul_add_r"]
     call = choices.choice(calls)
     drawn = " ".join(operand(operands) for _ in range(_COUNTS[call]))
     mode = "-" if call in _WITHOUT_MODE else operands.mode().value
     return row(call, f"{name}@{machine}", mode, drawn)
 
 
-def invalid_product(choices):
+def invalid_product(choices, known):
     """An infinity times a zero, plus a NaN or any number."""
     name = choices.choice(_FORMATS[:-1])
-    machine = choices.choice([known for known in _MACHINES if known != "x87"])
+    machine = choices.choice(others(known))
     operands = Operands(choices, FORMATS[name])
     kind = VALUES[name]
     factors = [words.word_of(kind, kind.infinity()), words.word_of(kind, kind.zero())]
@@ -86,10 +109,10 @@ def invalid_product(choices):
     return row("wide_mul_add_r", f"{name}@{machine}", operands.mode().value, drawn)
 
 
-def flushed(choices):
+def flushed(choices, known):
     """A result near the smallest normalized number, flushed if it is tiny."""
     name = choices.choice(_FORMATS[:-1])
-    machine = choices.choice([known for known in _MACHINES if MACHINES[known].flushed is not None])
+    machine = choices.choice([word for word in known if MACHINES[word].flushed is not None])
     # x86 does not flush half. Arm does, with FZ16, and with the flags of x86 if AH is set.
     if (name, machine) == ("half", "x86"):
         machine = "arm_alternate"
@@ -105,19 +128,19 @@ def flushed(choices):
     return row(call, f"{name}@{machine}+ftz", operands.mode().value, drawn)
 
 
-def extremum(choices):
+def extremum(choices, known):
     """A minimum or a maximum by a rule."""
     name = choices.choice(_FORMATS)
     operands = Operands(choices, FORMATS[name])
     call = f"{choices.choice(['least', 'greatest'])}_{choices.choice(RULES)}"
     drawn = two(operands) if choices.random() < 0.5 else f"{operand(operands)} {operand(operands)}"
-    return row(call, f"{name}@{machine_for(choices, name)}", "-", drawn)
+    return row(call, f"{name}@{machine_for(choices, name, known)}", "-", drawn)
 
 
-def to_integer(choices):
+def to_integer(choices, known):
     """A conversion to an integer, often out of range."""
     name = choices.choice(_FORMATS)
-    machine = machine_for(choices, name)
+    machine = machine_for(choices, name, known)
     operands = Operands(choices, FORMATS[name])
     form = operands.form
     width = choices.choice([8, 16, 32, 32, 64, 64])
@@ -125,16 +148,16 @@ def to_integer(choices):
     if choices.random() < 0.5:
         end = (1 << width - choices.choice([0, 1])) << form.scale
         x = operands.signed(operands.near(min(end, form.largest), 1))
-    call = "to_i128_r" if machine == "x87" else choices.choice(["to_i128_r", "to_u128_r"])
+    call = "to_i128_r" if MACHINES[machine].unsigned_of_nan is None else choices.choice(["to_i128_r", "to_u128_r"])
     word = operand(operands) if choices.random() < 0.3 else words.word_of(VALUES[name], x)
     return row(call, f"{name}@{machine}", operands.mode().value, f"{word} {width}")
 
 
-def conversion(choices):
+def conversion(choices, known):
     """A conversion between formats, often of a NaN."""
     source = choices.choice((*_FORMATS, "e4m3fn", "e4m3fnuz"))
     target = choices.choice(_FORMATS)
-    machine = "x87" if "x87" in (source, target) else machine_for(choices, target)
+    machine = unit_of(known) if "x87" in (source, target) else machine_for(choices, target, known)
     # x86 converts single to bfloat without modes and flags.
     if (source, target, machine) == ("single", "bfloat", "x86"):
         machine = "arm"
@@ -143,7 +166,7 @@ def conversion(choices):
     return row("convert_r", formats, operands.mode().value, operand(operands))
 
 
-def between(choices):
+def between(choices, _):
     """A comparison of values of two formats, often of the same value or of neighbours."""
     source, target = choices.choice(_BETWEEN)
     left, right = Operands(choices, FORMATS[source]), Operands(choices, FORMATS[target])
@@ -163,5 +186,4 @@ _DRAWN = (
     *(extremum,) * 4,
     *(to_integer,) * 4,
     *(conversion,) * 3,
-    *(between,) * 5,
 )

@@ -42,6 +42,7 @@ SUBJECTS = {
     "operations": each_drawn(operations.question),
     "later_formats": each_drawn(later_formats.question),
     "machines": each_drawn(machines.question),
+    "later_machines": each_drawn(machines.later_question),
     "odd": each_drawn(odd.question),
     "hexadecimal": each_drawn(hexadecimal.question),
     "augmented": each_drawn(augmented.question),

@@ -398,7 +398,7 @@ static void call(size_t kind) {
     case 43: {
         uint32_t operation = below(17);
         uint32_t made_to = operation == APFLOAT_CONVERT ? to : operation < APFLOAT_LEAST ? width : below(8);
-        CALL(apfloat_machine, below(10), operation, format, mode, made_to, within(format, x), within(format, y),
+        CALL(apfloat_machine, below(17), operation, format, mode, made_to, within(format, x), within(format, y),
              within(format, z));
         break;
     }

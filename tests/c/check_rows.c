@@ -889,7 +889,7 @@ static unsigned refusals(void) {
         {MACHINE(0, APFLOAT_CONVERT, APFLOAT_HALF, 0, 0, one), APFLOAT_UNKNOWN_FORMAT},
         {MACHINE(0, APFLOAT_CONVERT, APFLOAT_HALF, 0, APFLOAT_E4M3FNUZ, one), APFLOAT_NO_SUCH_OPERATION},
         {MACHINE(0, APFLOAT_TO_U128, APFLOAT_HALF, 0, 0, wide), APFLOAT_UNKNOWN_MACHINE},
-        {MACHINE(9, APFLOAT_ADD, APFLOAT_HALF, 0, 0, one), APFLOAT_UNKNOWN_MACHINE},
+        {MACHINE(16, APFLOAT_ADD, APFLOAT_HALF, 0, 0, one), APFLOAT_UNKNOWN_MACHINE},
         {MACHINE(APFLOAT_MACHINE_X87, APFLOAT_FMA, APFLOAT_HALF, 0, 0, wide), APFLOAT_WIDE_OPERAND},
         {MACHINE(APFLOAT_MACHINE_X86, APFLOAT_ADD, APFLOAT_X87, 0, 0, past_x87), APFLOAT_WIDE_OPERAND},
         {MACHINE(APFLOAT_MACHINE_X87, APFLOAT_TO_U128, APFLOAT_HALF, 0, 129, one), APFLOAT_WRONG_WIDTH},
@@ -985,6 +985,13 @@ static unsigned error_texts(void) {
 #define RISC_V APFLOAT_MACHINE_RISC_V
 #define POWER APFLOAT_MACHINE_POWER
 #define S390X APFLOAT_MACHINE_S390X
+#define ARM_ALTERNATE_DEFAULT APFLOAT_MACHINE_ARM_ALTERNATE_DEFAULT_NAN
+#define WEBASSEMBLY APFLOAT_MACHINE_WEBASSEMBLY
+#define PTX APFLOAT_MACHINE_PTX
+#define MIPS_2008 APFLOAT_MACHINE_MIPS_2008
+#define LOONGARCH APFLOAT_MACHINE_LOONGARCH
+#define SPARC APFLOAT_MACHINE_SPARC
+#define M68K APFLOAT_MACHINE_M68K
 static const struct {
     uint32_t machine, operation, format, to;
     apfloat_halves x, y, z, bits;
@@ -998,6 +1005,13 @@ static const struct {
     {RISC_V, APFLOAT_ADD, 2, 0, {0x3f800000, 0}, {0x7f800003, 0}, {0, 0}, {0x7fc00000, 0}, 0x01},
     {POWER, APFLOAT_ADD, 2, 0, {0xffc00002, 0}, {0x7f800003, 0}, {0, 0}, {0xffc00002, 0}, 0x01},
     {S390X, APFLOAT_ADD, 2, 0, {0x7fc00001, 0}, {0xff800004, 0}, {0, 0}, {0xffc00004, 0}, 0x01},
+    {ARM_ALTERNATE_DEFAULT, APFLOAT_ADD, 2, 0, {0x7fc00001, 0}, {0x7f800003, 0}, {0, 0}, {0xffc00000, 0}, 0x01},
+    {WEBASSEMBLY, APFLOAT_ADD, 2, 0, {0xffc00002, 0}, {0x3f800000, 0}, {0, 0}, {0x7fc00000, 0}, 0x00},
+    {PTX, APFLOAT_ADD, 2, 0, {0xffc00002, 0}, {0x3f800000, 0}, {0, 0}, {0x7fffffff, 0}, 0x00},
+    {MIPS_2008, APFLOAT_ADD, 2, 0, {0x7fc00001, 0}, {0xff800004, 0}, {0, 0}, {0xffc00004, 0}, 0x01},
+    {SPARC, APFLOAT_ADD, 2, 0, {0x7fc00001, 0}, {0xffc00002, 0}, {0, 0}, {0xffc00002, 0}, 0x00},
+    {M68K, APFLOAT_SUB, 9, 0, {UINT64_C(0x8000000000000000), 0x7fff}, {UINT64_C(0x8000000000000000), 0x7fff}, {0, 0},
+     {UINT64_MAX, 0x7fff}, 0x01},
     {X86, APFLOAT_SUB, 2, 0, {0x7f800000, 0}, {0x7f800000, 0}, {0, 0}, {0xffc00000, 0}, 0x01},
     {ARM, APFLOAT_SUB, 2, 0, {0x7f800000, 0}, {0x7f800000, 0}, {0, 0}, {0x7fc00000, 0}, 0x01},
     {X87, APFLOAT_ADD, 9, 0, {UINT64_C(0xc000000000000001), 0x7fff}, {UINT64_C(0x8000000000000003), 0x7fff}, {0, 0},
@@ -1013,6 +1027,8 @@ static const struct {
     {ARM, APFLOAT_FMA, 2, 0, {0x7f800000, 0}, {0, 0}, {0x7fc00001, 0}, {0x7fc00000, 0}, 0x01},
     {ARM, APFLOAT_FMA, 2, 0, {0x7fc00001, 0}, {0x3f800000, 0}, {0xffc00002, 0}, {0xffc00002, 0}, 0x00},
     {POWER, APFLOAT_FMA, 2, 0, {0x3f800000, 0}, {0xffc00002, 0}, {0x7fc00001, 0}, {0x7fc00001, 0}, 0x00},
+    {ARM_ALTERNATE_DEFAULT, APFLOAT_FMA, 2, 0, {0x7f800000, 0}, {0, 0}, {0x7fc00001, 0}, {0xffc00000, 0}, 0x00},
+    {LOONGARCH, APFLOAT_FMA, 2, 0, {0x7f800000, 0}, {0, 0}, {0x7fc00001, 0}, {0x7fc00001, 0}, 0x01},
     {X86, APFLOAT_SQRT, 2, 0, {0xbf800000, 0}, {0, 0}, {0, 0}, {0xffc00000, 0}, 0x01},
     {RISC_V, APFLOAT_ROUND_TO_INTEGRAL, 2, 0, {0x3fc00000, 0}, {0, 0}, {0, 0}, {0x40000000, 0}, 0x10},
     {RISC_V, APFLOAT_INTEGRAL, 2, 0, {0x3fc00000, 0}, {0, 0}, {0, 0}, {0x40000000, 0}, 0x00},
@@ -1025,6 +1041,8 @@ static const struct {
     {ARM, APFLOAT_TO_I128, 2, 32, {0xffc00002, 0}, {0, 0}, {0, 0}, {0, 0}, 0x01},
     {RISC_V, APFLOAT_TO_I128, 2, 32, {0xffc00002, 0}, {0, 0}, {0, 0}, {0x7fffffff, 0}, 0x01},
     {S390X, APFLOAT_TO_I128, 2, 32, {0x7f800000, 0}, {0, 0}, {0, 0}, {0x7fffffff, 0}, 0x11},
+    {SPARC, APFLOAT_TO_I128, 2, 32, {0x7fc00001, 0}, {0, 0}, {0, 0}, {0x7fffffff, 0}, 0x01},
+    {SPARC, APFLOAT_TO_I128, 2, 32, {0xffc00002, 0}, {0, 0}, {0, 0}, {UINT64_C(0xffffffff80000000), UINT64_MAX}, 0x01},
     {X86, APFLOAT_TO_U128, 2, 32, {0xbf800000, 0}, {0, 0}, {0, 0}, {0xffffffff, 0}, 0x01},
     {ARM, APFLOAT_TO_U128, 2, 32, {0xbf800000, 0}, {0, 0}, {0, 0}, {0, 0}, 0x01},
     {X86, APFLOAT_TO_I128, 2, 32, {0x3fc00000, 0}, {0, 0}, {0, 0}, {2, 0}, 0x10},

@@ -237,7 +237,7 @@ static void values(void) {
     }
     case 48: ONE(apfloat_to_p3109, f, code(6), constants(), x); break;
     case 49: ONE(apfloat_from_p3109, constants(), m, f, (uint32_t)random_word()); break;
-    default: ONE(apfloat_machine, code(10), code(17), f, m, below(2) ? format() : code(130), x, y, z);
+    default: ONE(apfloat_machine, code(17), code(17), f, m, below(2) ? format() : code(130), x, y, z);
     }
 }
 

@@ -619,6 +619,7 @@ void check_machines() {
     CHECK(on_x86 && on_x86->value.bits() == 0x7fc00001 && on_x86->status == flag::invalid_op);
     CHECK(on_machine(machine::arm, machine_operation::add, even, quiet, signaling)->value.bits() == 0x7fc00003);
     CHECK(on_machine(machine::risc_v, machine_operation::sqrt, even, quiet)->value.bits() == 0x7fc00000);
+    CHECK(on_machine(machine::ptx, machine_operation::sqrt, even, quiet)->value.bits() == 0x7fffffff);
     CHECK(on_machine(machine::x87, machine_operation::fma, even, one, one, one).error() == errc::lacking_operation);
     CHECK(convert_on<binary32>(machine::arm, number::from_bits(0xfff8000020000000))->value.bits() == 0xffc00001);
     CHECK(least_on(machine::x86, minimum_rule::second, quiet, one)->value.bits() == one.bits());
@@ -627,7 +628,8 @@ void check_machines() {
     CHECK(least && least->value == INT32_MIN && least->status == flag::invalid_op);
     CHECK(to_integer_on<std::uint64_t>(machine::arm, quiet, even)->value == 0);
     CHECK(to_integer_on<std::uint8_t>(machine::x87, one, even).error() == errc::lacking_operation);
-    CHECK(on_machine(static_cast<machine>(9), machine_operation::add, even, one, one).error() == errc::unknown_machine);
+    CHECK(on_machine(static_cast<machine>(16), machine_operation::add, even, one, one).error() ==
+          errc::unknown_machine);
 }
 
 // The operations of IEEE 754-2019; their rows are checked in C and Python.

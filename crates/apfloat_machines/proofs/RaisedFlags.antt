@@ -28,7 +28,6 @@ use Rattle.ieee_operations.specs.RaisedFlags.{RaisesTogether}
 use Rattle.ieee_operations.specs.WholeNumbers.{IsRoundedToIntegral}
 use Rattle.apfloat_machines.specs.declared.machine.Machine.{Machine}
 use Rattle.apfloat_machines.specs.declared.flushing.Flush.TheVariants.{X86}
-use Rattle.apfloat_machines.specs.Machines.{invalid_integer_is_inexact}
 use Rattle.apfloat_machines.specs.Invalid.{is_invalid_sum, is_invalid_difference, is_invalid_product, is_invalid_quotient, is_invalid_remainder, is_invalid_root, is_invalid_fused}
 use Rattle.apfloat_machines.specs.Operations.{is_nan_of_three, IsOfTwo, IsOfThree}
 use Rattle.apfloat_machines.specs.Conversions.{is_lost_nan}
@@ -69,7 +68,7 @@ any_loss_together f g mode x value status h = conversion_together f g mode x h.0
 
 invalid_flags_together : (machine : Machine) (x : Datum) → FlagsGoTogether (invalid_flags machine x)
 invalid_flags_together machine x =
-    if_case FlagsGoTogether (invalid_integer_is_inexact machine && not (is_nan x))
+    if_case FlagsGoTogether (machine.invalid_integer_is_inexact && not (is_nan x))
     (λ e. inexact_together (invalid_bit + inexact_bit) (lit< tt)) (λ e. invalid_together)
 
 settled_together : (machine : Machine) (x : Datum) (status : ℕ)

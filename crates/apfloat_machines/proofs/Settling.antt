@@ -21,7 +21,6 @@ use Rattle.apfloat_model.specs.rounding.Flags.{bits_of, Gives}
 use Rattle.ieee_operations.specs.WholeNumbers.{IsRoundedToIntegral}
 use Rattle.ieee_operations.specs.Extrema.{quieted_datum}
 use Rattle.apfloat_machines.specs.declared.machine.Machine.{Machine}
-use Rattle.apfloat_machines.specs.Machines.{nan_choice, fused_order}
 use Rattle.apfloat_machines.specs.Nans.{default_nan, nan_of, settled}
 use Rattle.apfloat_machines.specs.Invalid.{is_invalid_sum, is_invalid_difference, is_invalid_product, is_invalid_quotient, is_invalid_remainder, is_invalid_root, is_invalid_fused}
 use Rattle.apfloat_machines.specs.Operations.{is_signaling_of_two, is_nan_of_three, IsOfTwo, IsOfThree, AreSettled, AreSettledOfOne, IsMachineFusedSum, taken_in_order, fused_takes_none, is_invalid_of_nans, settled_fused, settled_fused_flags}
@@ -125,7 +124,7 @@ pub of_three : (f : Format) (machine : Machine) (x y z : Datum) (Says : Datum â†
     (settled_fused_flags f machine x y z value status)
 of_three f machine x y z Says value status u h =
     fused_cases (is_nan_of_three x y z) (not (fused_takes_none f machine x y z)) (is_invalid_fused x y z)
-    (quieted_datum f (taken_in_order (fused_order machine) (nan_choice machine) f x y z)) (default_nan f machine) value
+    (quieted_datum f (taken_in_order machine.fused_order machine.nan_choice f x y z)) (default_nan f machine) value
     (invalid_if (is_invalid_of_nans f machine x y z)) status Says u h
 
 pub fused_is_settled : (f : Format) (machine : Machine) (x y z : Datum) (answer result : StatusAnd Datum)

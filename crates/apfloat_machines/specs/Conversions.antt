@@ -9,12 +9,11 @@ use Rattle.apfloat_model.specs.rounding.Answer.{IsAnswer}
 use Rattle.apfloat_model.specs.order.Classes.{is_nan}
 use Rattle.apfloat_model.specs.arithmetic.Conversions.{IsConversion}
 use Rattle.apfloat_machines.specs.declared.machine.Machine.{Machine}
-use Rattle.apfloat_machines.specs.Machines.{nan_choice}
 use Rattle.apfloat_machines.specs.Nans.{default_nan, takes_none}
 
 -- whether the datum is a NaN that is not kept: the default of the target takes its place
 abbrev pub is_lost_nan : Format → Machine → Datum → Bool
-is_lost_nan f machine x = is_nan x && takes_none (nan_choice machine) f x x
+is_lost_nan f machine x = is_nan x && takes_none machine.nan_choice f x x
 
 abbrev pub settled_conversion : Format → Format → Machine → Datum → Datum → Datum
 settled_conversion f g machine x value = if is_lost_nan f machine x then default_nan g machine else value

@@ -9,13 +9,14 @@ use Rattle.ieee_operations.specs.Extrema.{quieted_datum}
 use Rattle.ieee_operations.specs.TotalOrder.{total_order_mag}
 use Rattle.apfloat_machines.specs.declared.machine.Machine.{Machine}
 use Rattle.apfloat_machines.specs.declared.machine.NanChoice.{NanChoice}
-use Rattle.apfloat_machines.specs.declared.machine.NanChoice.TheVariants.{First, SignalingFirst, Greater, AlwaysDefault}
-use Rattle.apfloat_machines.specs.Machines.{nan_choice, default_is_negative}
+use Rattle.apfloat_machines.specs.declared.machine.NanChoice.TheVariants.{First, SignalingFirst, SignalingLast}
+use Rattle.apfloat_machines.specs.declared.machine.NanChoice.TheVariants.{Greater, AlwaysDefault}
 
--- the quiet NaN without a payload, with the machine's sign
+-- the quiet NaN with the machine's sign and payload
 abbrev pub default_nan : Format → Machine → Datum
 default_nan f machine =
-    if default_is_negative machine then negated f.nonfinite (qnan f 0) else qnan f 0
+    let positive = qnan f machine.default_payload in
+    if machine.default_is_negative then negated f.nonfinite positive else positive
 
 -- A NaN that its quiet bit does not make quiet: its integer bit is written, and is not set. The x87 unit does not take
 -- it, nor the bits that are read as it.
@@ -31,12 +32,16 @@ is_unsupported f (finite b n) = false
 abbrev pub is_greater : Format → Datum → Datum → Bool
 is_greater f x y = total_order_mag f y x && not (total_order_mag f x y && is_negative x)
 
+abbrev pub signaling_first : Format → Datum → Datum → Datum
+signaling_first f x y =
+    if is_signaling_nan f x then x
+    else (if is_signaling_nan f y then y else (if is_nan x then x else y))
+
 -- the NaN that is taken, as it is
 abbrev pub taken : NanChoice → Format → Datum → Datum → Datum
 taken First f x y = if is_nan x then x else y
-taken SignalingFirst f x y =
-    if is_signaling_nan f x then x
-    else (if is_signaling_nan f y then y else (if is_nan x then x else y))
+taken SignalingFirst f x y = signaling_first f x y
+taken SignalingLast f x y = signaling_first f y x
 taken Greater f x y = if is_nan x && (not (is_nan y) || is_greater f x y) then x else y
 taken AlwaysDefault f x y = if is_nan x then x else y
 
@@ -44,14 +49,15 @@ taken AlwaysDefault f x y = if is_nan x then x else y
 abbrev pub takes_none : NanChoice → Format → Datum → Datum → Bool
 takes_none First f x y = false
 takes_none SignalingFirst f x y = false
+takes_none SignalingLast f x y = false
 takes_none Greater f x y = is_unsupported f x || is_unsupported f y
 takes_none AlwaysDefault f x y = true
 
 -- the NaN that is delivered, if an operand is a NaN
 abbrev pub nan_of : Format → Machine → Datum → Datum → Datum
 nan_of f machine x y =
-    if takes_none (nan_choice machine) f x y then default_nan f machine
-    else quieted_datum f (taken (nan_choice machine) f x y)
+    if takes_none machine.nan_choice f x y then default_nan f machine
+    else quieted_datum f (taken machine.nan_choice f x y)
 
 -- ---- of any two operands of an operation whose result is a NaN
 

@@ -23,8 +23,6 @@ use Rattle.apfloat_machines.specs.declared.machine.Machine.{Machine}
 use Rattle.apfloat_machines.specs.declared.machine.FusedOrder.{FusedOrder}
 use Rattle.apfloat_machines.specs.declared.machine.FusedOrder.TheVariants.{FactorsFirst, AddendFirst, AddendSecond}
 use Rattle.apfloat_machines.specs.declared.machine.NanChoice.{NanChoice}
-use Rattle.apfloat_machines.specs.Machines.{nan_choice, fused_order, drops_quiet_addend, drops_signaling_addend}
-use Rattle.apfloat_machines.specs.Machines.{flags_quiet_addend}
 use Rattle.apfloat_machines.specs.Nans.{default_nan, taken, takes_none, machine_nan}
 use Rattle.apfloat_machines.specs.Invalid.{is_invalid_sum, is_invalid_difference, is_invalid_product}
 use Rattle.apfloat_machines.specs.Invalid.{is_invalid_quotient, is_invalid_remainder, is_invalid_root, is_invalid_fused}
@@ -118,25 +116,25 @@ taken_in_order AddendSecond choice f x y z = taken_of_three choice f x z y
 -- whether an invalid product takes the place of the NaN that is added to it
 abbrev pub drops_addend : Format → Machine → Datum → Bool
 drops_addend f machine z =
-    if is_signaling_nan f z then drops_signaling_addend machine else drops_quiet_addend machine
+    if is_signaling_nan f z then machine.drops_signaling_addend else machine.drops_quiet_addend
 
 abbrev pub fused_takes_none : Format → Machine → Datum → Datum → Datum → Bool
 fused_takes_none f machine x y z =
-    takes_none (nan_choice machine) f x y || (takes_none (nan_choice machine) f x z
+    takes_none machine.nan_choice f x y || (takes_none machine.nan_choice f x z
     || (is_invalid_product x y && drops_addend f machine z))
 
 -- the NaN that is delivered
 abbrev pub fused_nan : Format → Machine → Datum → Datum → Datum → Datum
 fused_nan f machine x y z =
     if is_nan_of_three x y z && not (fused_takes_none f machine x y z)
-    then quieted_datum f (taken_in_order (fused_order machine) (nan_choice machine) f x y z)
+    then quieted_datum f (taken_in_order machine.fused_order machine.nan_choice f x y z)
     else default_nan f machine
 
 -- whether operands of which one is a NaN raise INVALID_OP
 abbrev pub is_invalid_of_nans : Format → Machine → Datum → Datum → Datum → Bool
 is_invalid_of_nans f machine x y z =
     is_signaling_nan f x || (is_signaling_nan f y || (is_signaling_nan f z
-    || (is_invalid_product x y && flags_quiet_addend machine)))
+    || (is_invalid_product x y && machine.flags_quiet_addend)))
 
 -- If an operand is a NaN, or the fused sum is invalid, the machine's NaN; otherwise what the fused sum gives.
 abbrev pub IsOfThree

@@ -7,13 +7,11 @@ use Rattle.apfloat_model.specs.formats.Format.{Format}
 use Rattle.apfloat_model.specs.formats.Datum.{Datum}
 use Rattle.apfloat_model.specs.formats.Nan.{invalid_bit}
 use Rattle.apfloat_model.specs.rounding.Rounding.{inexact_bit}
-use Rattle.apfloat_model.specs.order.Classes.{is_nan}
+use Rattle.apfloat_model.specs.order.Classes.{is_nan, is_negative}
 use Rattle.apfloat_model.specs.whole_numbers.WholeNumbersOut.{Whole, to_unsigned, to_signed, IsToUnsigned}
 use Rattle.apfloat_machines.specs.declared.machine.Machine.{Machine}
 use Rattle.apfloat_machines.specs.declared.machine.WholeOfNan.{WholeOfNan}
-use Rattle.apfloat_machines.specs.declared.machine.WholeOfNan.TheVariants.{Zero, Least, Greatest}
-use Rattle.apfloat_machines.specs.Machines.{signed_of_nan, unsigned_of_nan, has_one_invalid_integer}
-use Rattle.apfloat_machines.specs.Machines.{invalid_integer_is_inexact}
+use Rattle.apfloat_machines.specs.declared.machine.WholeOfNan.TheVariants.{Zero, Least, Greatest, BySign}
 
 abbrev pub least_signed : ℕ → ℤ
 least_signed width = neg_ℤ (pos (2 ^ (width - 1)))
@@ -25,19 +23,20 @@ abbrev pub greatest_unsigned : ℕ → ℤ
 greatest_unsigned width = pos (2 ^ width - 1)
 
 -- the integer that a NaN gives, of a range
-abbrev pub whole_of_nan : WholeOfNan → ℤ → ℤ → ℤ
-whole_of_nan Zero low high = pos 0
-whole_of_nan Least low high = low
-whole_of_nan Greatest low high = high
+abbrev pub whole_of_nan : WholeOfNan → Bool → ℤ → ℤ → ℤ
+whole_of_nan Zero negative low high = pos 0
+whole_of_nan Least negative low high = low
+whole_of_nan Greatest negative low high = high
+whole_of_nan BySign negative low high = if negative then low else high
 
 -- the integer of an invalid conversion, given that of a NaN and the nearer end of the range
 abbrev pub invalid_integer : Machine → Datum → ℤ → ℤ → ℤ
 invalid_integer machine x of_nan nearer =
-    if is_nan x || has_one_invalid_integer machine then of_nan else nearer
+    if is_nan x || machine.has_one_invalid_integer then of_nan else nearer
 
 abbrev pub invalid_flags : Machine → Datum → ℕ
 invalid_flags machine x =
-    if invalid_integer_is_inexact machine && not (is_nan x) then invalid_bit + inexact_bit else invalid_bit
+    if machine.invalid_integer_is_inexact && not (is_nan x) then invalid_bit + inexact_bit else invalid_bit
 
 -- the integer and the flags that a machine makes of a conversion
 abbrev pub settled_number : Machine → Datum → ℤ → ℤ → ℕ → ℤ
@@ -52,27 +51,29 @@ pub record IsMachineWhole (machine : Machine) (x : Datum) (of_nan : ℤ) (answer
   pub number_is : number ≡ settled_number machine x of_nan answer.number answer.status
   pub status_is : status ≡ settled_flags machine x answer.status
 
-abbrev pub signed_nan : Machine → ℕ → ℤ
-signed_nan machine width = whole_of_nan (signed_of_nan machine) (least_signed width) (greatest_signed width)
+abbrev pub signed_nan : Machine → ℕ → Datum → ℤ
+signed_nan machine width x =
+    whole_of_nan machine.signed_of_nan (is_negative x) (least_signed width) (greatest_signed width)
 
-abbrev pub unsigned_nan : Machine → ℕ → ℤ
-unsigned_nan machine width = whole_of_nan (unsigned_of_nan machine) (pos 0) (greatest_unsigned width)
+abbrev pub unsigned_nan : Machine → ℕ → Datum → ℤ
+unsigned_nan machine width x =
+    whole_of_nan machine.unsigned_of_nan (is_negative x) (pos 0) (greatest_unsigned width)
 
 -- the integer that is the rounded number, or that of an invalid conversion
 abbrev pub IsMachineSigned : Format → Machine → Round → ℕ → Datum → ℤ → ℕ → Type 0
 IsMachineSigned f machine mode width x number status =
-    IsMachineWhole machine x (signed_nan machine width) (to_signed f mode width x) number status
+    IsMachineWhole machine x (signed_nan machine width x) (to_signed f mode width x) number status
 
 abbrev pub IsMachineUnsigned : Format → Machine → Round → ℕ → Datum → ℕ → ℕ → Type 0
 IsMachineUnsigned f machine mode width x number status =
-    IsMachineWhole machine x (unsigned_nan machine width) (to_unsigned f mode width x) (pos number) status
+    IsMachineWhole machine x (unsigned_nan machine width x) (to_unsigned f mode width x) (pos number) status
 
 -- what `settled_unsigned` makes of an answer, and of that of a conversion
 pub record IsSettledUnsigned (f : Format) (machine : Machine) (x : Datum) (width : ℕ)
     (answer result : StatusAnd ℕ) : Type 0 where
   pub value_is :
       pos result.value
-      ≡ settled_number machine x (unsigned_nan machine width) (pos answer.value) (bits_of answer.status)
+      ≡ settled_number machine x (unsigned_nan machine width x) (pos answer.value) (bits_of answer.status)
   pub status_is : bits_of result.status ≡ settled_flags machine x (bits_of answer.status)
   pub whole : (mode : Round) → (exact : Bool)
       → IsToUnsigned f mode width x answer.value (bits_of answer.status) exact

@@ -49,5 +49,5 @@ pub fn settled_conversion<S: Flagged, T: Flagged>(
 pub fn is_lost_nan<S: Flagged>(machine: Machine, x: IeeeFloat<S>) -> bool
     ensures { result ≡ is_lost_nan (format_of S.Flagged) machine x }
 {
-    x.is_nan() && takes_none(machine.nan_choice(), x, x)
+    x.is_nan() && takes_none(machine.nan_choice, x, x)
 }

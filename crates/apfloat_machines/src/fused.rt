@@ -4,7 +4,6 @@ ghost use Rattle.std.specs.Prelude.{◌≡◌, ◌<◌, if◌then◌else◌};
 ghost use Rattle.apfloat_model.specs.rounding.Flags.{bits_of};
 ghost use Rattle.apfloat_model.specs.formats.Nan.{invalid_if};
 ghost use Rattle.apfloat_ieee.specs.FlaggedTypes.{format_of};
-ghost use Rattle.apfloat_machines.specs.Machines.{has_fused};
 ghost use Rattle.apfloat_machines.specs.Invalid.{is_invalid_product};
 ghost use Rattle.apfloat_machines.specs.Operations.{IsOffered, IsSettledFused, drops_addend};
 ghost use Rattle.apfloat_machines.specs.Operations.{fused_nan, fused_takes_none};
@@ -30,10 +29,10 @@ pub fn settled_fused<S: Flagged>(
     answer: StatusAnd<IeeeFloat<S>>,
 ) -> Option<StatusAnd<IeeeFloat<S>>>
     requires { S.PRECISION < S.BITS }
-    ensures { IsOffered (has_fused machine)
+    ensures { IsOffered machine.has_fused
         (IsSettledFused (format_of S.Flagged) machine x y z answer) result }
 {
-    if machine.has_fused() {
+    if machine.has_fused {
         Some(with_nan(machine, x, y, z, answer))
     } else {
         None
@@ -107,7 +106,7 @@ fn fused_nan<S: Flagged>(
     ensures { result ≡ fused_nan (format_of S.Flagged) machine x y z }
 {
     if is_nan_of_three(x, y, z) && !fused_takes_none(machine, x, y, z) {
-        quieted(taken_in_order(machine.fused_order(), machine.nan_choice(), x, y, z))
+        quieted(taken_in_order(machine.fused_order, machine.nan_choice, x, y, z))
     } else {
         default_nan(machine)
     }
@@ -122,8 +121,8 @@ fn fused_takes_none<S: Flagged>(
 ) -> bool
     ensures { result ≡ fused_takes_none (format_of S.Flagged) machine x y z }
 {
-    takes_none(machine.nan_choice(), x, y)
-        || (takes_none(machine.nan_choice(), x, z)
+    takes_none(machine.nan_choice, x, y)
+        || (takes_none(machine.nan_choice, x, z)
             || (is_invalid_product(x, y) && drops_addend(machine, z)))
 }
 
@@ -132,9 +131,9 @@ fn drops_addend<S: Flagged>(machine: Machine, z: IeeeFloat<S>) -> bool
     ensures { result ≡ drops_addend (format_of S.Flagged) machine z }
 {
     if z.is_signaling() {
-        machine.drops_signaling_addend()
+        machine.drops_signaling_addend
     } else {
-        machine.drops_quiet_addend()
+        machine.drops_quiet_addend
     }
 }
 
@@ -149,7 +148,7 @@ fn is_invalid_of_nans<S: Flagged>(
 {
     x.is_signaling()
         || (y.is_signaling()
-            || (z.is_signaling() || (is_invalid_product(x, y) && machine.flags_quiet_addend())))
+            || (z.is_signaling() || (is_invalid_product(x, y) && machine.flags_quiet_addend)))
 }
 
 /// Whether the product is that of a zero and an infinity.

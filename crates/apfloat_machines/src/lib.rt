@@ -18,7 +18,9 @@ mod whole_numbers;
 pub use conversions::{is_lost_nan, settled_conversion};
 pub use flushing::{Flush, flushed, has_denormal, without_denormal};
 pub use fused::settled_fused;
-pub use machine::{FusedOrder, Machine, NanChoice, WholeOfNan};
+pub use machine::{
+    Contradiction, FusedOrder, Machine, NanChoice, WholeOfNan, machines_are_those_of_the_tables,
+};
 pub use minima::{MinimumRule, greatest, least};
 pub use nans::{default_nan, machine_nan, negated_number, settled, settled_unary};
 pub use theorems::{

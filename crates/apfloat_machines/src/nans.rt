@@ -8,7 +8,7 @@ ghost use Rattle.apfloat_ieee.specs.FlaggedTypes.{format_of};
 ghost use Rattle.ieee_operations.specs.Extrema.{quieted_datum};
 ghost use Rattle.apfloat_machines.specs.declared.flushing.Flush.{Flush};
 ghost use Rattle.apfloat_machines.specs.FlushedMachines.{AreFlushedAndSettled};
-ghost use Rattle.apfloat_machines.specs.Nans.{default_nan, machine_nan, nan_of, settled};
+ghost use Rattle.apfloat_machines.specs.Nans.{default_nan, machine_nan, nan_of, settled, signaling_first};
 ghost use Rattle.apfloat_machines.specs.Nans.{is_greater, is_unsupported, taken, takes_none};
 ghost use Rattle.apfloat_machines.specs.Operations.{AreSettled, AreSettledOfOne};
 
@@ -92,12 +92,12 @@ pub fn machine_nan<S: Flagged>(machine: Machine, x: IeeeFloat<S>, y: IeeeFloat<S
     }
 }
 
-/// The quiet NaN without a payload that an invalid operation delivers, with the machine's sign.
+/// The quiet NaN that an invalid operation delivers, with the machine's sign and payload.
 pub fn default_nan<S: Flagged>(machine: Machine) -> IeeeFloat<S>
     ensures { result ≡ default_nan (format_of S.Flagged) machine }
 {
-    let positive: IeeeFloat<S> = IeeeFloat::qnan(None);
-    if machine.default_is_negative() {
+    let positive: IeeeFloat<S> = IeeeFloat::qnan(Some(machine.default_payload));
+    if machine.default_is_negative {
         -positive
     } else {
         positive
@@ -118,10 +118,10 @@ fn nan_of<S: Flagged>(machine: Machine, x: IeeeFloat<S>, y: IeeeFloat<S>) -> Iee
     requires { S.PRECISION < S.BITS }
     ensures { result ≡ nan_of (format_of S.Flagged) machine x y }
 {
-    if takes_none(machine.nan_choice(), x, y) {
+    if takes_none(machine.nan_choice, x, y) {
         default_nan(machine)
     } else {
-        quieted(taken(machine.nan_choice(), x, y))
+        quieted(taken(machine.nan_choice, x, y))
     }
 }
 
@@ -132,29 +132,22 @@ pub(crate) fn takes_none<S: Flagged>(choice: NanChoice, x: IeeeFloat<S>, y: Ieee
     match choice {
         NanChoice::First => false,
         NanChoice::SignalingFirst => false,
+        NanChoice::SignalingLast => false,
         NanChoice::Greater => is_unsupported(x) || is_unsupported(y),
         NanChoice::AlwaysDefault => true,
     }
 }
 
 /// The operand that is taken, as it is; a NaN if either is.
+#[inline(always)]
 pub(crate) fn taken<S: Flagged>(choice: NanChoice, x: IeeeFloat<S>, y: IeeeFloat<S>) -> IeeeFloat<S>
     requires { S.PRECISION < S.BITS }
     ensures { result ≡ taken choice (format_of S.Flagged) x y }
 {
     match choice {
         NanChoice::First => if x.is_nan() { x } else { y },
-        NanChoice::SignalingFirst => {
-            if x.is_signaling() {
-                x
-            } else if y.is_signaling() {
-                y
-            } else if x.is_nan() {
-                x
-            } else {
-                y
-            }
-        }
+        NanChoice::SignalingFirst => signaling_first(x, y),
+        NanChoice::SignalingLast => signaling_first(y, x),
         NanChoice::Greater => {
             if x.is_nan() && (!y.is_nan() || is_greater(x, y)) {
                 x
@@ -163,6 +156,21 @@ pub(crate) fn taken<S: Flagged>(choice: NanChoice, x: IeeeFloat<S>, y: IeeeFloat
             }
         }
         NanChoice::AlwaysDefault => if x.is_nan() { x } else { y },
+    }
+}
+
+/// The first signaling NaN, or else the first NaN.
+fn signaling_first<S: Flagged>(x: IeeeFloat<S>, y: IeeeFloat<S>) -> IeeeFloat<S>
+    ensures { result ≡ signaling_first (format_of S.Flagged) x y }
+{
+    if x.is_signaling() {
+        x
+    } else if y.is_signaling() {
+        y
+    } else if x.is_nan() {
+        x
+    } else {
+        y
     }
 }
 

@@ -5,7 +5,6 @@ ghost use Rattle.apfloat_model.specs.declared.kinds.Round.{Round};
 ghost use Rattle.apfloat_model.specs.rounding.Flags.{Gives, bits_of};
 ghost use Rattle.apfloat_model.specs.whole_numbers.WholeNumbersOut.{IsToSigned, IsToUnsigned};
 ghost use Rattle.apfloat_ieee.specs.FlaggedTypes.{format_of};
-ghost use Rattle.apfloat_machines.specs.Machines.{has_unsigned};
 ghost use Rattle.apfloat_machines.specs.Operations.{IsOffered};
 ghost use Rattle.apfloat_machines.specs.WholeNumbers.{IsMachineSigned, IsMachineUnsigned, invalid_integer};
 ghost use Rattle.apfloat_machines.specs.WholeNumbers.{invalid_flags, signed_nan, unsigned_nan};
@@ -28,7 +27,7 @@ pub fn settled_signed<S: Flagged>(
 ) -> StatusAnd<i128>
     requires low { 2 ≤ width }
     requires high { width ≤ 128 }
-    ensures value { result.value ≡ settled_number machine x (signed_nan machine width)
+    ensures value { result.value ≡ settled_number machine x (signed_nan machine width x)
         answer.value (bits_of answer.status) }
     ensures status { bits_of result.status ≡ settled_flags machine x (bits_of answer.status) }
     ensures whole { (mode : Round) → (exact : Bool)
@@ -53,10 +52,10 @@ pub fn settled_unsigned<S: Flagged>(
 ) -> Option<StatusAnd<u128>>
     requires low { 1 ≤ width }
     requires high { width ≤ 128 }
-    ensures { IsOffered (has_unsigned machine)
+    ensures { IsOffered machine.has_unsigned
         (IsSettledUnsigned (format_of S.Flagged) machine x width answer) result }
 {
-    if machine.has_unsigned() {
+    if machine.has_unsigned {
         Some(unsigned_answer(machine, x, width, answer))
     } else {
         None
@@ -73,7 +72,7 @@ fn unsigned_answer<S: Flagged>(
 ) -> StatusAnd<u128>
     requires low { 1 ≤ width }
     requires high { width ≤ 128 }
-    ensures value { pos result.value ≡ settled_number machine x (unsigned_nan machine width)
+    ensures value { pos result.value ≡ settled_number machine x (unsigned_nan machine width x)
         (pos answer.value) (bits_of answer.status) }
     ensures status { bits_of result.status ≡ settled_flags machine x (bits_of answer.status) }
     ensures whole { (mode : Round) → (exact : Bool)
@@ -98,12 +97,12 @@ fn invalid_signed<S: Flagged>(
 ) -> StatusAnd<i128>
     requires low { 2 ≤ width }
     requires high { width ≤ 128 }
-    ensures value { result.value ≡ invalid_integer machine x (signed_nan machine width) nearer }
+    ensures value { result.value ≡ invalid_integer machine x (signed_nan machine width x) nearer }
     ensures status { bits_of result.status ≡ invalid_flags machine x }
 {
     let status = invalid_flags(machine, x);
-    if x.is_nan() || machine.has_one_invalid_integer() {
-        status.and(signed_nan(machine, width))
+    if x.is_nan() || machine.has_one_invalid_integer {
+        status.and(signed_nan(machine, x, width))
     } else {
         status.and(nearer)
     }
@@ -121,12 +120,12 @@ fn invalid_unsigned<S: Flagged>(
     requires low { 1 ≤ width }
     requires high { width ≤ 128 }
     ensures value { pos result.value
-        ≡ invalid_integer machine x (unsigned_nan machine width) (pos nearer) }
+        ≡ invalid_integer machine x (unsigned_nan machine width x) (pos nearer) }
     ensures status { bits_of result.status ≡ invalid_flags machine x }
 {
     let status = invalid_flags(machine, x);
-    if x.is_nan() || machine.has_one_invalid_integer() {
-        status.and(unsigned_nan(machine, width))
+    if x.is_nan() || machine.has_one_invalid_integer {
+        status.and(unsigned_nan(machine, x, width))
     } else {
         status.and(nearer)
     }
@@ -136,7 +135,7 @@ fn invalid_unsigned<S: Flagged>(
 fn invalid_flags<S: Flagged>(machine: Machine, x: IeeeFloat<S>) -> Status
     ensures { bits_of result ≡ invalid_flags machine x }
 {
-    if machine.invalid_integer_is_inexact() && !x.is_nan() {
+    if machine.invalid_integer_is_inexact && !x.is_nan() {
         raise_flags(Status::INVALID_OP, Status::INEXACT)
     } else {
         Status::INVALID_OP
@@ -144,28 +143,32 @@ fn invalid_flags<S: Flagged>(machine: Machine, x: IeeeFloat<S>) -> Status
 }
 
 /// The signed integer that a NaN gives.
-fn signed_nan(machine: Machine, width: usize) -> i128
+fn signed_nan<S: Flagged>(machine: Machine, x: IeeeFloat<S>, width: usize) -> i128
     requires low { 2 ≤ width }
     requires high { width ≤ 128 }
-    ensures { result ≡ signed_nan machine width }
+    ensures { result ≡ signed_nan machine width x }
 {
-    match machine.signed_of_nan() {
+    match machine.signed_of_nan {
         WholeOfNan::Zero => 0,
         WholeOfNan::Least => least_signed(width),
         WholeOfNan::Greatest => greatest_signed(width),
+        WholeOfNan::BySign if x.is_negative() => least_signed(width),
+        WholeOfNan::BySign => greatest_signed(width),
     }
 }
 
 /// The unsigned integer that a NaN gives.
-fn unsigned_nan(machine: Machine, width: usize) -> u128
+fn unsigned_nan<S: Flagged>(machine: Machine, x: IeeeFloat<S>, width: usize) -> u128
     requires low { 1 ≤ width }
     requires high { width ≤ 128 }
-    ensures { pos result ≡ unsigned_nan machine width }
+    ensures { pos result ≡ unsigned_nan machine width x }
 {
-    match machine.unsigned_of_nan() {
+    match machine.unsigned_of_nan {
         WholeOfNan::Zero => 0,
         WholeOfNan::Least => 0,
         WholeOfNan::Greatest => greatest_unsigned(width),
+        WholeOfNan::BySign if x.is_negative() => 0,
+        WholeOfNan::BySign => greatest_unsigned(width),
     }
 }
 

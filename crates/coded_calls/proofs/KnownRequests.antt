@@ -2,10 +2,10 @@
 use Rattle.std.proofs.Common.{◌≡◌, ℕ, subst, Option, None, Some, Ok, refl}
 use Rattle.std.specs.Prelude.{option_and_then}
 use Rattle.rustc_apfloat.specs.declared.Round.{Round}
-use Rattle.apfloat_machines.specs.declared.machine.Machine.{Machine}
 use Rattle.formats_at_run_time.specs.declared.FlaggedKind.{FlaggedKind}
 use Rattle.formats_at_run_time.specs.FlaggedKinds.{flagged_constants}
 use Rattle.formats_at_run_time.specs.ValueKinds.{of_format}
+use Rattle.coded_calls.specs.declared.machine_call.CodedMachine.{CodedMachine}
 use Rattle.coded_calls.specs.declared.data.Answer.{Answer}
 use Rattle.coded_calls.specs.declared.machine_call.MachineCall.TheVariants.{Operation, Conversion}
 use Rattle.coded_calls.specs.declared.machine_call.MachineFormat.{MachineFormat}
@@ -20,7 +20,7 @@ use Rattle.coded_calls.proofs.MachineFormats.{has_infinities_on, has_width_on}
 use Rattle.coded_calls.proofs.UsualAnswers.{conversion_known, replied}
 
 -- what an operation leaves in the format that a machine's format has on it
-pub operation_left : (machine : Machine) (format : MachineFormat) (mode : Round) (operation : MachineOperation)
+pub operation_left : (machine : CodedMachine) (format : MachineFormat) (mode : Round) (operation : MachineOperation)
     (old new : Answer) (code : ℕ)
     → IsMachineLeftIn (of_format (flagged_constants (format_on machine format))) machine mode operation old new code
     → IsLeftBy (machine_fault machine format (Operation operation))
@@ -34,7 +34,7 @@ operation_left machine format mode operation old new code left =
 
 -- a request of a known machine and mode, in a format that is known
 pub operation_filled : (kind : Option FlaggedKind) (mode : Option Round) (round : Round) (operation : MachineOperation)
-    (machine : Option Machine) (on : Machine) (old new : Answer) (code : ℕ)
+    (machine : Option CodedMachine) (on : CodedMachine) (old new : Answer) (code : ℕ)
     → mode ≡ Some round → machine ≡ Some on
     → IsFilledIn (kind_on on) (λ k o n c. IsMachineLeftIn k on round operation o n c)
     (option_and_then machine_format kind) old new (Some code)
@@ -52,7 +52,7 @@ operation_filled kind mode round operation machine on old new code m h filled =
 
 -- the same for a conversion, of a value of a known format to a known one
 pub conversion_filled : (kind to : Option FlaggedKind) (mode : Option Round) (round : Round) (x : ℕ)
-    (machine : Option Machine) (on : Machine) (old new : Answer) (left : Option ℕ) (code : ℕ)
+    (machine : Option CodedMachine) (on : CodedMachine) (old new : Answer) (left : Option ℕ) (code : ℕ)
     → mode ≡ Some round → machine ≡ Some on → left ≡ Some code
     → IsFilledIn kind_without_rule
     (λ k o n left. IsFilledIn (kind_on on) (IsMachineConversionLeft k on round x)

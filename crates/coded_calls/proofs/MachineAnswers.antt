@@ -13,7 +13,6 @@ use Rattle.rustc_apfloat.specs.Lawful.{Constants, format_with, layout_with}
 use Rattle.rustc_apfloat.specs.Layout.{IsEncodedBy}
 use Rattle.rustc_apfloat.specs.Rounding.{ok_bits}
 use Rattle.apfloat_model.specs.arithmetic.Conversions.{IsConversion}
-use Rattle.apfloat_machines.specs.declared.machine.Machine.{Machine}
 use Rattle.apfloat_machines.specs.Conversions.{IsMachineConversion}
 use Rattle.apfloat_machines.specs.Operations.{AreSettled, IsOffered}
 use Rattle.formats_at_run_time.specs.declared.Arithmetic.{Arithmetic}
@@ -22,14 +21,15 @@ use Rattle.formats_at_run_time.specs.declared.Arithmetic.TheVariants.{NearestRem
 use Rattle.formats_at_run_time.specs.OfTwo.{IsOfTwo}
 use Rattle.formats_at_run_time.specs.Relations.{in_format}
 use Rattle.formats_at_run_time.specs.ValueKinds.{of_format, value_of}
+use Rattle.coded_calls.specs.declared.machine_call.CodedMachine.{CodedMachine}
 use Rattle.coded_calls.specs.declared.data.Answer.{Answer}
 use Rattle.coded_calls.specs.Answers.{whole}
-use Rattle.coded_calls.specs.MachineCalls.{IsMachineConverted, IsMachineOfTwo}
+use Rattle.coded_calls.specs.MachineCalls.{IsMachineConverted, IsMachineOfTwo, choices}
 
 -- what `settled` makes of the answer of an operation on two values is the machine's
-pub settled_of_two : (c : Constants) (machine : Machine) (arithmetic : Arithmetic) (mode : Round) (x y : Datum)
+pub settled_of_two : (c : Constants) (machine : CodedMachine) (arithmetic : Arithmetic) (mode : Round) (x y : Datum)
     (answer result : StatusAnd Datum) → IsOfTwo (in_format c) arithmetic mode x y answer
-    → AreSettled (format_with c) machine x y answer result
+    → AreSettled (format_with c) (choices machine) x y answer result
     → IsMachineOfTwo (format_with c) machine arithmetic mode x y result
 settled_of_two c machine Sum mode x y answer result given settled = settled.sum mode given
 settled_of_two c machine Difference mode x y answer result given settled = settled.difference mode given
@@ -45,7 +45,7 @@ offered has Says Tells None implies said = said
 offered has Says Tells (Some answer) implies said = (said.0, implies answer said.1)
 
 -- a number other than zero, converted from bits to bits, is what every machine gives
-pub number_on_machine : (c d : Constants) (machine : Machine) (mode : Round) (bits : ℕ) (number : Encoded)
+pub number_on_machine : (c d : Constants) (machine : CodedMachine) (mode : Round) (bits : ℕ) (number : Encoded)
     (answer : Answer) → IsEncodedConversion c d mode bits number → whole answer.bits ≡ number.bits
     → answer.status ≡ bits_of number.status → answer.number ≡ pos 0
     → IsMachineConverted c machine mode (value_of c bits) (of_format d) answer
@@ -54,13 +54,14 @@ number_on_machine c d machine mode bits number answer is bits_are status_is numb
     let value = finite is.negative it.quanta in
     let given : StatusAnd Datum = record { status = number.status; value = value } in
     let some : eqb is.quanta 0 ≡ false = ne_eqb is.quanta 0 (λ e. omega (arith, is.some, e)) in
-    let of_number : Gives (IsMachineConversion (format_with c) (format_with d) machine mode
+    let of_number : Gives (IsMachineConversion (format_with c) (format_with d) (choices machine) mode
     (finite is.negative is.quanta)) given =
     rw some (not (eqb (bits_of number.status) ok_bits), record { is_delivered = it.is_delivered; loses_is = refl }) in
     record {
       given = given;
       holds =
-          subst (λ (x : Datum). Gives (IsMachineConversion (format_with c) (format_with d) machine mode x) given)
+          subst
+          (λ (x : Datum). Gives (IsMachineConversion (format_with c) (format_with d) (choices machine) mode x) given)
           (sym is.read) of_number;
       is_written = record {
         is_encoded =
@@ -71,9 +72,9 @@ number_on_machine c d machine mode bits number answer is bits_are status_is numb
     }
 
 -- a number that is converted to another format is what every machine gives
-pub finite_on_machine : (f g : Format) (machine : Machine) (mode : Round) (x : Datum) (given : StatusAnd Datum)
+pub finite_on_machine : (f g : Format) (machine : CodedMachine) (mode : Round) (x : Datum) (given : StatusAnd Datum)
     (loses : Bool) → is_finite x ≡ true → IsConversion f g mode x given.value (bits_of given.status) loses
-    → Gives (IsMachineConversion f g machine mode x) given
+    → Gives (IsMachineConversion f g (choices machine) mode x) given
 finite_on_machine f g machine mode (finite b n) given loses e plain = (loses, plain)
 finite_on_machine f g machine mode (infinite b) given loses e plain = absurd (false≢true e)
 finite_on_machine f g machine mode (nan b s) given loses e plain = absurd (false≢true e)

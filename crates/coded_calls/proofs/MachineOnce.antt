@@ -20,6 +20,7 @@ use Rattle.formats_at_run_time.specs.declared.Arithmetic.TheVariants.{NearestRem
 use Rattle.formats_at_run_time.specs.BuiltIns.{constants_in}
 use Rattle.formats_at_run_time.specs.FlaggedKinds.{flagged_constants, format_of_ieee}
 use Rattle.formats_at_run_time.specs.ValueKinds.{value_of}
+use Rattle.coded_calls.specs.declared.machine_call.CodedMachine.{CodedMachine}
 use Rattle.coded_calls.specs.declared.machine_call.MachineCall.{MachineCall}
 use Rattle.coded_calls.specs.declared.machine_call.MachineCall.TheVariants.{Operation, Conversion}
 use Rattle.coded_calls.specs.declared.machine_call.MachineFormat.{MachineFormat}
@@ -27,21 +28,22 @@ use Rattle.coded_calls.specs.declared.machine_call.MachineOperation.{MachineOper
 use Rattle.coded_calls.specs.declared.machine_call.MachineOperation.TheVariants.{OfTwo, FusedSum, SquareRoot}
 use Rattle.coded_calls.specs.declared.machine_call.MachineOperation.TheVariants.{IntegralExact, Integral, ToUnsigned}
 use Rattle.coded_calls.specs.declared.machine_call.MachineOperation.TheVariants.{ToSigned, Least, Greatest}
-use Rattle.coded_calls.specs.MachineCalls.{IsInteger, IsMachineAnswer, IsMachineCallAnswer, IsMachineOfTwo, format_on}
+use Rattle.coded_calls.specs.MachineCalls.{IsInteger, IsMachineAnswer, IsMachineCallAnswer, IsMachineOfTwo, choices}
+use Rattle.coded_calls.specs.MachineCalls.{format_on}
 use Rattle.coded_calls.specs.OneReply.{IsMachineReplyOnce}
 use Rattle.coded_calls.proofs.ExportsOnce.{OnceAnswer, unchanged}
 use Rattle.formats_at_run_time.proofs.FormatLaws.{HasLaw, format_law}
 use Rattle.coded_calls.proofs.IeeeOnce.{in_format_once}
 
 -- an operation on two values has one value and one status
-of_two_once : (f : Format) (machine : Machine) (arithmetic : Arithmetic) (mode : Round) (x y : Datum)
+of_two_once : (f : Format) (machine : CodedMachine) (arithmetic : Arithmetic) (mode : Round) (x y : Datum)
     → Determines (IsMachineOfTwo f machine arithmetic mode x y)
-of_two_once f machine Sum mode x y = (operations_once f machine).sum mode x y
-of_two_once f machine Difference mode x y = (operations_once f machine).difference mode x y
-of_two_once f machine Product mode x y = (operations_once f machine).product mode x y
-of_two_once f machine Quotient mode x y = (operations_once f machine).quotient mode x y
-of_two_once f machine NearestRemainder mode x y = (operations_once f machine).nearest x y
-of_two_once f machine TruncatedRemainder mode x y = (operations_once f machine).truncated x y
+of_two_once f machine Sum mode x y = (operations_once f (choices machine)).sum mode x y
+of_two_once f machine Difference mode x y = (operations_once f (choices machine)).difference mode x y
+of_two_once f machine Product mode x y = (operations_once f (choices machine)).product mode x y
+of_two_once f machine Quotient mode x y = (operations_once f (choices machine)).quotient mode x y
+of_two_once f machine NearestRemainder mode x y = (operations_once f (choices machine)).nearest x y
+of_two_once f machine TruncatedRemainder mode x y = (operations_once f (choices machine)).truncated x y
 
 -- if a relation has one integer with one status, it leaves one result
 integer_once : {A : Type 0} (word : A → ℕ) (Holds : StatusAnd A → Type 0) → Determines Holds
@@ -61,31 +63,31 @@ unsigned_once f machine mode width x answer other h k =
     same_answer answer other (ap unsigned_abs (h.number_is ∙ sym k.number_is)) (h.status_is ∙ sym k.status_is)
 
 -- an operation in a lawful format has one result
-machine_answer_once : (c : Constants) (has : HasLaw c) (machine : Machine) (mode : Round)
+machine_answer_once : (c : Constants) (has : HasLaw c) (machine : CodedMachine) (mode : Round)
     (operation : MachineOperation) → OnceAnswer (IsMachineAnswer c machine mode operation)
 machine_answer_once c has machine mode (OfTwo arithmetic x y) =
     in_format_once c has mode _
     (of_two_once (format_with c) machine arithmetic mode (value_of c x) (value_of c y))
 machine_answer_once c has machine mode (FusedSum x y z) =
     in_format_once c has mode _
-    (fused_sums_once (format_with c) machine mode (value_of c x) (value_of c y) (value_of c z))
+    (fused_sums_once (format_with c) (choices machine) mode (value_of c x) (value_of c y) (value_of c z))
 machine_answer_once c has machine mode (SquareRoot x) =
-    in_format_once c has mode _ ((operations_once (format_with c) machine).root mode (value_of c x))
+    in_format_once c has mode _ ((operations_once (format_with c) (choices machine)).root mode (value_of c x))
 machine_answer_once c has machine mode (IntegralExact x) =
-    in_format_once c has mode _ ((operations_once (format_with c) machine).exact mode (value_of c x))
+    in_format_once c has mode _ ((operations_once (format_with c) (choices machine)).exact mode (value_of c x))
 machine_answer_once c has machine mode (Integral x) =
-    in_format_once c has mode _ ((operations_once (format_with c) machine).integral mode (value_of c x))
+    in_format_once c has mode _ ((operations_once (format_with c) (choices machine)).integral mode (value_of c x))
 machine_answer_once c has machine mode (ToUnsigned x width) =
-    integer_once (λ n. n) _ (unsigned_once (format_with c) machine mode width (value_of c x))
+    integer_once (λ n. n) _ (unsigned_once (format_with c) (choices machine) mode width (value_of c x))
 machine_answer_once c has machine mode (ToSigned x width) =
-    integer_once (cast_unsigned w128) _ (whole_numbers_once machine (value_of c x) _ _)
+    integer_once (cast_unsigned w128) _ (whole_numbers_once (choices machine) (value_of c x) _ _)
 machine_answer_once c has machine mode (Least rule x y) =
     in_format_once c has mode _ (gives_once _ (answer_once _ _))
 machine_answer_once c has machine mode (Greatest rule x y) =
     in_format_once c has mode _ (gives_once _ (answer_once _ _))
 
 -- a call on a machine has one result
-machine_call_once : (machine : Machine) (m : MachineFormat) (mode : Round) (call : MachineCall)
+machine_call_once : (machine : CodedMachine) (m : MachineFormat) (mode : Round) (call : MachineCall)
     → OnceAnswer (IsMachineCallAnswer machine m mode call)
 machine_call_once machine m mode (Operation operation) =
     let format = format_on machine m in
@@ -94,7 +96,7 @@ machine_call_once machine m mode (Conversion x target) =
     let c = constants_in (format_of_ieee m.format) in
     let to = format_on machine target in
     in_format_once (flagged_constants to) (format_law to) mode _
-    (conversions_once (format_with c) (format_with (flagged_constants to)) machine mode (value_of c x))
+    (conversions_once (format_with c) (format_with (flagged_constants to)) (choices machine) mode (value_of c x))
 
 -- two replies to the same arguments are the same
 pub machine_reply_once : IsMachineReplyOnce

@@ -11,7 +11,6 @@ use Rattle.rustc_apfloat.specs.Layout.{IsEncodedBy}
 use Rattle.rustc_apfloat.specs.Rounding.{ok_bits}
 use Rattle.rustc_apfloat.specs.Sums.{IsSum, IsDifference}
 use Rattle.rustc_apfloat.specs.declared.Round.{Round}
-use Rattle.apfloat_machines.specs.declared.machine.Machine.{Machine}
 use Rattle.apfloat_machines.specs.Operations.{IsMachineSum, IsMachineDifference}
 use Rattle.formats_at_run_time.specs.declared.Arithmetic.{Arithmetic}
 use Rattle.formats_at_run_time.specs.declared.Arithmetic.TheVariants.{Sum, Difference}
@@ -19,11 +18,12 @@ use Rattle.formats_at_run_time.specs.Relations.{in_format}
 use Rattle.formats_at_run_time.specs.ValueKinds.{of_format, value_of}
 use Rattle.fast_bits.specs.declared.encoded.Encoded.{Encoded}
 use Rattle.fast_bits.specs.Encoded.{IsEncodedConversion, IsEncodedAnswer, IsNumberAnswer}
+use Rattle.coded_calls.specs.declared.machine_call.CodedMachine.{CodedMachine}
 use Rattle.coded_calls.specs.declared.data.Answer.{Answer}
 use Rattle.coded_calls.specs.declared.machine_call.MachineOperation.TheVariants.{OfTwo}
 use Rattle.coded_calls.specs.Answers.{IsConvertedInto, IsLeftBy, IsValue, one_if, whole}
 use Rattle.coded_calls.specs.KnownCalls.{answered}
-use Rattle.coded_calls.specs.MachineCalls.{IsMachineAnswer, IsMachineOfTwo, fits, operation_fault_in}
+use Rattle.coded_calls.specs.MachineCalls.{IsMachineAnswer, IsMachineOfTwo, choices, fits, operation_fault_in}
 use Rattle.coded_calls.proofs.UsualAnswers.{fitting}
 
 -- a result in bits, written with its flags
@@ -50,8 +50,9 @@ no_nan : (negative : Bool) (significand : ℕ) (value : Datum) (Any : Type 0) �
     → value ≡ nan negative significand → Any
 no_nan negative significand value Any number is = absurd (true≢false (sym (ap is_nan is) ∙ number))
 
-sum_of_every : (f : Format) (machine : Machine) (mode : Round) (x y value : Datum) (status : ℕ)
-    → is_nan value ≡ false → IsSum f mode x y value status → IsMachineSum f machine mode x y value status
+sum_of_every : (f : Format) (machine : CodedMachine) (mode : Round) (x y value : Datum) (status : ℕ)
+    → is_nan value ≡ false → IsSum f mode x y value status
+    → IsMachineSum f (choices machine) mode x y value status
 sum_of_every f machine mode (finite b m) (finite d n) value status number plain = plain
 sum_of_every f machine mode (finite b m) (infinite d) value status number plain = plain
 sum_of_every f machine mode (infinite b) (finite d n) value status number plain = plain
@@ -59,9 +60,9 @@ sum_of_every f machine mode (infinite true) (infinite true) value status number 
 sum_of_every f machine mode (infinite false) (infinite false) value status number plain = plain
 sum_of_every f machine mode x y value status number plain = no_nan _ _ value _ number plain.value_is
 
-difference_of_every : (f : Format) (machine : Machine) (mode : Round) (x y value : Datum) (status : ℕ)
+difference_of_every : (f : Format) (machine : CodedMachine) (mode : Round) (x y value : Datum) (status : ℕ)
     → is_nan value ≡ false → IsDifference f mode x y value status
-    → IsMachineDifference f machine mode x y value status
+    → IsMachineDifference f (choices machine) mode x y value status
 difference_of_every f machine mode (finite b m) (finite d n) value status number plain = plain
 difference_of_every f machine mode (finite b m) (infinite d) value status number plain = plain
 difference_of_every f machine mode (infinite b) (finite d n) value status number plain = plain
@@ -70,7 +71,7 @@ difference_of_every f machine mode (infinite false) (infinite true) value status
 difference_of_every f machine mode x y value status number plain = no_nan _ _ value _ number plain.value_is
 
 -- what bits that are no NaN leave
-left_number : (c : Constants) (machine : Machine) (arithmetic : Arithmetic) (mode : Round) (x y : ℕ)
+left_number : (c : Constants) (machine : CodedMachine) (arithmetic : Arithmetic) (mode : Round) (x y : ℕ)
     (Says : Datum → ℕ → Type 0) (encoded : Encoded) (old answer : Answer)
     → (fits c.bits x && fits c.bits y) ≡ true
     → ((value : Datum) → is_nan value ≡ false → Says value (bits_of encoded.status)
@@ -93,8 +94,8 @@ left_number c machine arithmetic mode x y Says encoded old answer fit every numb
       },
     )
 
-pub left_sum : (c : Constants) (machine : Machine) (mode : Round) (x y : ℕ) (encoded : Encoded) (old answer : Answer)
-    → (fits c.bits x && fits c.bits y) ≡ true
+pub left_sum : (c : Constants) (machine : CodedMachine) (mode : Round) (x y : ℕ) (encoded : Encoded)
+    (old answer : Answer) → (fits c.bits x && fits c.bits y) ≡ true
     → IsNumberAnswer c (IsSum (format_with c) mode (value_of c x) (value_of c y)) encoded
     → whole answer.bits ≡ encoded.bits → answer.status ≡ bits_of encoded.status → answer.number ≡ pos 0
     → IsLeftBy (operation_fault_in c.bits machine (OfTwo Sum x y)) (IsMachineAnswer c machine mode (OfTwo Sum x y))
@@ -105,7 +106,7 @@ left_sum c machine mode x y encoded old answer fit number =
     (λ value is_number plain. sum_of_every (format_with c) machine mode (value_of c x) (value_of c y) value
     (bits_of encoded.status) is_number plain) number
 
-pub left_difference : (c : Constants) (machine : Machine) (mode : Round) (x y : ℕ) (encoded : Encoded)
+pub left_difference : (c : Constants) (machine : CodedMachine) (mode : Round) (x y : ℕ) (encoded : Encoded)
     (old answer : Answer) → (fits c.bits x && fits c.bits y) ≡ true
     → IsNumberAnswer c (IsDifference (format_with c) mode (value_of c x) (value_of c y)) encoded
     → whole answer.bits ≡ encoded.bits → answer.status ≡ bits_of encoded.status → answer.number ≡ pos 0

@@ -1,5 +1,5 @@
 -- The plain answer of usual operands is that of every machine.
-use Rattle.std.proofs.Common.{◌≡◌, ℕ, ◌+◌, ◌-◌, ◌*◌, ◌/◌, ◌%◌, ◌^◌, ◌<◌, ◌≤◌, ap, sym, subst, ◌∙◌, arith, Bool, true, false, not, ◌&&◌, eqb, leb, Option, Some, None, Result, Ok, refl, if◌then◌else◌}
+use Rattle.std.proofs.Common.{◌≡◌, ℕ, ◌+◌, ◌-◌, ◌*◌, ◌/◌, ◌%◌, ◌^◌, ◌<◌, ◌≤◌, ap, sym, subst, ◌∙◌, arith, Bool, true, false, not, ◌&&◌, eqb, leb, Option, Some, None, Result, Ok, refl, pos, if◌then◌else◌}
 use Rattle.std.specs.Prelude.{option_and_then}
 use Rattle.std.specs.Bool.{MatchBool}
 use Rattle.std.proofs.lemmas.Bool.{false≢true, true≢false, and_left, and_right, cond-true, le-leb, ne_eqb}
@@ -15,9 +15,11 @@ use Rattle.apfloat_model.proofs.bits.EncodedOnce.{fields_with}
 use Rattle.rustc_apfloat.specs.declared.Round.{Round}
 use Rattle.rustc_apfloat.specs.declared.StatusAnd.{StatusAnd}
 use Rattle.apfloat_model.specs.arithmetic.Roots.{IsRoot}
+use Rattle.apfloat_model.specs.formats.Nan.{invalid_bit}
+use Rattle.apfloat_model.specs.rounding.Answer.{IsAnswer as IsGivenDatum}
 use Rattle.apfloat_model.specs.whole_numbers.WholeNumbers.{IsRoundToIntegral}
 use Rattle.apfloat_machines.specs.declared.machine.Machine.{Machine}
-use Rattle.apfloat_machines.specs.Machines.{has_fused}
+use Rattle.apfloat_machines.specs.Nans.{default_nan}
 use Rattle.apfloat_machines.specs.Operations.{IsMachineFusedSum, IsMachineIntegralExact, IsMachineRoot}
 use Rattle.formats_at_run_time.specs.declared.Arithmetic.{Arithmetic}
 use Rattle.formats_at_run_time.specs.declared.Arithmetic.TheVariants.{Sum, Difference, Product, Quotient}
@@ -26,6 +28,7 @@ use Rattle.formats_at_run_time.specs.declared.FlaggedKind.{FlaggedKind}
 use Rattle.formats_at_run_time.specs.OfTwo.{IsOfTwo}
 use Rattle.formats_at_run_time.specs.Relations.{in_format}
 use Rattle.formats_at_run_time.specs.ValueKinds.{of_format, value_of}
+use Rattle.coded_calls.specs.declared.machine_call.CodedMachine.{CodedMachine}
 use Rattle.coded_calls.specs.declared.data.Answer.{Answer}
 use Rattle.coded_calls.specs.declared.exported_call.ExportedCall.TheVariants.{OfTwo as PlainOfTwo}
 use Rattle.coded_calls.specs.declared.exported_call.ExportedCall.TheVariants.{FusedSum as PlainFusedSum}
@@ -36,12 +39,12 @@ use Rattle.coded_calls.specs.declared.machine_call.MachineFormat.{MachineFormat}
 use Rattle.coded_calls.specs.declared.machine_call.MachineOperation.{MachineOperation}
 use Rattle.coded_calls.specs.declared.machine_call.MachineOperation.TheVariants.{OfTwo, FusedSum, SquareRoot}
 use Rattle.coded_calls.specs.declared.machine_call.MachineOperation.TheVariants.{IntegralExact}
-use Rattle.coded_calls.specs.Answers.{IsKindAnswer, IsLeftBy}
+use Rattle.coded_calls.specs.Answers.{IsKindAnswer, IsLeftBy, IsValueWritten}
 use Rattle.coded_calls.specs.KnownCalls.{answered, without}
 use Rattle.coded_calls.specs.MachineCalls.{IsMachineAnswer, IsMachineCallAnswer, IsMachineOfTwo, IsMachineReply}
-use Rattle.coded_calls.specs.MachineCalls.{MachineRequest, are_usual, are_usual_of_three, conversion_call, divides}
-use Rattle.coded_calls.specs.MachineCalls.{fits, is_divisor, is_number, is_root_of, known_machine_call, lacking_operation}
-use Rattle.coded_calls.specs.MachineCalls.{machine_fault, machine_format, operands_fit}
+use Rattle.coded_calls.specs.MachineCalls.{MachineRequest, are_usual, are_usual_of_three, choices, conversion_call}
+use Rattle.coded_calls.specs.MachineCalls.{divides, fits, is_divisor, is_number, is_root_of, known_machine_call}
+use Rattle.coded_calls.specs.MachineCalls.{lacking_operation, machine_fault, machine_format, operands_fit}
 use Rattle.coded_calls.specs.MachineCalls.{operation_fault, operation_fault_in}
 use Rattle.coded_calls.proofs.WrittenAnswers.{answered_if}
 
@@ -64,13 +67,17 @@ of_valid : (invalid : Bool) (Invalid Valid : Type 0) → invalid ≡ false → V
 of_valid true Invalid Valid e holds = absurd (true≢false e)
 of_valid false Invalid Valid e holds = holds
 
+of_invalid : (invalid : Bool) (Invalid Valid : Type 0) → invalid ≡ true → Invalid → MatchBool invalid Invalid Valid
+of_invalid true Invalid Valid e holds = holds
+of_invalid false Invalid Valid e holds = absurd (false≢true e)
+
 either_way : (test x y : Bool) → x ≡ true → y ≡ true → (if test then x else y) ≡ true
 either_way true x y p q = p
 either_way false x y p q = q
 
 -- ---- what is left
 
-pub fitting : (width : ℕ) (machine : Machine) (operation : MachineOperation) (Holds : Answer → Type 0)
+pub fitting : (width : ℕ) (machine : CodedMachine) (operation : MachineOperation) (Holds : Answer → Type 0)
     (old new : Answer) (code : ℕ) → operands_fit width operation ≡ true
     → IsLeftBy (operation_fault machine operation) Holds old new code
     → IsLeftBy (operation_fault_in width machine operation) Holds old new code
@@ -78,7 +85,7 @@ fitting width machine operation Holds old new code e left = rw e left
 
 -- ---- results of numbers
 
-of_numbers : (c : Constants) (machine : Machine) (arithmetic : Arithmetic) (mode : Round) (b d : Bool) (m n : ℕ)
+of_numbers : (c : Constants) (machine : CodedMachine) (arithmetic : Arithmetic) (mode : Round) (b d : Bool) (m n : ℕ)
     (given : StatusAnd Datum) → (divides arithmetic ≡ true → eqb n 0 ≡ false)
     → IsOfTwo (in_format c) arithmetic mode (finite b m) (finite d n) given
     → IsMachineOfTwo (format_with c) machine arithmetic mode (finite b m) (finite d n) given
@@ -90,7 +97,7 @@ of_numbers c machine Quotient mode b d m n given some plain =
 of_numbers c machine NearestRemainder mode b d m n given some plain = of_valid (eqb n 0) _ _ (some refl) plain
 of_numbers c machine TruncatedRemainder mode b d m n given some plain = of_valid (eqb n 0) _ _ (some refl) plain
 
-of_two_finite : (c : Constants) (machine : Machine) (arithmetic : Arithmetic) (mode : Round) (x y : Datum)
+of_two_finite : (c : Constants) (machine : CodedMachine) (arithmetic : Arithmetic) (mode : Round) (x y : Datum)
     (given : StatusAnd Datum) → is_finite x ≡ true → is_finite y ≡ true
     → (divides arithmetic ≡ true → is_zero y ≡ false) → IsOfTwo (in_format c) arithmetic mode x y given
     → IsMachineOfTwo (format_with c) machine arithmetic mode x y given
@@ -101,10 +108,10 @@ of_two_finite c machine arithmetic mode (finite b m) (nan d t) given p q some pl
 of_two_finite c machine arithmetic mode (infinite b) y given p q some plain = absurd (false≢true p)
 of_two_finite c machine arithmetic mode (nan b s) y given p q some plain = absurd (false≢true p)
 
-of_three_finite : (c : Constants) (machine : Machine) (mode : Round) (x y z : Datum) (given : StatusAnd Datum)
+of_three_finite : (c : Constants) (machine : CodedMachine) (mode : Round) (x y z : Datum) (given : StatusAnd Datum)
     → is_finite x ≡ true → is_finite y ≡ true → is_finite z ≡ true
     → Gives (IsFusedSum (format_with c) mode x y z) given
-    → Gives (IsMachineFusedSum (format_with c) machine mode x y z) given
+    → Gives (IsMachineFusedSum (format_with c) (choices machine) mode x y z) given
 of_three_finite c machine mode (finite b l) (finite d m) (finite e n) given p q r plain = plain
 of_three_finite c machine mode (finite b l) (finite d m) (infinite e) given p q r plain = absurd (false≢true r)
 of_three_finite c machine mode (finite b l) (finite d m) (nan e t) given p q r plain = absurd (false≢true r)
@@ -113,17 +120,31 @@ of_three_finite c machine mode (finite b l) (nan d t) z given p q r plain = absu
 of_three_finite c machine mode (infinite b) y z given p q r plain = absurd (false≢true p)
 of_three_finite c machine mode (nan b s) y z given p q r plain = absurd (false≢true p)
 
-root_of_finite : (c : Constants) (machine : Machine) (mode : Round) (x : Datum) (given : StatusAnd Datum)
+root_of_finite : (c : Constants) (machine : CodedMachine) (mode : Round) (x : Datum) (given : StatusAnd Datum)
     → is_finite x ≡ true → is_negative x ≡ false → Gives (IsRoot (format_with c) mode x) given
-    → Gives (IsMachineRoot (format_with c) machine mode x) given
+    → Gives (IsMachineRoot (format_with c) (choices machine) mode x) given
 root_of_finite c machine mode (finite b n) given p q plain =
     of_valid (not (eqb n 0) && b) _ _ (and_right (not (eqb n 0)) b q) plain
 root_of_finite c machine mode (infinite b) given p q plain = absurd (false≢true p)
 root_of_finite c machine mode (nan b s) given p q plain = absurd (false≢true p)
 
-integral_of_finite : (c : Constants) (machine : Machine) (mode : Round) (x : Datum) (given : StatusAnd Datum)
+-- a number that is no root's operand is negative
+negative_of : (number negative : Bool) → number ≡ true → (number && not negative) ≡ false → negative ≡ true
+negative_of true true p q = refl
+negative_of true false p q = absurd (true≢false q)
+negative_of false negative p q = absurd (false≢true p)
+
+root_of_negative : (f : Format) (machine : Machine) (mode : Round) (x : Datum) (given : StatusAnd Datum)
+    → is_finite x ≡ true → is_zero x ≡ false → is_negative x ≡ true
+    → Gives (IsGivenDatum (default_nan f machine) invalid_bit) given → Gives (IsMachineRoot f machine mode x) given
+root_of_negative f machine mode (finite b n) given p some q answer =
+    of_invalid (not (eqb n 0) && b) _ _ (two_true (not (eqb n 0)) b (ap not some) q) answer
+root_of_negative f machine mode (infinite b) given p some q answer = absurd (false≢true p)
+root_of_negative f machine mode (nan b s) given p some q answer = absurd (false≢true p)
+
+integral_of_finite : (c : Constants) (machine : CodedMachine) (mode : Round) (x : Datum) (given : StatusAnd Datum)
     → is_finite x ≡ true → Gives (IsRoundToIntegral (format_with c) mode x) given
-    → Gives (IsMachineIntegralExact (format_with c) machine mode x) given
+    → Gives (IsMachineIntegralExact (format_with c) (choices machine) mode x) given
 integral_of_finite c machine mode (finite b n) given p plain = plain
 integral_of_finite c machine mode (infinite b) given p plain = absurd (false≢true p)
 integral_of_finite c machine mode (nan b s) given p plain = absurd (false≢true p)
@@ -212,7 +233,7 @@ second_divides true c y e some =
     not_true (is_zero (value_of c y)) (both_true (is_number c y) (not (is_zero (value_of c y))) e).1
 second_divides false c y e some = absurd (false≢true some)
 
-pub usual_of_two : (c : Constants) (machine : Machine) (arithmetic : Arithmetic) (mode : Round) (x y : ℕ)
+pub usual_of_two : (c : Constants) (machine : CodedMachine) (arithmetic : Arithmetic) (mode : Round) (x y : ℕ)
     (old answer : Answer) → are_usual c arithmetic x y ≡ true
     → IsKindAnswer (of_format c) mode (PlainOfTwo arithmetic x y) answer
     → IsLeftBy (operation_fault_in c.bits machine (OfTwo arithmetic x y))
@@ -232,8 +253,8 @@ usual_of_two c machine arithmetic mode x y old answer e plain =
       },
     )
 
-pub usual_of_three : (c : Constants) (machine : Machine) (mode : Round) (x y z : ℕ) (old answer : Answer)
-    → has_fused machine ≡ true → are_usual_of_three c x y z ≡ true
+pub usual_of_three : (c : Constants) (machine : CodedMachine) (mode : Round) (x y z : ℕ) (old answer : Answer)
+    → (choices machine).has_fused ≡ true → are_usual_of_three c x y z ≡ true
     → IsKindAnswer (of_format c) mode (PlainFusedSum x y z) answer
     → IsLeftBy (operation_fault_in c.bits machine (FusedSum x y z))
     (IsMachineAnswer c machine mode (FusedSum x y z)) old answer answered
@@ -246,7 +267,8 @@ usual_of_three c machine mode x y z old answer has e plain =
     fitting c.bits machine (FusedSum x y z) (IsMachineAnswer c machine mode (FusedSum x y z)) old answer answered
     (two_true (fits c.bits x) (fits c.bits y && fits c.bits z) first.0
     (two_true (fits c.bits y) (fits c.bits z) second.0 third.0))
-    (answered_if (has_fused machine) lacking_operation (IsMachineAnswer c machine mode (FusedSum x y z)) old answer has
+    (answered_if (choices machine).has_fused lacking_operation (IsMachineAnswer c machine mode (FusedSum x y z)) old
+    answer has
     (record {
       given = plain.given;
       holds = of_three_finite c machine mode (value_of c x) (value_of c y) (value_of c z) plain.given first.1 second.1
@@ -254,7 +276,7 @@ usual_of_three c machine mode x y z old answer has e plain =
       is_written = plain.is_written;
     }))
 
-pub usual_root : (c : Constants) (machine : Machine) (mode : Round) (x : ℕ) (old answer : Answer)
+pub usual_root : (c : Constants) (machine : CodedMachine) (mode : Round) (x : ℕ) (old answer : Answer)
     → is_root_of c x ≡ true → IsKindAnswer (of_format c) mode (PlainRoot x) answer
     → IsLeftBy (operation_fault_in c.bits machine (SquareRoot x)) (IsMachineAnswer c machine mode (SquareRoot x))
     old answer answered
@@ -271,7 +293,27 @@ usual_root c machine mode x old answer e plain =
       },
     )
 
-pub usual_integral : (c : Constants) (machine : Machine) (mode : Round) (x : ℕ) (old answer : Answer)
+pub negative_root : (c : Constants) (machine : CodedMachine) (mode : Round) (x : ℕ) (old answer : Answer)
+    (given : StatusAnd Datum) → is_divisor c x ≡ true → is_root_of c x ≡ false
+    → Gives (IsGivenDatum (default_nan (format_with c) (choices machine)) invalid_bit) given
+    → IsValueWritten (in_format c) given (pos 0) answer
+    → IsLeftBy (operation_fault_in c.bits machine (SquareRoot x)) (IsMachineAnswer c machine mode (SquareRoot x))
+    old answer answered
+negative_root c machine mode x old answer given divisor no_root is_nan written =
+    let both = both_true (is_number c x) (not (is_zero (value_of c x))) divisor in
+    let number = fits_and_finite c x both.0 in
+    fitting c.bits machine (SquareRoot x) (IsMachineAnswer c machine mode (SquareRoot x)) old answer answered number.0 (
+      refl,
+      record {
+        given = given;
+        holds = root_of_negative (format_with c) (choices machine) mode (value_of c x) given number.1
+            (not_true (is_zero (value_of c x)) both.1)
+            (negative_of (is_number c x) (is_negative (value_of c x)) both.0 no_root) is_nan;
+        is_written = written;
+      },
+    )
+
+pub usual_integral : (c : Constants) (machine : CodedMachine) (mode : Round) (x : ℕ) (old answer : Answer)
     → is_number c x ≡ true → IsKindAnswer (of_format c) mode (RoundToIntegral x) answer
     → IsLeftBy (operation_fault_in c.bits machine (IntegralExact x))
     (IsMachineAnswer c machine mode (IntegralExact x)) old answer answered
@@ -297,9 +339,9 @@ faulted (Some fault) known old new code left = left
 
 -- what the call of known codes leaves is the reply
 pub replied : (kind : Option FlaggedKind) (format : MachineFormat) (mode : Option Round) (round : Round)
-    (call : Result MachineCall ℕ) (asked : MachineCall) (machine : Option Machine) (on : Machine) (old new : Answer)
-    (code : ℕ) → option_and_then machine_format kind ≡ Some format → mode ≡ Some round → call ≡ Ok asked
-    → machine ≡ Some on
+    (call : Result MachineCall ℕ) (asked : MachineCall) (machine : Option CodedMachine) (on : CodedMachine)
+    (old new : Answer) (code : ℕ) → option_and_then machine_format kind ≡ Some format → mode ≡ Some round
+    → call ≡ Ok asked → machine ≡ Some on
     → IsLeftBy (machine_fault on format asked) (IsMachineCallAnswer on format round asked) old new code
     → IsMachineReply (known_machine_call kind mode call machine) old new code
 replied None format mode round call asked machine on old new code f m k h left = cc

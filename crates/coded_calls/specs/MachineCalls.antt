@@ -11,13 +11,13 @@ use Rattle.rustc_apfloat.specs.Flags.{Gives, bits_of}
 use Rattle.rustc_apfloat.specs.Format.{Format}
 use Rattle.rustc_apfloat.specs.Lawful.{Constants, format_with}
 use Rattle.apfloat_machines.specs.declared.machine.Machine.{Machine}
-use Rattle.apfloat_machines.specs.declared.machine.Machine.TheVariants.{X86, X87, Arm, ArmDefaultNan}
-use Rattle.apfloat_machines.specs.declared.machine.Machine.TheVariants.{ArmAlternate, RiscV, Power, S390x}
 use Rattle.apfloat_machines.specs.declared.minima.MinimumRule.{MinimumRule}
 use Rattle.apfloat_machines.specs.declared.minima.MinimumRule.TheVariants.{Second, SecondQuietly, FirstNan}
 use Rattle.apfloat_machines.specs.declared.minima.MinimumRule.TheVariants.{Number2008, Number2019, Propagated}
 use Rattle.apfloat_machines.specs.Conversions.{IsMachineConversion}
-use Rattle.apfloat_machines.specs.Machines.{has_fused, has_unsigned, tiny_before_rounding}
+use Rattle.apfloat_machines.specs.Machines.{x86, x87, arm, arm_default_nan, arm_alternate}
+use Rattle.apfloat_machines.specs.Machines.{arm_alternate_default_nan, risc_v, power, s390x, webassembly, ptx}
+use Rattle.apfloat_machines.specs.Machines.{mips_2008, loongarch, sparc, m68k}
 use Rattle.apfloat_machines.specs.Minima.{IsLeast, IsGreatest}
 use Rattle.apfloat_machines.specs.Operations.{IsMachineSum, IsMachineDifference, IsMachineProduct, IsMachineQuotient}
 use Rattle.apfloat_machines.specs.Operations.{IsMachineTruncatedRemainder, IsMachineNearestRemainder, IsMachineRoot}
@@ -38,6 +38,11 @@ use Rattle.formats_at_run_time.specs.FlaggedKinds.{ieee_format_in}
 use Rattle.formats_at_run_time.specs.Relations.{in_format}
 use Rattle.formats_at_run_time.specs.ValueKinds.{Kind, of_format, of_pairs, value_of}
 use Rattle.coded_calls.specs.declared.data.Answer.{Answer}
+use Rattle.coded_calls.specs.declared.machine_call.CodedMachine.{CodedMachine}
+use Rattle.coded_calls.specs.declared.machine_call.CodedMachine.TheVariants.{X86, X87, Arm, ArmDefaultNan, ArmAlternate}
+use Rattle.coded_calls.specs.declared.machine_call.CodedMachine.TheVariants.{RiscV, Power, S390x}
+use Rattle.coded_calls.specs.declared.machine_call.CodedMachine.TheVariants.{ArmAlternateDefaultNan, Webassembly, Ptx}
+use Rattle.coded_calls.specs.declared.machine_call.CodedMachine.TheVariants.{Mips2008, Loongarch, Sparc, M68k}
 use Rattle.coded_calls.specs.declared.machine_call.MachineCall.{MachineCall}
 use Rattle.coded_calls.specs.declared.machine_call.MachineCall.TheVariants.{Operation, Conversion}
 use Rattle.coded_calls.specs.declared.machine_call.MachineFormat.{MachineFormat}
@@ -66,6 +71,26 @@ wide_operand = 9
 abbrev pub lacking_operation : ℕ
 lacking_operation = 10
 
+-- ---- machines
+
+-- what a machine does
+abbrev pub choices : CodedMachine → Machine
+choices X86 = x86
+choices X87 = x87
+choices Arm = arm
+choices ArmDefaultNan = arm_default_nan
+choices ArmAlternate = arm_alternate
+choices RiscV = risc_v
+choices Power = power
+choices S390x = s390x
+choices ArmAlternateDefaultNan = arm_alternate_default_nan
+choices Webassembly = webassembly
+choices Ptx = ptx
+choices Mips2008 = mips_2008
+choices Loongarch = loongarch
+choices Sparc = sparc
+choices M68k = m68k
+
 -- ---- formats
 
 -- formats with a choice of flags; a code without a rule of flags leaves tininess to the machine
@@ -76,11 +101,11 @@ machine_format (OfFormat (AfterRounding format)) = Some (record { format = forma
 machine_format (OfFormat (BeforeRounding format)) = Some (record { format = format; tiny_before = Some true })
 machine_format Pairs = None
 
-abbrev pub is_tiny_before : Machine → Option Bool → Bool
-is_tiny_before machine None = tiny_before_rounding machine
+abbrev pub is_tiny_before : CodedMachine → Option Bool → Bool
+is_tiny_before machine None = (choices machine).tiny_before_rounding
 is_tiny_before machine (Some tiny_before) = tiny_before
 
-abbrev pub format_on : Machine → MachineFormat → FlaggedFormat
+abbrev pub format_on : CodedMachine → MachineFormat → FlaggedFormat
 format_on machine m =
     if is_tiny_before machine m.tiny_before then BeforeRounding m.format else AfterRounding m.format
 
@@ -91,16 +116,18 @@ abbrev pub ieee_format_coded : ℕ → Option IeeeFormat
 ieee_format_coded byte = option_and_then ieee_format_in (kind_coded byte)
 
 -- whether a result is tiny by its exact magnitude, by what is above the lower byte of a code
-abbrev pub tiny_before_coded : Machine → ℕ → Option Bool
+abbrev pub tiny_before_coded : CodedMachine → ℕ → Option Bool
 tiny_before_coded machine rule =
-    if rule == 0 then Some (tiny_before_rounding machine)
+    if rule == 0 then Some (choices machine).tiny_before_rounding
     else if rule == 1 then Some false
     else if rule == 3 then Some true
     else None
 
-abbrev pub machine_coded : ℕ → Option Machine
+abbrev pub machine_coded : ℕ → Option CodedMachine
 machine_coded code =
-    counted 1 (X86 ∷ X87 ∷ Arm ∷ ArmDefaultNan ∷ ArmAlternate ∷ RiscV ∷ Power ∷ S390x ∷ []) code
+    counted 1
+    (X86 ∷ X87 ∷ Arm ∷ ArmDefaultNan ∷ ArmAlternate ∷ RiscV ∷ Power ∷ S390x ∷ ArmAlternateDefaultNan ∷ Webassembly
+    ∷ Ptx ∷ Mips2008 ∷ Loongarch ∷ Sparc ∷ M68k ∷ []) code
 
 abbrev pub rule_coded : ℕ → Option MinimumRule
 rule_coded code =
@@ -186,26 +213,27 @@ or_fault None other = other
 or_fault (Some fault) other = Some fault
 
 -- an integer of a wrong width, and an operation that the machine lacks
-abbrev pub operation_fault : Machine → MachineOperation → Option ℕ
-operation_fault machine (FusedSum x y z) = lacking_unless (has_fused machine)
-operation_fault machine (ToUnsigned x width) = or_fault (width_fault 1 width) (lacking_unless (has_unsigned machine))
+abbrev pub operation_fault : CodedMachine → MachineOperation → Option ℕ
+operation_fault machine (FusedSum x y z) = lacking_unless (choices machine).has_fused
+operation_fault machine (ToUnsigned x width) =
+    or_fault (width_fault 1 width) (lacking_unless (choices machine).has_unsigned)
 operation_fault machine (ToSigned x width) = width_fault 2 width
 operation_fault machine operation = None
 
 -- operands that are too wide come first
-abbrev pub operation_fault_in : ℕ → Machine → MachineOperation → Option ℕ
+abbrev pub operation_fault_in : ℕ → CodedMachine → MachineOperation → Option ℕ
 operation_fault_in width machine operation =
     if operands_fit width operation then operation_fault machine operation else Some wide_operand
 
 -- conversions have neither
-abbrev pub call_fault : Machine → MachineCall → Option ℕ
+abbrev pub call_fault : CodedMachine → MachineCall → Option ℕ
 call_fault machine (Operation operation) = operation_fault machine operation
 call_fault machine (Conversion x target) = None
 
 abbrev pub width_of : IeeeFormat → ℕ
 width_of format = (constants_in (format_of_ieee format)).bits
 
-abbrev pub machine_fault : Machine → MachineFormat → MachineCall → Option ℕ
+abbrev pub machine_fault : CodedMachine → MachineFormat → MachineCall → Option ℕ
 machine_fault machine m call =
     if call_fits (width_of m.format) call then call_fault machine call else Some wide_operand
 
@@ -239,7 +267,7 @@ are_usual_of_three c x y z = is_number c x && (is_number c y && is_number c z)
 -- ---- requests
 
 pub record MachineRequest : Type 0 where
-  pub machine : Machine
+  pub machine : CodedMachine
   pub format : MachineFormat
   pub mode : Round
   pub call : MachineCall
@@ -247,7 +275,7 @@ pub record MachineRequest : Type 0 where
 -- The faults in their order: the format, the mode, that machines do not have the format, the operation with the format
 -- or the rule that it needs, the machine, operands that are too wide, the width of an integer, an operation that the
 -- machine lacks.
-abbrev pub known_machine_call : Option FlaggedKind → Option Round → Result MachineCall ℕ → Option Machine
+abbrev pub known_machine_call : Option FlaggedKind → Option Round → Result MachineCall ℕ → Option CodedMachine
     → Result MachineRequest ℕ
 known_machine_call kind mode call machine =
     ok_or kind unknown_format >>= λ known. ok_or mode unknown_mode >>= λ rounding.
@@ -259,14 +287,16 @@ known_machine_call kind mode call machine =
 -- ---- results in a format
 
 -- an operation on two data
-abbrev pub IsMachineOfTwo : Format → Machine → Arithmetic → Round → Datum → Datum → StatusAnd Datum
+abbrev pub IsMachineOfTwo : Format → CodedMachine → Arithmetic → Round → Datum → Datum → StatusAnd Datum
     → Type 0
-IsMachineOfTwo f machine Sum mode x y given = Gives (IsMachineSum f machine mode x y) given
-IsMachineOfTwo f machine Difference mode x y given = Gives (IsMachineDifference f machine mode x y) given
-IsMachineOfTwo f machine Product mode x y given = Gives (IsMachineProduct f machine mode x y) given
-IsMachineOfTwo f machine Quotient mode x y given = Gives (IsMachineQuotient f machine mode x y) given
-IsMachineOfTwo f machine NearestRemainder mode x y given = Gives (IsMachineNearestRemainder f machine x y) given
-IsMachineOfTwo f machine TruncatedRemainder mode x y given = Gives (IsMachineTruncatedRemainder f machine x y) given
+IsMachineOfTwo f machine Sum mode x y given = Gives (IsMachineSum f (choices machine) mode x y) given
+IsMachineOfTwo f machine Difference mode x y given = Gives (IsMachineDifference f (choices machine) mode x y) given
+IsMachineOfTwo f machine Product mode x y given = Gives (IsMachineProduct f (choices machine) mode x y) given
+IsMachineOfTwo f machine Quotient mode x y given = Gives (IsMachineQuotient f (choices machine) mode x y) given
+IsMachineOfTwo f machine NearestRemainder mode x y given =
+    Gives (IsMachineNearestRemainder f (choices machine) x y) given
+IsMachineOfTwo f machine TruncatedRemainder mode x y given =
+    Gives (IsMachineTruncatedRemainder f (choices machine) x y) given
 
 -- an integer as its word, with its flags; the field `number` is 0
 pub record IsInteger {A : Type 0} (word : A → ℕ) (Holds : StatusAnd A → Type 0) (answer : Answer) : Type 0 where
@@ -277,50 +307,53 @@ pub record IsInteger {A : Type 0} (word : A → ℕ) (Holds : StatusAnd A → Ty
   pub number_is : answer.number ≡ pos 0
 
 -- a value of c in values of a kind
-abbrev pub IsMachineConverted : Constants → Machine → Round → Datum → Kind → Answer → Type 0
+abbrev pub IsMachineConverted : Constants → CodedMachine → Round → Datum → Kind → Answer → Type 0
 IsMachineConverted c machine mode x (of_format d) answer =
     IsValue (in_format d)
-    (λ given. Gives (IsMachineConversion (format_with c) (format_with d) machine mode x) given) answer
+    (λ given. Gives (IsMachineConversion (format_with c) (format_with d) (choices machine) mode x) given) answer
 IsMachineConverted c machine mode x of_pairs answer = ⊥
 
 -- an operation on values of a format
-abbrev pub IsMachineAnswer : Constants → Machine → Round → MachineOperation → Answer → Type 0
+abbrev pub IsMachineAnswer : Constants → CodedMachine → Round → MachineOperation → Answer → Type 0
 IsMachineAnswer c machine mode (OfTwo arithmetic x y) answer =
     IsValue (in_format c)
     (IsMachineOfTwo (format_with c) machine arithmetic mode (value_of c x) (value_of c y)) answer
 IsMachineAnswer c machine mode (FusedSum x y z) answer =
     IsValue (in_format c)
     (λ given.
-    Gives (IsMachineFusedSum (format_with c) machine mode (value_of c x) (value_of c y) (value_of c z)) given)
+    Gives (IsMachineFusedSum (format_with c) (choices machine) mode (value_of c x) (value_of c y) (value_of c z))
+    given)
     answer
 IsMachineAnswer c machine mode (SquareRoot x) answer =
-    IsValue (in_format c) (λ given. Gives (IsMachineRoot (format_with c) machine mode (value_of c x)) given) answer
+    IsValue (in_format c) (λ given. Gives (IsMachineRoot (format_with c) (choices machine) mode (value_of c x)) given)
+    answer
 IsMachineAnswer c machine mode (IntegralExact x) answer =
-    IsValue (in_format c) (λ given. Gives (IsMachineIntegralExact (format_with c) machine mode (value_of c x)) given)
-    answer
+    IsValue (in_format c)
+    (λ given. Gives (IsMachineIntegralExact (format_with c) (choices machine) mode (value_of c x)) given) answer
 IsMachineAnswer c machine mode (Integral x) answer =
-    IsValue (in_format c) (λ given. Gives (IsMachineIntegral (format_with c) machine mode (value_of c x)) given) answer
+    IsValue (in_format c)
+    (λ given. Gives (IsMachineIntegral (format_with c) (choices machine) mode (value_of c x)) given) answer
 IsMachineAnswer c machine mode (ToUnsigned x width) answer =
-    IsInteger (λ n. n) (λ given. Gives (IsMachineUnsigned (format_with c) machine mode width (value_of c x)) given)
-    answer
+    IsInteger (λ n. n)
+    (λ given. Gives (IsMachineUnsigned (format_with c) (choices machine) mode width (value_of c x)) given) answer
 IsMachineAnswer c machine mode (ToSigned x width) answer =
     IsInteger (cast_unsigned w128)
-    (λ given. Gives (IsMachineSigned (format_with c) machine mode width (value_of c x)) given) answer
+    (λ given. Gives (IsMachineSigned (format_with c) (choices machine) mode width (value_of c x)) given) answer
 IsMachineAnswer c machine mode (Least rule x y) answer =
     IsValue (in_format c)
-    (λ given. Gives (IsLeast rule (format_with c) machine (value_of c x) (value_of c y)) given) answer
+    (λ given. Gives (IsLeast rule (format_with c) (choices machine) (value_of c x) (value_of c y)) given) answer
 IsMachineAnswer c machine mode (Greatest rule x y) answer =
     IsValue (in_format c)
-    (λ given. Gives (IsGreatest rule (format_with c) machine (value_of c x) (value_of c y)) given) answer
+    (λ given. Gives (IsGreatest rule (format_with c) (choices machine) (value_of c x) (value_of c y)) given) answer
 
 -- the value that bits of a kind encode, in another
-abbrev pub IsMachineConvertedFrom : Kind → Machine → Round → ℕ → Kind → Answer → Type 0
+abbrev pub IsMachineConvertedFrom : Kind → CodedMachine → Round → ℕ → Kind → Answer → Type 0
 IsMachineConvertedFrom (of_format c) machine mode x target answer =
     IsMachineConverted c machine mode (value_of c x) target answer
 IsMachineConvertedFrom of_pairs machine mode x target answer = ⊥
 
 -- A call on values of a format. The rule of flags of a format from which a value is converted makes no difference.
-abbrev pub IsMachineCallAnswer : Machine → MachineFormat → Round → MachineCall → Answer → Type 0
+abbrev pub IsMachineCallAnswer : CodedMachine → MachineFormat → Round → MachineCall → Answer → Type 0
 IsMachineCallAnswer machine m mode (Operation operation) answer =
     IsMachineAnswer (flagged_constants (format_on machine m)) machine mode operation answer
 IsMachineCallAnswer machine m mode (Conversion x target) answer =
@@ -330,19 +363,21 @@ IsMachineCallAnswer machine m mode (Conversion x target) answer =
 -- ---- replies
 
 -- what an operation leaves in a format: the code 0 and its result, or the error and the previous contents
-abbrev pub IsMachineLeft : Constants → Machine → Round → MachineOperation → Answer → Answer → ℕ → Type 0
+abbrev pub IsMachineLeft : Constants → CodedMachine → Round → MachineOperation → Answer → Answer → ℕ
+    → Type 0
 IsMachineLeft c machine mode operation old new code =
     IsLeftBy (operation_fault machine operation) (IsMachineAnswer c machine mode operation) old new code
 
 -- the same in values of a kind, if it has infinities, of operands that may be too wide
-abbrev pub IsMachineLeftIn : Kind → Machine → Round → MachineOperation → Answer → Answer → ℕ → Type 0
+abbrev pub IsMachineLeftIn : Kind → CodedMachine → Round → MachineOperation → Answer → Answer → ℕ
+    → Type 0
 IsMachineLeftIn (of_format c) machine mode operation old new code =
     (format_with c).nonfinite ≡ IEEE754
     → IsLeftBy (operation_fault_in c.bits machine operation) (IsMachineAnswer c machine mode operation) old new code
 IsMachineLeftIn of_pairs machine mode operation old new code = ⊥
 
 -- what a conversion of bits of a kind, which may be too wide, leaves
-abbrev pub IsMachineConversionLeft : Kind → Machine → Round → ℕ → Kind → Answer → Answer → ℕ
+abbrev pub IsMachineConversionLeft : Kind → CodedMachine → Round → ℕ → Kind → Answer → Answer → ℕ
     → Type 0
 IsMachineConversionLeft (of_format c) machine mode x target old new code =
     IsLeftBy (unless (fits c.bits x) wide_operand) (IsMachineConverted c machine mode (value_of c x) target)
@@ -357,7 +392,7 @@ IsFilledIn kind_of gives (Some format) old new (Some given) = gives (kind_of for
 IsFilledIn kind_of gives None old new (Some given) = ⊥
 
 -- the kind of a format with its rule of flags on a machine
-abbrev pub kind_on : Machine → MachineFormat → Kind
+abbrev pub kind_on : CodedMachine → MachineFormat → Kind
 kind_on machine format = of_format (flagged_constants (format_on machine format))
 
 -- the same without a rule of flags

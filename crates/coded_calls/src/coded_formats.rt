@@ -10,7 +10,7 @@ ghost use Rattle.formats_at_run_time.specs.ValueKinds.{of_format};
 ghost use Rattle.coded_calls.specs.MachineCalls.{IsFilledIn, ieee_format_coded, kind_on, kind_without_rule};
 ghost use Rattle.coded_calls.specs.MachineCalls.{machine_format_coded, tiny_before_coded};
 
-use apfloat_machines::Machine;
+use crate::machine_call::CodedMachine;
 use formats_at_run_time::FillsInFormat;
 use rustc_apfloat::ieee::{
     BFloatS, DoubleS, Float8E5M2S, HalfS, IeeeFlags, QuadS, SingleS, TinyBefore, X87DoubleExtendedS,
@@ -31,7 +31,7 @@ type X87After = IeeeFlags<X87DoubleExtendedS>;
 /// Whether a result is tiny by its exact magnitude on a machine, by what is above the lower byte of the code of a
 /// format, if that is known.
 #[inline(always)]
-pub fn tiny_before_coded(machine: Machine, rule: u32) -> Option<bool>
+pub fn tiny_before_coded(machine: CodedMachine, rule: u32) -> Option<bool>
     ensures { result ≡ tiny_before_coded machine rule }
 {
     match rule {
@@ -47,7 +47,7 @@ pub fn tiny_before_coded(machine: Machine, rule: u32) -> Option<bool>
 #[inline(always)]
 pub fn fill_short_coded<C: FillsInFormat + Copy>(
     code: u32,
-    machine: Machine,
+    machine: CodedMachine,
     call: C,
     place: &mut C::Place,
 ) -> Option<C::Output>
@@ -66,7 +66,7 @@ pub fn fill_short_coded<C: FillsInFormat + Copy>(
 #[inline(always)]
 pub fn fill_wide_coded<C: FillsInFormat + Copy>(
     code: u32,
-    machine: Machine,
+    machine: CodedMachine,
     call: C,
     place: &mut C::Place,
 ) -> Option<C::Output>

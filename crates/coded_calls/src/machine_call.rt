@@ -8,9 +8,9 @@ ghost use Rattle.formats_at_run_time.specs.ValueKinds.{of_format};
 ghost use Rattle.coded_calls.specs.Answers.{whole};
 ghost use Rattle.coded_calls.specs.declared.machine_call.MachineCall.TheVariants.{Operation};
 ghost use Rattle.coded_calls.specs.declared.machine_call.MachineOperation.TheVariants.{OfTwo};
-ghost use Rattle.coded_calls.specs.MachineCalls.{conversion_call, format_on, is_tiny_before, machine_call};
-ghost use Rattle.coded_calls.specs.MachineCalls.{machine_coded, machine_format, machine_operation};
-ghost use Rattle.coded_calls.specs.MachineCalls.{of_one, operation_call, rule_coded};
+ghost use Rattle.coded_calls.specs.MachineCalls.{choices, conversion_call, format_on, is_tiny_before, machine_call};
+ghost use Rattle.coded_calls.specs.MachineCalls.{machine_coded, machine_format, machine_operation, of_one};
+ghost use Rattle.coded_calls.specs.MachineCalls.{operation_call, rule_coded};
 
 use crate::codes::{NO_SUCH_OPERATION, UNKNOWN_FORMAT};
 use apfloat_machines::{Machine, MinimumRule};
@@ -21,6 +21,99 @@ use rustc_apfloat::Round;
 
 /// The code of conversions to another format.
 const CONVERSION: u32 = 11;
+
+/// A machine by its name, which takes less room than its choices where calls pass it on.
+#[derive(Clone, Copy)]
+pub enum CodedMachine {
+    /// `Machine::X86`, and the others likewise.
+    X86,
+    /// `Machine::X87`.
+    X87,
+    /// `Machine::ARM`.
+    Arm,
+    /// `Machine::ARM_DEFAULT_NAN`.
+    ArmDefaultNan,
+    /// `Machine::ARM_ALTERNATE`.
+    ArmAlternate,
+    /// `Machine::RISC_V`.
+    RiscV,
+    /// `Machine::POWER`.
+    Power,
+    /// `Machine::S390X`.
+    S390x,
+    /// `Machine::ARM_ALTERNATE_DEFAULT_NAN`.
+    ArmAlternateDefaultNan,
+    /// `Machine::WEBASSEMBLY`.
+    Webassembly,
+    /// `Machine::PTX`.
+    Ptx,
+    /// `Machine::MIPS_2008`.
+    Mips2008,
+    /// `Machine::LOONGARCH`.
+    Loongarch,
+    /// `Machine::SPARC`.
+    Sparc,
+    /// `Machine::M68K`.
+    M68k,
+}
+
+/// The choices of the machines, in the order of their names. A table, unlike a `match`, is read only where a choice is
+/// asked for.
+const MACHINES: [Machine; 15] = [
+    Machine::X86,
+    Machine::X87,
+    Machine::ARM,
+    Machine::ARM_DEFAULT_NAN,
+    Machine::ARM_ALTERNATE,
+    Machine::RISC_V,
+    Machine::POWER,
+    Machine::S390X,
+    Machine::ARM_ALTERNATE_DEFAULT_NAN,
+    Machine::WEBASSEMBLY,
+    Machine::PTX,
+    Machine::MIPS_2008,
+    Machine::LOONGARCH,
+    Machine::SPARC,
+    Machine::M68K,
+];
+
+/// The machines on which a result is tiny by its exact magnitude, each a binary digit: to look at one takes less than a
+/// `match`.
+const TINY_BEFORE_ROUNDING: u32 = 1 << CodedMachine::Arm as u32
+    | 1 << CodedMachine::ArmDefaultNan as u32
+    | 1 << CodedMachine::Power as u32
+    | 1 << CodedMachine::S390x as u32
+    | 1 << CodedMachine::Sparc as u32
+    | 1 << CodedMachine::M68k as u32;
+
+impl CodedMachine {
+    /// What the machine does.
+    #[inline(always)]
+    pub fn choices(self) -> Machine
+        ensures { result ≡ choices self }
+    {
+        MACHINES[self as usize]
+    }
+
+    /// Whether the machine has fused sums, which is asked on the usual path, and is no look into the table.
+    #[inline(always)]
+    pub fn has_fused(self) -> bool
+        ensures { result ≡ (choices self).has_fused }
+    {
+        match self {
+            CodedMachine::X87 | CodedMachine::M68k => false,
+            _ => true,
+        }
+    }
+
+    /// Whether a result is tiny by its exact magnitude on the machine, which is asked on the usual path too.
+    #[inline(always)]
+    pub fn tiny_before_rounding(self) -> bool
+        ensures { result ≡ (choices self).tiny_before_rounding }
+    {
+        TINY_BEFORE_ROUNDING >> self as u32 & 1 == 1
+    }
+}
 
 /// What a machine is asked for on values of a format; they are given by their bits.
 #[derive(Clone, Copy)]
@@ -110,7 +203,7 @@ impl MachineFormat {
     #[inline(always)]
     pub fn fill<C: FillsInFormat>(
         self,
-        machine: Machine,
+        machine: CodedMachine,
         call: C,
         place: &mut C::Place,
     ) -> C::Output
@@ -122,7 +215,7 @@ impl MachineFormat {
 
     /// The format with its rule of flags on a machine.
     #[inline(always)]
-    fn on(self, machine: Machine) -> FlaggedFormat
+    fn on(self, machine: CodedMachine) -> FlaggedFormat
         ensures { result ≡ format_on machine self }
     {
         if self.is_tiny_before(machine) {
@@ -134,7 +227,7 @@ impl MachineFormat {
 
     /// Whether a result is tiny by its exact magnitude on a machine.
     #[inline(always)]
-    fn is_tiny_before(self, machine: Machine) -> bool
+    fn is_tiny_before(self, machine: CodedMachine) -> bool
         ensures { result ≡ is_tiny_before machine self.tiny_before }
     {
         match self.tiny_before {
@@ -146,18 +239,25 @@ impl MachineFormat {
 
 /// The machine of this code, if there is one.
 #[inline(always)]
-pub fn machine_coded(code: u32) -> Option<Machine>
+pub fn machine_coded(code: u32) -> Option<CodedMachine>
     ensures { result ≡ machine_coded code }
 {
     match code {
-        1 => Some(Machine::X86),
-        2 => Some(Machine::X87),
-        3 => Some(Machine::Arm),
-        4 => Some(Machine::ArmDefaultNan),
-        5 => Some(Machine::ArmAlternate),
-        6 => Some(Machine::RiscV),
-        7 => Some(Machine::Power),
-        8 => Some(Machine::S390x),
+        1 => Some(CodedMachine::X86),
+        2 => Some(CodedMachine::X87),
+        3 => Some(CodedMachine::Arm),
+        4 => Some(CodedMachine::ArmDefaultNan),
+        5 => Some(CodedMachine::ArmAlternate),
+        6 => Some(CodedMachine::RiscV),
+        7 => Some(CodedMachine::Power),
+        8 => Some(CodedMachine::S390x),
+        9 => Some(CodedMachine::ArmAlternateDefaultNan),
+        10 => Some(CodedMachine::Webassembly),
+        11 => Some(CodedMachine::Ptx),
+        12 => Some(CodedMachine::Mips2008),
+        13 => Some(CodedMachine::Loongarch),
+        14 => Some(CodedMachine::Sparc),
+        15 => Some(CodedMachine::M68k),
         _ => None,
     }
 }
@@ -275,7 +375,7 @@ fn conversion_call(target: Option<FlaggedKind>, x: u128) -> Result<MachineCall, 
 #[derive(Clone, Copy)]
 pub struct Setting {
     /// The machine.
-    pub machine: Machine,
+    pub machine: CodedMachine,
     /// The rounding mode.
     pub round: Round,
 }

@@ -5,7 +5,6 @@ ghost use Rattle.apfloat_model.specs.declared.kinds.NonfiniteBehavior.TheVariant
 ghost use Rattle.rustc_apfloat.specs.Flags.{Gives};
 ghost use Rattle.rustc_apfloat.specs.FlaggedTypes.{constants_of, format_of};
 ghost use Rattle.rustc_apfloat.specs.Lawful.{format_with};
-ghost use Rattle.apfloat_machines.specs.Machines.{has_unsigned};
 ghost use Rattle.apfloat_machines.specs.Operations.{IsOffered};
 ghost use Rattle.apfloat_machines.specs.WholeNumbers.{IsMachineSigned, IsMachineUnsigned};
 ghost use Rattle.formats_at_run_time.specs.declared.Arithmetic.{Arithmetic};
@@ -27,7 +26,7 @@ ghost use Rattle.coded_calls.specs.MachineCalls.{ieee_format_coded};
 ghost use Rattle.formats_at_run_time.specs.FlaggedKinds.{after_rounding, before_rounding};
 ghost use Rattle.coded_calls.specs.MachineCalls.{IsMachineLeftIn, is_number, kind_on, machine_format_coded};
 ghost use Rattle.coded_calls.specs.MachineCalls.{conversion_call, machine_fault};
-ghost use Rattle.coded_calls.specs.MachineCalls.{IsMachineReply, format_on, known_machine_call};
+ghost use Rattle.coded_calls.specs.MachineCalls.{IsMachineReply, choices, format_on, known_machine_call};
 ghost use Rattle.coded_calls.specs.MachineCalls.{machine_call, machine_coded, of_one};
 
 use crate::answers;
@@ -41,15 +40,15 @@ use crate::codes::{
 use crate::data::{Answer, Halves};
 use crate::ieee_answers::{value, written};
 use crate::machine_call::{
-    MachineCall, MachineFormat, MachineOperation, OneOperation, known_setting, machine_call,
-    machine_coded, one_code, two_code,
+    CodedMachine, MachineCall, MachineFormat, MachineOperation, OneOperation, known_setting,
+    machine_call, machine_coded, one_code, two_code,
 };
 use crate::usual_operands::{
     are_normal, are_normal_of_three, are_usual, are_usual_of_three, both_fit, fits, is_divisor,
     is_normal, is_normal_beyond_words, is_number, is_root_of, one_word, three_words, two_words,
 };
 use apfloat_machines::{
-    Machine, MinimumRule, default_nan, greatest, least, settled, settled_conversion, settled_fused,
+    MinimumRule, default_nan, greatest, least, settled, settled_conversion, settled_fused,
     settled_signed, settled_unary, settled_unsigned,
 };
 use fast_bits::{add_normal, convert_normal, subtract_normal};
@@ -65,7 +64,7 @@ use std::marker::PhantomData;
 /// An operation of a machine.
 #[derive(Clone, Copy)]
 struct OnMachine {
-    machine: Machine,
+    machine: CodedMachine,
     round: Round,
     operation: MachineOperation,
 }
@@ -116,7 +115,7 @@ impl FillsInFormat for OnMachine {
 /// An operation of a machine on two words.
 #[derive(Clone, Copy)]
 struct TwoWordsOnMachine {
-    machine: Machine,
+    machine: CodedMachine,
     round: Round,
     arithmetic: Arithmetic,
     x: u64,
@@ -147,7 +146,7 @@ impl FillsInFormat for TwoWordsOnMachine {
 /// An operation of a machine on two values of more than 64 bits.
 #[derive(Clone, Copy)]
 struct TwoOnMachine {
-    machine: Machine,
+    machine: CodedMachine,
     round: Round,
     arithmetic: Arithmetic,
     x: u128,
@@ -178,7 +177,7 @@ impl FillsInFormat for TwoOnMachine {
 /// The fused sum of a machine, of words.
 #[derive(Clone, Copy)]
 struct FusedWordsOnMachine {
-    machine: Machine,
+    machine: CodedMachine,
     round: Round,
     x: u64,
     y: u64,
@@ -202,7 +201,7 @@ impl FillsInFormat for FusedWordsOnMachine {
 /// The fused sum of a machine, of values of more than 64 bits.
 #[derive(Clone, Copy)]
 struct FusedOnMachine {
-    machine: Machine,
+    machine: CodedMachine,
     round: Round,
     x: u128,
     y: u128,
@@ -226,7 +225,7 @@ impl FillsInFormat for FusedOnMachine {
 /// An operation of a machine on one word.
 #[derive(Clone, Copy)]
 struct OneWordOnMachine {
-    machine: Machine,
+    machine: CodedMachine,
     round: Round,
     operation: OneOperation,
     to: u32,
@@ -265,7 +264,7 @@ impl FillsInFormat for OneWordOnMachine {
 /// An operation of a machine on one value of more than 64 bits.
 #[derive(Clone, Copy)]
 struct OneOnMachine {
-    machine: Machine,
+    machine: CodedMachine,
     round: Round,
     operation: OneOperation,
     to: u32,
@@ -306,7 +305,7 @@ impl FillsInFormat for OneOnMachine {
 #[inline(always)]
 fn two_in<S: Flagged>(
     answer: &mut Answer,
-    machine: Machine,
+    machine: CodedMachine,
     round: Round,
     arithmetic: Arithmetic,
     x: u128,
@@ -331,7 +330,7 @@ fn two_in<S: Flagged>(
 #[inline(always)]
 fn two_of_words<S: Flagged>(
     answer: &mut Answer,
-    machine: Machine,
+    machine: CodedMachine,
     round: Round,
     arithmetic: Arithmetic,
     x: u64,
@@ -359,7 +358,7 @@ fn two_of_words<S: Flagged>(
 #[inline(always)]
 fn two_of_values<S: Flagged>(
     answer: &mut Answer,
-    machine: Machine,
+    machine: CodedMachine,
     round: Round,
     arithmetic: Arithmetic,
     x: u128,
@@ -383,7 +382,7 @@ fn two_of_values<S: Flagged>(
 #[inline(never)]
 fn sum_of_words<S: Flagged>(
     answer: &mut Answer,
-    machine: Machine,
+    machine: CodedMachine,
     round: Round,
     x: u64,
     y: u64,
@@ -406,7 +405,7 @@ fn sum_of_words<S: Flagged>(
 #[inline(never)]
 fn difference_of_words<S: Flagged>(
     answer: &mut Answer,
-    machine: Machine,
+    machine: CodedMachine,
     round: Round,
     x: u64,
     y: u64,
@@ -429,7 +428,7 @@ fn difference_of_words<S: Flagged>(
 #[inline(never)]
 fn product_of_words<S: Flagged>(
     answer: &mut Answer,
-    machine: Machine,
+    machine: CodedMachine,
     round: Round,
     x: u64,
     y: u64,
@@ -445,7 +444,7 @@ fn product_of_words<S: Flagged>(
 #[inline(never)]
 fn quotient_of_words<S: Flagged>(
     answer: &mut Answer,
-    machine: Machine,
+    machine: CodedMachine,
     round: Round,
     x: u64,
     y: u64,
@@ -461,7 +460,7 @@ fn quotient_of_words<S: Flagged>(
 #[inline(never)]
 fn sum_of_values<S: Flagged>(
     answer: &mut Answer,
-    machine: Machine,
+    machine: CodedMachine,
     round: Round,
     x: u128,
     y: u128,
@@ -477,7 +476,7 @@ fn sum_of_values<S: Flagged>(
 #[inline(never)]
 fn difference_of_values<S: Flagged>(
     answer: &mut Answer,
-    machine: Machine,
+    machine: CodedMachine,
     round: Round,
     x: u128,
     y: u128,
@@ -493,7 +492,7 @@ fn difference_of_values<S: Flagged>(
 #[inline(never)]
 fn product_of_values<S: Flagged>(
     answer: &mut Answer,
-    machine: Machine,
+    machine: CodedMachine,
     round: Round,
     x: u128,
     y: u128,
@@ -509,7 +508,7 @@ fn product_of_values<S: Flagged>(
 #[inline(never)]
 fn quotient_of_values<S: Flagged>(
     answer: &mut Answer,
-    machine: Machine,
+    machine: CodedMachine,
     round: Round,
     x: u128,
     y: u128,
@@ -614,7 +613,7 @@ impl InLine for QuotientInLine {
 fn normal_of_two<S: Flagged, O: InLine>(
     operation: O,
     answer: &mut Answer,
-    machine: Machine,
+    machine: CodedMachine,
     round: Round,
     x: u128,
     y: u128,
@@ -635,7 +634,7 @@ fn normal_of_two<S: Flagged, O: InLine>(
 #[inline(never)]
 fn of_two_in<S: Flagged>(
     answer: &mut Answer,
-    machine: Machine,
+    machine: CodedMachine,
     round: Round,
     arithmetic: Arithmetic,
     x: u128,
@@ -685,7 +684,7 @@ fn plain_of_two<S: Flagged>(
 #[inline(never)]
 fn of_two<S: Flagged>(
     answer: &mut Answer,
-    machine: Machine,
+    machine: CodedMachine,
     round: Round,
     arithmetic: Arithmetic,
     x: u128,
@@ -699,7 +698,7 @@ fn of_two<S: Flagged>(
         return WIDE_OPERAND;
     }
     let (x, y) = (value::<S>(x), value::<S>(y));
-    *answer = written(settled(machine, x, y, arithmetic.answer(x, y, round)));
+    *answer = written(settled(machine.choices(), x, y, arithmetic.answer(x, y, round)));
     ANSWERED
 }
 
@@ -707,7 +706,7 @@ fn of_two<S: Flagged>(
 #[inline(always)]
 fn fused_sum_in<S: Flagged>(
     answer: &mut Answer,
-    machine: Machine,
+    machine: CodedMachine,
     round: Round,
     x: u128,
     y: u128,
@@ -732,7 +731,7 @@ fn fused_sum_in<S: Flagged>(
 #[inline(never)]
 fn fused_sum_of_words<S: Flagged>(
     answer: &mut Answer,
-    machine: Machine,
+    machine: CodedMachine,
     round: Round,
     x: u64,
     y: u64,
@@ -749,7 +748,7 @@ fn fused_sum_of_words<S: Flagged>(
 #[inline(never)]
 fn fused_sum_of_values<S: Flagged>(
     answer: &mut Answer,
-    machine: Machine,
+    machine: CodedMachine,
     round: Round,
     x: u128,
     y: u128,
@@ -766,7 +765,7 @@ fn fused_sum_of_values<S: Flagged>(
 #[inline(always)]
 fn normal_fused_sum<S: Flagged>(
     answer: &mut Answer,
-    machine: Machine,
+    machine: CodedMachine,
     round: Round,
     x: u128,
     y: u128,
@@ -788,7 +787,7 @@ fn normal_fused_sum<S: Flagged>(
 #[inline(never)]
 fn usual_fused_sum<S: Flagged>(
     answer: &mut Answer,
-    machine: Machine,
+    machine: CodedMachine,
     round: Round,
     x: u128,
     y: u128,
@@ -811,7 +810,7 @@ fn usual_fused_sum<S: Flagged>(
 #[inline(never)]
 fn fused_sum<S: Flagged>(
     answer: &mut Answer,
-    machine: Machine,
+    machine: CodedMachine,
     round: Round,
     x: u128,
     y: u128,
@@ -831,7 +830,7 @@ fn fused_sum<S: Flagged>(
 #[inline(always)]
 fn settled_fused_sum<S: Flagged>(
     answer: &mut Answer,
-    machine: Machine,
+    machine: CodedMachine,
     round: Round,
     x: u128,
     y: u128,
@@ -843,7 +842,7 @@ fn settled_fused_sum<S: Flagged>(
         answer.old answer.new result }
 {
     let (x, y, z) = (value::<S>(x), value::<S>(y), value::<S>(z));
-    match settled_fused(machine, x, y, z, x.wide_mul_add_r(y, z, round)) {
+    match settled_fused(machine.choices(), x, y, z, x.wide_mul_add_r(y, z, round)) {
         None => LACKING_OPERATION,
         Some(sum) => {
             *answer = written(sum);
@@ -855,7 +854,7 @@ fn settled_fused_sum<S: Flagged>(
 /// The square root of a value: the plain one in line of a positive number or of +0, and of a negative number the
 /// machine's NaN.
 #[inline(never)]
-fn root_in<S: Flagged>(answer: &mut Answer, machine: Machine, round: Round, x: u128) -> u32
+fn root_in<S: Flagged>(answer: &mut Answer, machine: CodedMachine, round: Round, x: u128) -> u32
     requires { S.PRECISION < S.BITS }
     ensures { IsMachineLeftIn (of_format (constants_of S.Flagged)) machine round (SquareRoot x)
         answer.old answer.new result }
@@ -864,7 +863,7 @@ fn root_in<S: Flagged>(answer: &mut Answer, machine: Machine, round: Round, x: u
         answers::root_here::<S>(answer, round, x);
         ANSWERED
     } else if is_divisor::<S>(x) {
-        *answer = written(Status::INVALID_OP.and(default_nan::<S>(machine)));
+        *answer = written(Status::INVALID_OP.and(default_nan::<S>(machine.choices())));
         ANSWERED
     } else {
         root::<S>(answer, machine, round, x)
@@ -874,7 +873,7 @@ fn root_in<S: Flagged>(answer: &mut Answer, machine: Machine, round: Round, x: u
 /// The square root of a value.
 #[cold]
 #[inline(never)]
-fn root<S: Flagged>(answer: &mut Answer, machine: Machine, round: Round, x: u128) -> u32
+fn root<S: Flagged>(answer: &mut Answer, machine: CodedMachine, round: Round, x: u128) -> u32
     requires { S.PRECISION < S.BITS }
     ensures { IsMachineLeftIn (of_format (constants_of S.Flagged)) machine round (SquareRoot x)
         answer.old answer.new result }
@@ -883,7 +882,7 @@ fn root<S: Flagged>(answer: &mut Answer, machine: Machine, round: Round, x: u128
         return WIDE_OPERAND;
     }
     let x = value::<S>(x);
-    *answer = written(settled_unary(machine, x, x.sqrt_r(round)));
+    *answer = written(settled_unary(machine.choices(), x, x.sqrt_r(round)));
     ANSWERED
 }
 
@@ -891,7 +890,7 @@ fn root<S: Flagged>(answer: &mut Answer, machine: Machine, round: Round, x: u128
 #[inline(always)]
 fn integral_exact_in<S: Flagged>(
     answer: &mut Answer,
-    machine: Machine,
+    machine: CodedMachine,
     round: Round,
     x: u128,
 ) -> u32
@@ -914,7 +913,7 @@ fn integral_exact_in<S: Flagged>(
 #[inline(never)]
 fn integral_exact_of_word<S: Flagged>(
     answer: &mut Answer,
-    machine: Machine,
+    machine: CodedMachine,
     round: Round,
     x: u64,
 ) -> u32
@@ -929,7 +928,7 @@ fn integral_exact_of_word<S: Flagged>(
 #[inline(never)]
 fn integral_exact_of_value<S: Flagged>(
     answer: &mut Answer,
-    machine: Machine,
+    machine: CodedMachine,
     round: Round,
     x: u128,
 ) -> u32
@@ -945,7 +944,7 @@ fn integral_exact_of_value<S: Flagged>(
 #[inline(always)]
 fn integral_exact_here<S: Flagged>(
     answer: &mut Answer,
-    machine: Machine,
+    machine: CodedMachine,
     round: Round,
     x: u128,
 ) -> u32
@@ -979,7 +978,7 @@ fn plain_integral_exact<S: Flagged>(answer: &mut Answer, round: Round, x: u128)
 #[inline(always)]
 fn usual_integral_exact<S: Flagged>(
     answer: &mut Answer,
-    machine: Machine,
+    machine: CodedMachine,
     round: Round,
     x: u128,
 ) -> u32
@@ -998,7 +997,12 @@ fn usual_integral_exact<S: Flagged>(
 /// A value rounded to an integral value, with INEXACT.
 #[cold]
 #[inline(never)]
-fn integral_exact<S: Flagged>(answer: &mut Answer, machine: Machine, round: Round, x: u128) -> u32
+fn integral_exact<S: Flagged>(
+    answer: &mut Answer,
+    machine: CodedMachine,
+    round: Round,
+    x: u128,
+) -> u32
     requires { S.PRECISION < S.BITS }
     ensures { IsMachineLeftIn (of_format (constants_of S.Flagged)) machine round (IntegralExact x)
         answer.old answer.new result }
@@ -1007,13 +1011,13 @@ fn integral_exact<S: Flagged>(answer: &mut Answer, machine: Machine, round: Roun
         return WIDE_OPERAND;
     }
     let x = value::<S>(x);
-    *answer = written(settled_unary(machine, x, x.round_to_integral(round)));
+    *answer = written(settled_unary(machine.choices(), x, x.round_to_integral(round)));
     ANSWERED
 }
 
 /// A value rounded to an integral value, without INEXACT.
 #[inline(never)]
-fn integral_in<S: Flagged>(answer: &mut Answer, machine: Machine, round: Round, x: u128) -> u32
+fn integral_in<S: Flagged>(answer: &mut Answer, machine: CodedMachine, round: Round, x: u128) -> u32
     requires { S.PRECISION < S.BITS }
     ensures { IsMachineLeftIn (of_format (constants_of S.Flagged)) machine round (Integral x)
         answer.old answer.new result }
@@ -1027,20 +1031,20 @@ fn integral_in<S: Flagged>(answer: &mut Answer, machine: Machine, round: Round, 
 
 /// A value rounded to an integral value, without INEXACT.
 #[inline(always)]
-fn integral<S: Flagged>(answer: &mut Answer, machine: Machine, round: Round, x: u128)
+fn integral<S: Flagged>(answer: &mut Answer, machine: CodedMachine, round: Round, x: u128)
     requires { S.PRECISION < S.BITS }
     ensures { (format_of S.Flagged).nonfinite ≡ IEEE754
         → IsMachineAnswer (constants_of S.Flagged) machine round (Integral x) answer.new }
 {
     let x = value::<S>(x);
-    *answer = written(settled_unary(machine, x, round_to_integral_in(x, round)));
+    *answer = written(settled_unary(machine.choices(), x, round_to_integral_in(x, round)));
 }
 
 /// A value as an integer, which in a format of at most 64 bits is passed as a word.
 #[inline(always)]
 fn to_unsigned_in<S: Flagged>(
     answer: &mut Answer,
-    machine: Machine,
+    machine: CodedMachine,
     round: Round,
     x: u128,
     width: u32,
@@ -1064,7 +1068,7 @@ fn to_unsigned_in<S: Flagged>(
 #[inline(never)]
 fn to_unsigned_of_word<S: Flagged>(
     answer: &mut Answer,
-    machine: Machine,
+    machine: CodedMachine,
     round: Round,
     x: u64,
     width: u32,
@@ -1080,7 +1084,7 @@ fn to_unsigned_of_word<S: Flagged>(
 #[inline(never)]
 fn to_unsigned_of_value<S: Flagged>(
     answer: &mut Answer,
-    machine: Machine,
+    machine: CodedMachine,
     round: Round,
     x: u128,
     width: u32,
@@ -1096,7 +1100,7 @@ fn to_unsigned_of_value<S: Flagged>(
 #[inline(always)]
 fn valid_to_unsigned<S: Flagged>(
     answer: &mut Answer,
-    machine: Machine,
+    machine: CodedMachine,
     round: Round,
     x: u128,
     width: u32,
@@ -1112,7 +1116,7 @@ fn valid_to_unsigned<S: Flagged>(
         if plain.status == Status::INVALID_OP {
             fitting_to_unsigned::<S>(answer, machine, round, x, width)
         } else {
-            match settled_unsigned(machine, given, width as usize, plain) {
+            match settled_unsigned(machine.choices(), given, width as usize, plain) {
                 None => LACKING_OPERATION,
                 Some(integer) => {
                     *answer = Answer::of(integer.value, integer.status, 0);
@@ -1130,7 +1134,7 @@ fn valid_to_unsigned<S: Flagged>(
 #[inline(never)]
 fn fitting_to_unsigned<S: Flagged>(
     answer: &mut Answer,
-    machine: Machine,
+    machine: CodedMachine,
     round: Round,
     x: u128,
     width: u32,
@@ -1150,7 +1154,7 @@ fn fitting_to_unsigned<S: Flagged>(
 #[inline(always)]
 fn to_signed_in<S: Flagged>(
     answer: &mut Answer,
-    machine: Machine,
+    machine: CodedMachine,
     round: Round,
     x: u128,
     width: u32,
@@ -1174,7 +1178,7 @@ fn to_signed_in<S: Flagged>(
 #[inline(never)]
 fn to_signed_of_word<S: Flagged>(
     answer: &mut Answer,
-    machine: Machine,
+    machine: CodedMachine,
     round: Round,
     x: u64,
     width: u32,
@@ -1190,7 +1194,7 @@ fn to_signed_of_word<S: Flagged>(
 /// have in `on_machine`.
 #[inline(never)]
 fn to_signed_of_value<S: Flagged>(
-    machine: Machine,
+    machine: CodedMachine,
     x: u128,
     round: Round,
     width: u32,
@@ -1208,7 +1212,7 @@ fn to_signed_of_value<S: Flagged>(
 #[inline(always)]
 fn valid_to_signed<S: Flagged>(
     answer: &mut Answer,
-    machine: Machine,
+    machine: CodedMachine,
     round: Round,
     x: u128,
     width: u32,
@@ -1225,7 +1229,7 @@ fn valid_to_signed<S: Flagged>(
         if plain.status == Status::INVALID_OP {
             kept_to_signed::<S>(answer, machine, round, width)
         } else {
-            let integer = settled_signed(machine, given, width as usize, plain);
+            let integer = settled_signed(machine.choices(), given, width as usize, plain);
             *answer = Answer::of(integer.value.cast_unsigned(), integer.status, 0);
             ANSWERED
         }
@@ -1239,7 +1243,7 @@ fn valid_to_signed<S: Flagged>(
 #[inline(never)]
 fn kept_to_signed<S: Flagged>(
     answer: &mut Answer,
-    machine: Machine,
+    machine: CodedMachine,
     round: Round,
     width: u32,
 ) -> u32
@@ -1256,7 +1260,7 @@ fn kept_to_signed<S: Flagged>(
 #[inline(never)]
 fn fitting_to_signed<S: Flagged>(
     answer: &mut Answer,
-    machine: Machine,
+    machine: CodedMachine,
     round: Round,
     x: u128,
     width: u32,
@@ -1276,7 +1280,7 @@ fn fitting_to_signed<S: Flagged>(
 #[inline(always)]
 fn lesser_in<S: Flagged>(
     answer: &mut Answer,
-    machine: Machine,
+    machine: CodedMachine,
     round: Round,
     rule: MinimumRule,
     x: u128,
@@ -1297,7 +1301,7 @@ fn lesser_in<S: Flagged>(
 #[inline(always)]
 fn greater_in<S: Flagged>(
     answer: &mut Answer,
-    machine: Machine,
+    machine: CodedMachine,
     round: Round,
     rule: MinimumRule,
     x: u128,
@@ -1318,7 +1322,7 @@ fn greater_in<S: Flagged>(
 #[inline(always)]
 fn to_unsigned<S: Flagged>(
     answer: &mut Answer,
-    machine: Machine,
+    machine: CodedMachine,
     round: Round,
     x: u128,
     width: u32,
@@ -1341,7 +1345,7 @@ fn to_unsigned<S: Flagged>(
 
 /// The integer, if the machine has unsigned ones.
 fn unsigned_integer<S: Flagged>(
-    machine: Machine,
+    machine: CodedMachine,
     round: Round,
     x: u128,
     width: usize,
@@ -1350,20 +1354,20 @@ fn unsigned_integer<S: Flagged>(
     requires low { 1 ≤ width }
     requires high { width ≤ 128 }
     ensures { let c = constants_of S.Flagged in
-        let says = IsMachineUnsigned (format_with c) machine round width (value_of c x) in
-        IsOffered (has_unsigned machine) (λ given. Gives says given) result }
+        let says = IsMachineUnsigned (format_with c) (choices machine) round width (value_of c x) in
+        IsOffered (choices machine).has_unsigned (λ given. Gives says given) result }
 {
     let x = value::<S>(x);
     let mut is_exact = false;
     let plain = x.to_u128_r(width, round, &mut is_exact);
-    settled_unsigned(machine, x, width, plain)
+    settled_unsigned(machine.choices(), x, width, plain)
 }
 
 /// A value as a signed integer.
 #[inline(always)]
 fn to_signed<S: Flagged>(
     answer: &mut Answer,
-    machine: Machine,
+    machine: CodedMachine,
     round: Round,
     x: u128,
     width: u32,
@@ -1382,7 +1386,7 @@ fn to_signed<S: Flagged>(
 
 /// The signed integer.
 fn signed_integer<S: Flagged>(
-    machine: Machine,
+    machine: CodedMachine,
     round: Round,
     x: u128,
     width: usize,
@@ -1391,19 +1395,20 @@ fn signed_integer<S: Flagged>(
     requires low { 2 ≤ width }
     requires high { width ≤ 128 }
     ensures { let c = constants_of S.Flagged in
-        Gives (IsMachineSigned (format_with c) machine round width (value_of c x)) result }
+        Gives (IsMachineSigned (format_with c) (choices machine) round width (value_of c x))
+        result }
 {
     let x = value::<S>(x);
     let mut is_exact = false;
     let plain = x.to_i128_r(width, round, &mut is_exact);
-    settled_signed(machine, x, width, plain)
+    settled_signed(machine.choices(), x, width, plain)
 }
 
 /// The lesser of two values, by a rule.
 #[inline(never)]
 fn lesser<S: Flagged>(
     answer: &mut Answer,
-    machine: Machine,
+    machine: CodedMachine,
     round: Round,
     rule: MinimumRule,
     x: u128,
@@ -1413,14 +1418,14 @@ fn lesser<S: Flagged>(
     ensures { IsMachineAnswer (constants_of S.Flagged) machine round (Least rule x y) answer.new }
 {
     let (x, y) = (value::<S>(x), value::<S>(y));
-    *answer = written(least(rule, machine, x, y));
+    *answer = written(least(rule, machine.choices(), x, y));
 }
 
 /// The greater of two values, by a rule.
 #[inline(never)]
 fn greater<S: Flagged>(
     answer: &mut Answer,
-    machine: Machine,
+    machine: CodedMachine,
     round: Round,
     rule: MinimumRule,
     x: u128,
@@ -1431,14 +1436,14 @@ fn greater<S: Flagged>(
         answer.new }
 {
     let (x, y) = (value::<S>(x), value::<S>(y));
-    *answer = written(greatest(rule, machine, x, y));
+    *answer = written(greatest(rule, machine.choices(), x, y));
 }
 
 /// A conversion, from any format to that of a code, if that has one.
 #[derive(Clone, Copy)]
 struct ConversionToCode {
     to: u32,
-    machine: Machine,
+    machine: CodedMachine,
     round: Round,
     x: u128,
 }
@@ -1462,7 +1467,7 @@ impl FillsInFormat for ConversionToCode {
 #[inline(always)]
 fn converted_to_code<S: Flagged>(
     answer: &mut Answer,
-    machine: Machine,
+    machine: CodedMachine,
     round: Round,
     x: u128,
     to: u32,
@@ -1483,7 +1488,7 @@ fn converted_to_code<S: Flagged>(
 #[inline(always)]
 fn converted_before_rounding<S: Flagged>(
     answer: &mut Answer,
-    machine: Machine,
+    machine: CodedMachine,
     round: Round,
     x: u128,
     byte: u32,
@@ -1510,7 +1515,7 @@ fn converted_before_rounding<S: Flagged>(
 #[inline(always)]
 fn converted_after_rounding<S: Flagged>(
     answer: &mut Answer,
-    machine: Machine,
+    machine: CodedMachine,
     round: Round,
     x: u128,
     byte: u32,
@@ -1537,7 +1542,7 @@ fn converted_after_rounding<S: Flagged>(
 #[derive(Clone, Copy)]
 struct ConversionTo {
     target: MachineFormat,
-    machine: Machine,
+    machine: CodedMachine,
     round: Round,
     x: u128,
 }
@@ -1567,7 +1572,7 @@ impl FillsInFormat for ConversionTo {
 #[derive(Drop)]
 struct ConversionOf<S: Flagged> {
     source: PhantomData<S>,
-    machine: Machine,
+    machine: CodedMachine,
     round: Round,
     x: u128,
     ghost has_bits: { S.PRECISION < S.BITS },
@@ -1591,7 +1596,7 @@ impl<S: Flagged> FillsInFormat for ConversionOf<S> {
 #[inline(never)]
 fn converted<S: Flagged, T: Flagged>(
     answer: &mut Answer,
-    machine: Machine,
+    machine: CodedMachine,
     round: Round,
     x: u128,
 ) -> u32
@@ -1614,7 +1619,7 @@ fn converted<S: Flagged, T: Flagged>(
 #[inline(always)]
 fn fitting_converted<S: Flagged, T: Flagged>(
     answer: &mut Answer,
-    machine: Machine,
+    machine: CodedMachine,
     round: Round,
     x: u128,
 )
@@ -1639,7 +1644,7 @@ fn number_converted<S: Flagged, T: Flagged>(answer: &mut Answer, round: Round, x
     requires source { S.PRECISION < S.BITS }
     requires target { T.PRECISION < T.BITS }
     requires number { is_number (constants_of S.Flagged) x ≡ true }
-    ensures { let c = constants_of S.Flagged in (machine : Machine)
+    ensures { let c = constants_of S.Flagged in (machine : CodedMachine)
         → IsMachineConverted c machine round (value_of c x) (of_format (constants_of T.Flagged))
         answer.new }
 {
@@ -1653,7 +1658,7 @@ fn number_converted<S: Flagged, T: Flagged>(answer: &mut Answer, round: Round, x
 #[inline(never)]
 fn any_converted<S: Flagged, T: Flagged>(
     answer: &mut Answer,
-    machine: Machine,
+    machine: CodedMachine,
     round: Round,
     x: u128,
 )
@@ -1666,7 +1671,7 @@ fn any_converted<S: Flagged, T: Flagged>(
     let x = value::<S>(x);
     let mut loses_info = false;
     let plain: StatusAnd<IeeeFloat<T>> = x.convert_r(round, &mut loses_info);
-    *answer = written(settled_conversion(machine, x, plain));
+    *answer = written(settled_conversion(machine.choices(), x, plain));
 }
 
 /// Makes a call on a machine, and returns 0 or the code of the first error; on an error the answer is left unchanged.
@@ -1675,7 +1680,7 @@ fn reply(
     format: Option<FlaggedKind>,
     mode: Option<Round>,
     call: Result<MachineCall, u32>,
-    machine: Option<Machine>,
+    machine: Option<CodedMachine>,
     answer: &mut Answer,
 ) -> u32
     ensures { IsMachineReply (known_machine_call format mode call machine)
@@ -1704,7 +1709,7 @@ fn reply(
 /// for an operation that the machine does not have.
 #[inline(always)]
 fn made(
-    machine: Machine,
+    machine: CodedMachine,
     format: MachineFormat,
     round: Round,
     call: MachineCall,
@@ -1733,7 +1738,7 @@ fn made(
 /// Makes an operation, and returns 0, or the error as `made` does.
 #[inline(always)]
 fn operated(
-    machine: Machine,
+    machine: CodedMachine,
     format: MachineFormat,
     round: Round,
     operation: MachineOperation,
@@ -2242,11 +2247,13 @@ fn any_on_machine(
         IsMachineReply (known_machine_call (flagged_kind_coded format) (mode_coded mode) call
         (machine_coded machine)) answer.old answer.new result }
 {
+    // First, so that the code becomes the name by a subtraction.
+    let machine = machine_coded(machine);
     reply(
         FlaggedKind::coded(format),
         mode_coded(mode),
         machine_call(operation, to, x.number(), y.number(), z.number()),
-        machine_coded(machine),
+        machine,
         answer,
     )
 }

@@ -7,24 +7,54 @@
 //!
 //! ```
 //! use rustc_apfloat::ieee::Single;
-//! use rustc_apfloat::machines::{self, Machine};
+//! use rustc_apfloat::machines::{self, Contradiction, Machine, NanChoice};
 //! use rustc_apfloat::{Float, Status};
 //!
 //! // The NaN of an invalid operation is positive on RISC-V, and negative on x86.
 //! let zero = Single::ZERO;
 //! let answer = zero / zero;
-//! assert_eq!(machines::settled(Machine::RiscV, zero, zero, answer).value.to_bits(), 0x7fc0_0000);
+//! assert_eq!(machines::settled(Machine::RISC_V, zero, zero, answer).value.to_bits(), 0x7fc0_0000);
 //! assert_eq!(machines::settled(Machine::X86, zero, zero, answer).value.to_bits(), 0xffc0_0000);
 //! assert_eq!(answer.status, Status::INVALID_OP);
+//!
+//! // Any other machine is composed, and refused if one choice contradicts another.
+//! let composed = Machine { nan_choice: NanChoice::AlwaysDefault, ..Machine::X86 };
+//! assert_eq!(composed.checked(), Err(Contradiction::QuietAddendKept));
 //! ```
 
 use crate::StatusAnd;
 use crate::erased::apfloat_machines as library;
 use crate::ieee::{IeeeFloat, Semantics};
 
-pub use library::{Flush, FusedOrder, Machine, MinimumRule, NanChoice, WholeOfNan};
+pub use library::{Contradiction, Flush, FusedOrder, Machine, MinimumRule, NanChoice, WholeOfNan};
 
 same_types! { Flush, Machine, MinimumRule }
+
+/// Machines as they were named when they were variants, and their choices when they were calls.
+macro_rules! names_of_before {
+    ($($variant:ident = $constant:ident),*; $($choice:ident: $type:ty),*) => {
+        #[allow(missing_docs, non_upper_case_globals)]
+        #[doc(hidden)]
+        impl Machine {
+            $(pub const $variant: Machine = Machine::$constant;)*
+            $(
+                #[inline]
+                pub fn $choice(self) -> $type {
+                    self.$choice
+                }
+            )*
+        }
+    };
+}
+
+names_of_before! {
+    Arm = ARM, ArmDefaultNan = ARM_DEFAULT_NAN, ArmAlternate = ARM_ALTERNATE, RiscV = RISC_V, Power = POWER,
+    S390x = S390X;
+    nan_choice: NanChoice, default_is_negative: bool, has_fused: bool, fused_order: FusedOrder,
+    drops_quiet_addend: bool, drops_signaling_addend: bool, flags_quiet_addend: bool, has_unsigned: bool,
+    signed_of_nan: WholeOfNan, unsigned_of_nan: WholeOfNan, has_one_invalid_integer: bool,
+    invalid_integer_is_inexact: bool, tiny_before_rounding: bool, flush: Option<Flush>
+}
 
 library_calls! {
     /// The answer of an operation on two operands, in the machine's order, as the machine gives it: if it is a NaN, the
@@ -78,7 +108,7 @@ library_calls! {
     /// In a format without bits.
     fn machine_nan<S>(machine: Machine, x: IeeeFloat<S>, y: IeeeFloat<S>) -> IeeeFloat<S>
         where S::BITS > S::PRECISION => "a format without bits";
-    /// The quiet NaN without a payload that an invalid operation delivers, with the machine's sign.
+    /// The quiet NaN that an invalid operation delivers, with the machine's sign and payload.
     fn default_nan<S>(machine: Machine) -> IeeeFloat<S>;
     /// The value negated, except that a NaN keeps its sign.
     fn negated_number<S>(x: IeeeFloat<S>) -> IeeeFloat<S>;

@@ -5,8 +5,8 @@ use crate::{Outcome, Tally};
 use rustc_apfloat::comparisons::{OnNan, Predicate, compare, round_to_integral_in};
 use rustc_apfloat::ieee::{BFloatS, DoubleS, HalfS, IeeeFlags, IeeeFloat, Semantics, SingleS, TinyBefore};
 use rustc_apfloat::machines::{
-    Flush, Machine, MinimumRule, flushed, greatest, least, settled, settled_conversion, settled_fused, settled_signed,
-    settled_unary, settled_unsigned, without_denormal,
+    Flush, Machine, MachineIn, MinimumRule, flushed, greatest, least, settled, settled_conversion, settled_fused,
+    settled_signed, settled_unary, settled_unsigned, without_denormal,
 };
 use rustc_apfloat::more::FloatMore;
 use rustc_apfloat::{Float, FloatConvert, Round, Status, StatusAnd};
@@ -45,7 +45,11 @@ fn is_half<S: Semantics>() -> bool {
 
 impl Control {
     fn machine(&self) -> Machine {
-        if self.word & DN != 0 { Machine::ArmDefaultNan } else { Machine::Arm }
+        if self.word & DN != 0 { Machine::ARM_DEFAULT_NAN } else { Machine::ARM }
+    }
+
+    fn machine_in<S: Semantics>(&self) -> MachineIn<S> {
+        MachineIn::new(self.machine()).expect("tiny before rounding")
     }
 
     fn round(&self) -> Round {
@@ -82,13 +86,13 @@ impl Control {
 fn in_format<S: Semantics>(name: &str, mut control: Control, operands: &[u128]) -> Outcome {
     let mut drawn = operands.iter().map(|&bits| control.operand::<S>(bits)).collect::<Vec<_>>().into_iter();
     let x = drawn.next().expect("an operand");
-    let (machine, round) = (control.machine(), control.round());
+    let (machine, in_format, round) = (control.machine(), control.machine_in(), control.round());
     let mut is_exact = false;
     let valued = |answer: StatusAnd<IeeeFloat<S>>| {
         let answer = control.result(answer);
         control.outcome(answer.value.to_bits(), answer.status)
     };
-    let unary = |answer| valued(settled_unary(machine, x, answer));
+    let unary = |answer| valued(settled_unary(in_format, x, answer));
     match name {
         "fsqrt" => return unary(x.sqrt_r(round)),
         "frinti" => return unary(round_to_integral_in(x, round)),
@@ -108,7 +112,7 @@ fn in_format<S: Semantics>(name: &str, mut control: Control, operands: &[u128]) 
         _ => {}
     }
     let y = drawn.next().expect("two operands");
-    let two = |answer| valued(settled(machine, x, y, answer));
+    let two = |answer| valued(settled(in_format, x, y, answer));
     match name {
         "fadd" => two(x.add_r(y, round)),
         "fsub" => two(x.sub_r(y, round)),
@@ -120,7 +124,7 @@ fn in_format<S: Semantics>(name: &str, mut control: Control, operands: &[u128]) 
         "fmax" => valued(greatest(MinimumRule::Propagated, machine, x, y)),
         "fmadd" | "fmsub" | "fnmadd" | "fnmsub" => {
             let z = drawn.next().expect("three operands");
-            let answer = settled_fused(machine, x, y, z, x.mul_add_r(y, z, round));
+            let answer = settled_fused(in_format, x, y, z, x.mul_add_r(y, z, round));
             valued(answer.expect("Arm has fused sums"))
         }
         _ => compared(&control, if name == "fcmpe" { OnNan::Signaling } else { OnNan::Quiet }, x, y),
@@ -148,7 +152,7 @@ where
     let x = control.operand::<S>(bits);
     let mut loses_info = false;
     let answer = x.convert_r(control.round(), &mut loses_info);
-    let answer = control.result(settled_conversion(control.machine(), x, answer));
+    let answer = control.result(settled_conversion(control.machine_in(), x, answer));
     control.outcome(answer.value.to_bits(), answer.status)
 }
 

@@ -16,8 +16,8 @@ mod arm;
 use rustc_apfloat::comparisons::{OnNan, Predicate, compare, round_to_integral_in};
 use rustc_apfloat::ieee::{DoubleS, HalfS, IeeeFlags, IeeeFloat, Semantics, SingleS, X87DoubleExtendedS};
 use rustc_apfloat::machines::{
-    Flush, Machine, MinimumRule, flushed, greatest, has_denormal, least, settled, settled_conversion, settled_fused,
-    settled_signed, settled_unary, settled_unsigned, without_denormal,
+    Flush, Machine, MachineIn, MinimumRule, flushed, greatest, has_denormal, least, settled, settled_conversion,
+    settled_fused, settled_signed, settled_unary, settled_unsigned, without_denormal,
 };
 use rustc_apfloat::more::FloatMore;
 use rustc_apfloat::{Float, FloatConvert, Round, Status, StatusAnd};
@@ -27,6 +27,16 @@ type Half = IeeeFloat<IeeeFlags<HalfS>>;
 type Single = IeeeFloat<IeeeFlags<SingleS>>;
 type Double = IeeeFloat<IeeeFlags<DoubleS>>;
 type Extended = IeeeFloat<IeeeFlags<X87DoubleExtendedS>>;
+
+/// SSE in a format with flags.
+fn x86<S: Semantics>() -> MachineIn<S> {
+    MachineIn::new(Machine::X86).expect("tiny after rounding")
+}
+
+/// The x87 unit in a format with flags.
+fn x87<S: Semantics>() -> MachineIn<S> {
+    MachineIn::new(Machine::X87).expect("tiny after rounding")
+}
 
 /// In the order of the rounding control of MXCSR and of the control word of x87.
 const MODES: [Round; 4] = [Round::NearestTiesToEven, Round::TowardNegative, Round::TowardPositive, Round::TowardZero];
@@ -235,7 +245,7 @@ impl Control {
         let denormal = has_denormal(x, x);
         let x = self.operand(x);
         let mut loses_info = false;
-        let answer = flushed(settled_conversion(Machine::X86, x, x.convert_r(self.round, &mut loses_info)));
+        let answer = flushed(settled_conversion(x86(), x, x.convert_r(self.round, &mut loses_info)));
         Outcome { value: answer.value.to_bits(), flags: self.flags(answer.status, denormal) }
     }
 }
@@ -297,10 +307,10 @@ macro_rules! sse_operations {
                 });
             };
         }
-        two!("add", "adds", |x, y, c| c.result(settled(Machine::X86, x, y, x.add_r(y, c.round))));
-        two!("sub", "subs", |x, y, c| c.result(settled(Machine::X86, x, y, x.sub_r(y, c.round))));
-        two!("mul", "muls", |x, y, c| c.result(settled(Machine::X86, x, y, x.mul_r(y, c.round))));
-        two!("div", "divs", |x, y, c| c.result(settled(Machine::X86, x, y, x.div_r(y, c.round))));
+        two!("add", "adds", |x, y, c| c.result(settled(x86(), x, y, x.add_r(y, c.round))));
+        two!("sub", "subs", |x, y, c| c.result(settled(x86(), x, y, x.sub_r(y, c.round))));
+        two!("mul", "muls", |x, y, c| c.result(settled(x86(), x, y, x.mul_r(y, c.round))));
+        two!("div", "divs", |x, y, c| c.result(settled(x86(), x, y, x.div_r(y, c.round))));
         two!("min", "mins", |x, y, _c| least(MinimumRule::Second, Machine::X86, x, y));
         two!("max", "maxs", |x, y, _c| greatest(MinimumRule::Second, Machine::X86, x, y));
         tally.rows(concat!($name, " sqrt"), count, || {
@@ -315,7 +325,7 @@ macro_rules! sse_operations {
             // DE only of a root that is not invalid.
             let denormal = has_denormal(x, x);
             let x = control.operand(x);
-            let answer = control.result(settled_unary(Machine::X86, x, x.sqrt_r(control.round)));
+            let answer = control.result(settled_unary(x86(), x, x.sqrt_r(control.round)));
             let ours = Outcome { value: answer.value.to_bits(), flags: control.flags(answer.status, denormal) };
             (here, ours, format!("{:x} {a:x}", control.word))
         });
@@ -334,7 +344,7 @@ macro_rules! sse_operations {
             let (x, y, z) = ($Type::from_bits(b), $Type::from_bits(a), $Type::from_bits(c));
             let denormal = any_denormal(x, y, z);
             let (x, y, z) = (control.operand(x), control.operand(y), control.operand(z));
-            let answer = settled_fused(Machine::X86, x, y, z, x.mul_add_r(y, z, control.round));
+            let answer = settled_fused(x86(), x, y, z, x.mul_add_r(y, z, control.round));
             let answer = control.result(answer.expect("x86 has fused sums"));
             let ours = Outcome { value: answer.value.to_bits(), flags: control.flags(answer.status, denormal) };
             (here, ours, format!("{:x} {a:x} {b:x} {c:x}", control.word))
@@ -352,7 +362,7 @@ macro_rules! sse_operations {
                     let x = control.operand($Type::from_bits(a));
                     let round: fn(Control) -> Round = $round;
                     let rounded: fn($Type, Round) -> StatusAnd<$Type> = $rounded;
-                    let answer = settled_unary(Machine::X86, x, rounded(x, round(control)));
+                    let answer = settled_unary(x86(), x, rounded(x, round(control)));
                     let ours = Outcome { value: answer.value.to_bits(), flags: flags_of(answer.status) };
                     (here, ours, format!("{:x} {a:x}", control.word))
                 });
@@ -505,7 +515,7 @@ fn conversions(tally: &mut Tally, draw: &mut Draw, count: u64) {
         let x = Half::from_bits(a);
         let mut loses_info = false;
         let converted: StatusAnd<Single> = x.convert_r(control.round, &mut loses_info);
-        let answer = settled_conversion(Machine::X86, x, converted);
+        let answer = settled_conversion(x86(), x, converted);
         let ours = Outcome { value: answer.value.to_bits(), flags: flags_of(answer.status) };
         (here, ours, format!("{:x} {a:x}", control.word))
     });
@@ -582,7 +592,7 @@ fn unit(tally: &mut Tally, draw: &mut Draw, count: u64) {
                 );
                 let here = Outcome { value: result.bits(), flags };
                 let ($x, $y) = (Extended::from_bits(a), Extended::from_bits(b));
-                let answer = settled(Machine::X87, $x, $y, $library);
+                let answer = settled(x87(), $x, $y, $library);
                 let flags = with_denormal(flags_of(answer.status), unit_denormal(&[a, b]));
                 (here, Outcome { value: answer.value.to_bits(), flags }, format!("{control:x} {a:x} {b:x}"))
             });
@@ -607,7 +617,7 @@ fn unit(tally: &mut Tally, draw: &mut Draw, count: u64) {
                 );
                 let here = Outcome { value: result.bits(), flags };
                 let $x = Extended::from_bits(a);
-                let answer = settled_unary(Machine::X87, $x, $library);
+                let answer = settled_unary(x87(), $x, $library);
                 let flags = with_denormal(flags_of(answer.status), unit_denormal(&[a]));
                 (here, Outcome { value: answer.value.to_bits(), flags }, format!("{control:x} {a:x}"))
             });
@@ -637,7 +647,7 @@ fn unit(tally: &mut Tally, draw: &mut Draw, count: u64) {
                 let x = Extended::from_bits(a);
                 let mut loses_info = false;
                 let converted: StatusAnd<$Type> = x.convert_r(round, &mut loses_info);
-                let answer = settled_conversion(Machine::X87, x, converted);
+                let answer = settled_conversion(x87(), x, converted);
                 let ours = Outcome { value: answer.value.to_bits(), flags: flags_of(answer.status) };
                 (here, ours, format!("{control:x} {a:x}"))
             });
@@ -662,7 +672,7 @@ fn unit(tally: &mut Tally, draw: &mut Draw, count: u64) {
                 let x = $Type::from_bits(a);
                 let mut loses_info = false;
                 let converted: StatusAnd<Extended> = x.convert_r(round, &mut loses_info);
-                let answer = settled_conversion(Machine::X87, x, converted);
+                let answer = settled_conversion(x87(), x, converted);
                 let flags = with_denormal(flags_of(answer.status), has_denormal(x, x));
                 (here, Outcome { value: answer.value.to_bits(), flags }, format!("{control:x} {a:x}"))
             });

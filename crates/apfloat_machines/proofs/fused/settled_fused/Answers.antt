@@ -3,8 +3,8 @@ use Rattle.apfloat_ieee.specs.FlaggedTypes.{format_of}
 use Rattle.apfloat_machines.proofs.Settling.{fused_is_settled}
 use Rattle.apfloat_machines.proofs.fused.settled_fused.Goals as goal
 
-pub returns-then-has_fused : goal.returns-then-has_fused
-returns-then-has_fused g c = (
+pub returns-then-machine : goal.returns-then-machine
+returns-then-machine g c = (
   search rules,
   record {
     value_is = c.with_nan.ensures.value;

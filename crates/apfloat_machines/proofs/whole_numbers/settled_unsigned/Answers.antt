@@ -1,8 +1,8 @@
 use Rattle.std.proofs.Common.{rules}
 use Rattle.apfloat_machines.proofs.whole_numbers.settled_unsigned.Goals as goal
 
-pub returns-then-has_unsigned : goal.returns-then-has_unsigned
-returns-then-has_unsigned g c = (
+pub returns-then-machine : goal.returns-then-machine
+returns-then-machine g c = (
   search rules,
   record {
     value_is = c.unsigned_answer.ensures.value;

@@ -5,5 +5,5 @@ pub returns : goal.returns
 returns g c =
     let settled = c.settled_conversion.ensures.conversion c.args.round c.convert_r-plain.new.loses_info
     c.convert_r-plain.ensures.converted in
-    rw (sym c.value-x.ensures)
+    rw (sym c.choices.ensures, sym c.value-x.ensures)
     (record { given = c.settled_conversion.result; holds = settled; is_written = c.written.ensures })

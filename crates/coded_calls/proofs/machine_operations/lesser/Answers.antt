@@ -3,5 +3,5 @@ use Rattle.coded_calls.proofs.machine_operations.lesser.Goals as goal
 
 pub returns : goal.returns
 returns g c =
-    rw (sym c.value-x.ensures, sym c.value-y.ensures)
+    rw (sym c.choices.ensures, sym c.value-x.ensures, sym c.value-y.ensures)
     (record { given = c.least.result; holds = c.least.ensures; is_written = c.written.ensures })

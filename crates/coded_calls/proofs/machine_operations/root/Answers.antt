@@ -7,5 +7,5 @@ returns-then-not-fits g c = λ infinite. rw (sym c.fits.ensures, c.if-not-fits.t
 pub returns : goal.returns
 returns g c = λ infinite.
     let settled = (c.settled_unary.ensures.operations infinite).root c.args.round c.sqrt_r.ensures.root in
-    rw (sym c.fits.ensures, c.if-not-fits.false, sym c.value-x.ensures)
+    rw (sym c.fits.ensures, c.if-not-fits.false, sym c.choices.ensures, sym c.value-x.ensures)
     (refl, record { given = c.settled_unary.result; holds = settled; is_written = c.written.ensures })

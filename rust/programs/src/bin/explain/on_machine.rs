@@ -17,7 +17,7 @@ pub fn on_machine<S: Semantics>(
     round: Round,
 ) -> StatusAnd<IeeeFloat<S>> {
     let (a, b, c) = (S::to_bits(x), S::to_bits(y), S::to_bits(z));
-    let answer = if machine.tiny_before_rounding() {
+    let answer = if machine.tiny_before_rounding {
         settled_bits::<IeeeFlags<TinyBefore<S>>>(machine, operation, a, b, c, round)
     } else {
         settled_bits::<IeeeFlags<S>>(machine, operation, a, b, c, round)
@@ -70,6 +70,6 @@ pub fn nan_source<S: Flagged>(
         return Some(NanSource::NoNan);
     }
     let is_invalid = (x.is_zero() && y.is_infinite()) || (x.is_infinite() && y.is_zero());
-    let drops = if z.is_signaling() { machine.drops_signaling_addend() } else { machine.drops_quiet_addend() };
+    let drops = if z.is_signaling() { machine.drops_signaling_addend } else { machine.drops_quiet_addend };
     Some(if is_invalid && drops { NanSource::InvalidProduct } else { NanSource::Operands })
 }

@@ -192,7 +192,7 @@ fn write_nan_source(machine: Machine, operation: Operation, source: NanSource, o
         NanSource::NoNan => writeln!(out, "No operand is a NaN: the result is the default NaN.\n"),
         NanSource::InvalidProduct => writeln!(out, "An infinity times a zero: the default NaN takes the place of C.\n"),
         NanSource::Operands => {
-            write!(out, "{}", choice_of(machine.nan_choice()))?;
+            write!(out, "{}", choice_of(machine.nan_choice))?;
             match operation {
                 Operation::FusedSum => writeln!(out, " Order: {}.\n", order_of(machine)),
                 _ => writeln!(out, "\n"),
@@ -206,6 +206,7 @@ fn choice_of(choice: NanChoice) -> &'static str {
     match choice {
         NanChoice::First => "The first NaN is taken, quieted.",
         NanChoice::SignalingFirst => "The first signaling NaN is taken, else the first NaN, quieted.",
+        NanChoice::SignalingLast => "The last signaling NaN is taken, else the last NaN, quieted.",
         NanChoice::Greater => {
             "The quiet one of two NaNs is taken, else the greater, else the positive one.\n\
              Bits that the unit does not take give the default NaN."
@@ -216,7 +217,7 @@ fn choice_of(choice: NanChoice) -> &'static str {
 
 /// The order in which the operands of a fused sum are looked at.
 fn order_of(machine: Machine) -> &'static str {
-    match machine.fused_order() {
+    match machine.fused_order {
         FusedOrder::FactorsFirst => "A, B, C",
         FusedOrder::AddendFirst => "C, A, B",
         FusedOrder::AddendSecond => "A, C, B",

@@ -36,8 +36,9 @@ a word could have been either, the output says how it was read.
 
 --machine NAME  shows the result as a machine gives it, with its NaN and its
                 flags: x86 x87 arm arm_default_nan arm_alternate risc_v power
-                s390x; in half single double quad bfloat e5m2 x87. A value is
-                the same on each machine
+                s390x arm_alternate_default_nan webassembly ptx mips_2008
+                loongarch sparc m68k; in half single double quad bfloat e5m2
+                x87. A value is the same on each machine
 --svg FILE      draws it into FILE, in SVG, and writes nothing else
 
 --help, -h  writes this text
@@ -71,7 +72,23 @@ const OF_TWO: [(&str, Arithmetic); 6] = [
 ];
 
 /// The words of the machines.
-pub static MACHINES: &[&str] = &["x86", "x87", "arm", "arm_default_nan", "arm_alternate", "risc_v", "power", "s390x"];
+pub static MACHINES: &[&str] = &[
+    "x86",
+    "x87",
+    "arm",
+    "arm_default_nan",
+    "arm_alternate",
+    "risc_v",
+    "power",
+    "s390x",
+    "arm_alternate_default_nan",
+    "webassembly",
+    "ptx",
+    "mips_2008",
+    "loongarch",
+    "sparc",
+    "m68k",
+];
 
 /// The machine of this name.
 fn machine_named(word: &str) -> Option<Machine> {
@@ -232,5 +249,5 @@ fn is_lacking(machine: Machine, format: BuiltInFormat, operation: Operation) -> 
     let is_fused = matches!(operation, Operation::FusedSum);
     IeeeFormat::of(BuiltInKind::OfFormat(format)).is_none()
         || matches!(operation, Operation::Into(_))
-        || (is_fused && !machine.has_fused())
+        || (is_fused && !machine.has_fused)
 }

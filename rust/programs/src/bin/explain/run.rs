@@ -21,7 +21,8 @@ const OPERATION_WORDS: &str = "add sub mul div rem mod fma sqrt e2m1fn e2m3fn e3
 const MODE_WORDS: &str = "even up down zero away";
 
 /// The machines, for messages.
-const MACHINE_WORDS: &str = "x86 x87 arm arm_default_nan arm_alternate risc_v power s390x";
+const MACHINE_WORDS: &str = "x86 x87 arm arm_default_nan arm_alternate risc_v power s390x \
+    arm_alternate_default_nan webassembly ptx mips_2008 loongarch sparc m68k";
 
 /// The formats that machines have, for messages.
 const MACHINE_FORMATS: &str = "half single double quad bfloat e5m2 x87";
@@ -95,7 +96,8 @@ fn write_refusal(fault: Fault, err: &mut impl Write) -> io::Result<()> {
         Fault::Mode(word) => write_unknown("mode", word, MODE_WORDS, MODES, err),
         Fault::Machine(word) => write_unknown("machine", word, MACHINE_WORDS, MACHINES, err),
         Fault::Lacks(word) => {
-            writeln!(err, "explain: no such operation on '{word}' (x87 has no fma; the formats are {MACHINE_FORMATS})")
+            let lacking = "x87 and m68k have no fma";
+            writeln!(err, "explain: no such operation on '{word}' ({lacking}; the formats are {MACHINE_FORMATS})")
         }
         Fault::Value(word) => {
             writeln!(err, "explain: no value '{word}' of the format (hexadecimal bits, or a number such as 0.1)")

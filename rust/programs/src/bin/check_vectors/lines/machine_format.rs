@@ -20,7 +20,8 @@ pub struct MachineFormat {
 }
 
 /// The words of machines, for messages.
-pub const MACHINE_WORDS: &str = "x86, x87, arm, arm_default_nan, arm_alternate, risc_v, power or s390x";
+pub const MACHINE_WORDS: &str = "x86, x87, arm, arm_default_nan, arm_alternate, risc_v, power, s390x, \
+    arm_alternate_default_nan, webassembly, ptx, mips_2008, loongarch, sparc or m68k";
 
 /// The word of the machine that formats name, if it is the word of none.
 pub fn unknown_machine(formats: &str) -> Option<&str> {
@@ -60,7 +61,7 @@ impl MachineFormat {
         let (Some(built_in), Some(format)) = (kind.format(), IeeeFormat::of(kind)) else {
             return None;
         };
-        let flush = match (option, machine.flush()) {
+        let flush = match (option, machine.flush) {
             ("", _) if name == word => None,
             ("ftz", Some(flush)) => Some(flush),
             _ => return None,
@@ -70,7 +71,7 @@ impl MachineFormat {
 
     /// The format with the flags of IEEE 754, which detects tininess as the machine does.
     pub fn with_flags(self) -> RowFormat {
-        let flagged = if self.machine.tiny_before_rounding() {
+        let flagged = if self.machine.tiny_before_rounding {
             FlaggedFormat::BeforeRounding(self.format)
         } else {
             FlaggedFormat::AfterRounding(self.format)
