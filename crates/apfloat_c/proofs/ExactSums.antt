@@ -2,65 +2,42 @@
 use Rattle.std.proofs.Common.{◌≡◌, ℕ, suc, ◌+◌, ◌-◌, ◌*◌, ◌/◌, ◌%◌, ◌<◌, ◌≤◌}
 use Rattle.std.proofs.Common.{lit≤, Bool, true, false, List, Option, Some, None, Ok, Err, Result, refl, sym, ap}
 use Rattle.std.proofs.Common.{◌∙◌, subst, arith}
-use Rattle.std.specs.Prelude.{◌==◌, if◌then◌else◌, ok_or}
 use Rattle.std.proofs.Math.Path.{subst₂}
-use Rattle.std.proofs.lemmas.Bool.{and_parts, eqb-true, false≢true}
-use Rattle.std.proofs.lemmas.Nat.{div-add-mod'}
-use Rattle.rustc_apfloat.specs.declared.Round.{Round}
-use Rattle.rustc_apfloat.specs.declared.StatusAnd.{StatusAnd}
-use Rattle.rustc_apfloat.specs.Datum.{Datum}
-use Rattle.rustc_apfloat.specs.Determined.{Determines}
-use Rattle.rustc_apfloat.specs.Flags.{Gives}
-use Rattle.rustc_apfloat.specs.Format.{Format}
-use Rattle.rustc_apfloat.specs.Lawful.{Constants, format_with}
+use Rattle.std.proofs.lemmas.{Bool.and_parts, Bool.eqb-true, Bool.false≢true, Nat.div-add-mod'}
+use Rattle.std.specs.Prelude.{◌==◌, if◌then◌else◌, ok_or}
+use Rattle.rustc_apfloat.specs.{declared.Round.Round, declared.StatusAnd.StatusAnd, Datum.Datum, Determined.Determines}
+use Rattle.rustc_apfloat.specs.{Flags.Gives, Format.Format, Lawful.Constants, Lawful.format_with}
 use Rattle.apfloat_model.specs.rounding.Outcome.{Outcome}
 use Rattle.exact_reductions.specs.Reductions.{IsReducible, IsTotal, Tally, joined, magnitude_of, magnitude_terms}
 use Rattle.exact_reductions.specs.Reductions.{no_terms, product_terms, tally, tally_of, value_terms}
 use Rattle.exact_reductions.proofs.Laws.{total_once}
 use Rattle.exact_reductions.proofs.Tallies.{IsUnderWay, all_done, none_joined, one_done, product_one, value_one}
-use Rattle.formats_at_run_time.specs.declared.BuiltInFormat.{BuiltInFormat}
-use Rattle.formats_at_run_time.specs.declared.BuiltInFormat.TheVariants.{Half, Single, Double, Quad, BFloat, E5M2}
-use Rattle.formats_at_run_time.specs.declared.BuiltInFormat.TheVariants.{E4M3FN, E4M3FNUZ, X87, E4M3, E5M2FNUZ}
-use Rattle.formats_at_run_time.specs.declared.BuiltInFormat.TheVariants.{E4M3B11FNUZ, TF32}
+use Rattle.formats_at_run_time.specs.declared.BuiltInFormat.{BuiltInFormat, TheVariants.Quad, TheVariants.X87}
 use Rattle.formats_at_run_time.specs.declared.FlaggedFormat.{FlaggedFormat}
 use Rattle.formats_at_run_time.specs.declared.FlaggedFormat.TheVariants.{BuiltIn, AfterRounding, BeforeRounding}
-use Rattle.formats_at_run_time.specs.declared.FlaggedKind.{FlaggedKind}
-use Rattle.formats_at_run_time.specs.declared.FlaggedKind.TheVariants.{OfFormat, Pairs}
+use Rattle.formats_at_run_time.specs.declared.FlaggedKind.{FlaggedKind, TheVariants.OfFormat, TheVariants.Pairs}
 use Rattle.formats_at_run_time.specs.BuiltIns.{constants_in}
 use Rattle.formats_at_run_time.specs.FlaggedKinds.{flagged_constants, format_of_ieee, format_without_rule}
-use Rattle.formats_at_run_time.specs.Relations.{in_format}
-use Rattle.formats_at_run_time.specs.ValueKinds.{value_of}
-use Rattle.apfloat_arrays.specs.Blocks.{value_at}
-use Rattle.apfloat_arrays.specs.Bytes.{number_of}
+use Rattle.formats_at_run_time.specs.{Relations.in_format, ValueKinds.value_of}
 use Rattle.formats_at_run_time.proofs.FormatLaws.{HasLaw, format_law}
+use Rattle.apfloat_arrays.specs.{Blocks.value_at, Bytes.number_of}
 use Rattle.coded_calls.specs.declared.data.Answer.{Answer}
 use Rattle.coded_calls.specs.KnownCalls.{◌>>=◌, no_such_operation}
-use Rattle.apfloat_c.specs.declared.reductions.KnownReduction.{KnownReduction}
-use Rattle.apfloat_c.specs.declared.reductions.Reduction.{Reduction}
+use Rattle.coded_calls.proofs.ExportsOnce.{OnceAnswer, format_determined, unchanged, value_once}
+use Rattle.apfloat_c.specs.declared.reductions.{KnownReduction.KnownReduction, Reduction.Reduction}
 use Rattle.apfloat_c.specs.declared.reductions.Reduction.TheVariants.{Sum, Magnitudes, Products}
 use Rattle.apfloat_c.specs.ArrayCalls.{bytes_in}
 use Rattle.apfloat_c.specs.Reductions.{IsReducedArray, IsReducedCall, IsReducedCallOnce, IsReducedIn, IsReductionOf}
 use Rattle.apfloat_c.specs.Reductions.{fitting_sum, has_exact_sums, known_reduction, sums_fit, term_of, values_from}
 use Rattle.apfloat_c.proofs.ArrayCalls.{if_fitting_ok}
-use Rattle.coded_calls.proofs.ExportsOnce.{OnceAnswer, format_determined, unchanged, value_once}
 
 -- ---- the formats of at most 64 bits
 
 reducible_built_in : (format : BuiltInFormat) → has_exact_sums format ≡ true
     → IsReducible (format_with (constants_in format))
-reducible_built_in Half e = record { short = lit≤ tt; narrow = lit≤ tt }
-reducible_built_in Single e = record { short = lit≤ tt; narrow = lit≤ tt }
-reducible_built_in Double e = record { short = lit≤ tt; narrow = lit≤ tt }
 reducible_built_in Quad e = absurd (false≢true e)
-reducible_built_in BFloat e = record { short = lit≤ tt; narrow = lit≤ tt }
-reducible_built_in E5M2 e = record { short = lit≤ tt; narrow = lit≤ tt }
-reducible_built_in E4M3FN e = record { short = lit≤ tt; narrow = lit≤ tt }
-reducible_built_in E4M3FNUZ e = record { short = lit≤ tt; narrow = lit≤ tt }
 reducible_built_in X87 e = absurd (false≢true e)
-reducible_built_in E4M3 e = record { short = lit≤ tt; narrow = lit≤ tt }
-reducible_built_in E5M2FNUZ e = record { short = lit≤ tt; narrow = lit≤ tt }
-reducible_built_in E4M3B11FNUZ e = record { short = lit≤ tt; narrow = lit≤ tt }
-reducible_built_in TF32 e = record { short = lit≤ tt; narrow = lit≤ tt }
+reducible_built_in format e = record { short = lit≤ tt; narrow = lit≤ tt }
 
 pub reducible : (format : FlaggedFormat) → has_exact_sums (format_without_rule format) ≡ true
     → IsReducible (format_with (flagged_constants format))
@@ -133,14 +110,12 @@ rest_next : (c : Constants) (reduction : Reduction) (width : ℕ) (xs ys : List 
     → rest c reduction width xs ys index (suc count)
     ≡ joined (term_at c reduction width xs ys index) (rest c reduction width xs ys (index + 1) count)
 rest_next c Sum width xs ys index count = refl
-rest_next c Magnitudes width xs ys index count = refl
-rest_next c Products width xs ys index count = refl
+rest_next c reduction width xs ys index count = refl
 
 rest_none : (c : Constants) (reduction : Reduction) (width : ℕ) (xs ys : List ℕ) (index : ℕ)
     → rest c reduction width xs ys index 0 ≡ no_terms
 rest_none c Sum width xs ys index = refl
-rest_none c Magnitudes width xs ys index = refl
-rest_none c Products width xs ys index = refl
+rest_none c reduction width xs ys index = refl
 
 term_one : (c : Constants) (reduction : Reduction) (x y : ℕ) → (tally_of (term_of reduction c x y)).terms ≡ 1
 term_one c Sum x y = value_one (format_with c) (value_of c x)
@@ -199,8 +174,7 @@ of_terms : (reduction : Reduction) (f : Format) (mode : Round) (xs ys : List Dat
     → IsTotal f mode (tally (terms_of reduction f xs ys)) value status
     → IsReductionOf reduction f mode xs ys value status
 of_terms Sum f mode xs ys value status is = is
-of_terms Magnitudes f mode xs ys value status is = is
-of_terms Products f mode xs ys value status is = is
+of_terms reduction f mode xs ys value status is = is
 
 pub all_added : (c : Constants) (reduction : Reduction) (mode : Round) (width : ℕ) (xs ys : List ℕ)
     (count index : ℕ) (done : Tally) (value : Datum) (status : ℕ) → count ≤ index

@@ -2,17 +2,14 @@
 //! squares, and of products.
 
 ghost use Rattle.std.specs.Prelude.{◌≡◌, ◌+◌, ◌*◌, ◌^◌, ◌<◌, ◌≤◌, length, pos};
-ghost use Rattle.rustc_apfloat.specs.FlaggedTypes.{constants_of, format_of};
-ghost use Rattle.rustc_apfloat.specs.Lawful.{format_with};
+ghost use Rattle.rustc_apfloat.specs.{FlaggedTypes.constants_of, FlaggedTypes.format_of, Lawful.format_with};
 ghost use Rattle.exact_reductions.specs.Reductions.{IsReducible, joined, tally_of};
-ghost use Rattle.formats_at_run_time.specs.FlaggedKinds.{flagged_kind_coded};
-ghost use Rattle.formats_at_run_time.specs.FormatKinds.{IfFormat};
-ghost use Rattle.formats_at_run_time.specs.Modes.{mode_coded};
+ghost use Rattle.formats_at_run_time.specs.{FlaggedKinds.flagged_kind_coded, FormatKinds.IfFormat, Modes.mode_coded};
 ghost use Rattle.formats_at_run_time.specs.Relations.{in_format};
 ghost use Rattle.coded_calls.specs.Answers.{IsValueWritten};
 ghost use Rattle.apfloat_c.specs.declared.reductions.Reduction.TheVariants.{Sum, Magnitudes, Products};
-ghost use Rattle.apfloat_c.specs.Reductions.{IsReducedCall, IsReducedCallOnce, IsReducedIn, has_exact_sums};
-ghost use Rattle.apfloat_c.specs.Reductions.{known_reduction, reducible_format, sums_fit, term_of, values_from};
+ghost use Rattle.apfloat_c.specs.Reductions.{IsReducedCall, IsReducedIn, has_exact_sums, known_reduction};
+ghost use Rattle.apfloat_c.specs.Reductions.{reducible_format, sums_fit, term_of, values_from};
 
 use crate::array_calls::bytes_in;
 use crate::elements::number_at;
@@ -50,8 +47,7 @@ pub extern "C" fn apfloat_sum(format: u32, mode: u32, xs: &[u8], answer: &mut An
         let known = known_reduction (flagged_kind_coded format) (mode_coded mode) size size in
         IsReducedCall Sum known xs.now xs.now answer.old answer.new result }
 {
-    let (kind, round) = (FlaggedKind::coded(format), mode_coded(mode));
-    reduce(Reduction::Sum, kind, round, xs, xs, answer)
+    reduce(Reduction::Sum, format, mode, xs, xs, answer)
 }
 
 /// The sum of the magnitudes of the values of an array (IEEE 754-2019 9.4, sumAbs).
@@ -61,8 +57,7 @@ pub extern "C" fn apfloat_sum_abs(format: u32, mode: u32, xs: &[u8], answer: &mu
         let known = known_reduction (flagged_kind_coded format) (mode_coded mode) size size in
         IsReducedCall Magnitudes known xs.now xs.now answer.old answer.new result }
 {
-    let (kind, round) = (FlaggedKind::coded(format), mode_coded(mode));
-    reduce(Reduction::Magnitudes, kind, round, xs, xs, answer)
+    reduce(Reduction::Magnitudes, format, mode, xs, xs, answer)
 }
 
 /// The sum of the squares of the values of an array (IEEE 754-2019 9.4, sumSquare).
@@ -72,8 +67,7 @@ pub extern "C" fn apfloat_sum_square(format: u32, mode: u32, xs: &[u8], answer: 
         let known = known_reduction (flagged_kind_coded format) (mode_coded mode) size size in
         IsReducedCall Products known xs.now xs.now answer.old answer.new result }
 {
-    let (kind, round) = (FlaggedKind::coded(format), mode_coded(mode));
-    reduce(Reduction::Products, kind, round, xs, xs, answer)
+    reduce(Reduction::Products, format, mode, xs, xs, answer)
 }
 
 /// The sum of the products of the values at the same places of two arrays (IEEE 754-2019 9.4, dot).
@@ -89,23 +83,23 @@ pub extern "C" fn apfloat_dot(
         (length xs.now) (length ys.now) in
         IsReducedCall Products known xs.now ys.now answer.old answer.new result }
 {
-    let (kind, round) = (FlaggedKind::coded(format), mode_coded(mode));
-    reduce(Reduction::Products, kind, round, xs, ys, answer)
+    reduce(Reduction::Products, format, mode, xs, ys, answer)
 }
 
-/// The sum, as the decoded arguments ask.
+/// The sum, as the codes ask.
 fn reduce(
     reduction: Reduction,
-    kind: Option<FlaggedKind>,
-    mode: Option<Round>,
+    format: u32,
+    mode: u32,
     xs: &[u8],
     ys: &[u8],
     answer: &mut Answer,
 ) -> u32
-    ensures { let known = known_reduction kind mode (length xs.now) (length ys.now) in
+    ensures { let known = known_reduction (flagged_kind_coded format) (mode_coded mode)
+        (length xs.now) (length ys.now) in
         IsReducedCall reduction known xs.now ys.now answer.old answer.new result }
 {
-    let known = known_reduction(kind, mode, xs.len(), ys.len());
+    let known = known_reduction(format, mode, xs.len(), ys.len());
     match known {
         Err(error) => error,
         Ok(call) => {
@@ -127,17 +121,17 @@ fn reduce(
 
 /// The format and the mode of a sum of arrays of these lengths, or the code of the first error.
 fn known_reduction(
-    kind: Option<FlaggedKind>,
-    mode: Option<Round>,
+    format: u32,
+    mode: u32,
     first: usize,
     second: usize,
 ) -> Result<KnownReduction, u32>
-    ensures { result ≡ known_reduction kind mode first second }
+    ensures { result ≡ known_reduction (flagged_kind_coded format) (mode_coded mode) first second }
 {
-    let Some(kind) = kind else {
+    let Some(kind) = FlaggedKind::coded(format) else {
         return Err(UNKNOWN_FORMAT);
     };
-    let Some(round) = mode else {
+    let Some(round) = mode_coded(mode) else {
         return Err(UNKNOWN_MODE);
     };
     let Some(format) = reducible_format(kind) else {
@@ -272,8 +266,3 @@ fn add_term<S: Flagged>(sum: &mut ExactSum<S>, reduction: Reduction, x: u128, y:
         Reduction::Products => sum.add_product(x, IeeeFloat::<S>::from_bits(y)),
     }
 }
-
-/// Each of these calls has one answer.
-pub fn reductions_have_one_answer()
-    ensures { IsReducedCallOnce }
-{}
