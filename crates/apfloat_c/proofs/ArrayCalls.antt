@@ -1,31 +1,24 @@
 -- What is known about the arguments of a call on arrays that is not refused, and what it leaves.
-use Rattle.std.proofs.Common.{◌≡◌, ℕ, ◌+◌, ◌*◌, ◌/◌, ◌%◌, ◌≤◌, ◌⊎◌, Bool, true, false, List, ◌++◌, length, drop, Option}
-use Rattle.std.proofs.Common.{Some, None, Result, Ok, Err, refl, sym, ◌∙◌, subst, inl, inr, arith}
+use Rattle.std.proofs.Common.{◌≡◌, ℕ, ◌+◌, ◌*◌, ◌/◌, ◌%◌, ◌≤◌, ◌⊎◌, Bool, true}
+use Rattle.std.proofs.Common.{false, List, ◌++◌, length, drop, Option, Some, None, Result, Ok, Err, refl, sym}
+use Rattle.std.proofs.Common.{◌∙◌, subst, inl, inr, arith}
+use Rattle.std.proofs.{Math.Nat.mul-le-mul_right, lemmas.Bool.and_parts}
+use Rattle.std.proofs.lemmas.{Bool.eqb-true, Bool.leb-true, List.take_at, Nat.div-add-mod', Slice.drop-append-drop}
 use Rattle.std.specs.Prelude.{◌&&◌, ◌==◌, if◌then◌else◌, ok_or}
-use Rattle.std.proofs.Math.Nat.{mul-le-mul_right}
-use Rattle.std.proofs.lemmas.Bool.{and_parts, eqb-true, leb-true}
-use Rattle.std.proofs.lemmas.List.{take_at}
-use Rattle.std.proofs.lemmas.Nat.{div-add-mod'}
-use Rattle.std.proofs.lemmas.Slice.{drop-append-drop}
 use Rattle.rustc_apfloat.specs.declared.Round.{Round}
-use Rattle.formats_at_run_time.specs.declared.FlaggedKind.{FlaggedKind}
-use Rattle.apfloat_arrays.specs.declared.Counts.{Counts}
-use Rattle.apfloat_arrays.specs.declared.Widths.{Widths}
-use Rattle.apfloat_arrays.specs.Blocks.{IsBlock}
-use Rattle.apfloat_c.specs.declared.array_calls.ArrayFormat.{ArrayFormat}
-use Rattle.apfloat_c.specs.declared.array_calls.ConversionMode.{ConversionMode}
-use Rattle.apfloat_c.specs.declared.array_calls.ElementOperation.{ElementOperation}
-use Rattle.apfloat_c.specs.declared.array_calls.KnownConversion.{KnownConversion}
+use Rattle.formats_at_run_time.specs.{declared.FlaggedKind.FlaggedKind, FlaggedKinds.flagged_kind_coded}
+use Rattle.formats_at_run_time.specs.Modes.{mode_coded}
+use Rattle.apfloat_arrays.specs.{declared.Counts.Counts, declared.Widths.Widths, Blocks.IsBlock}
+use Rattle.apfloat_c.specs.declared.array_calls.{ArrayFormat.ArrayFormat, ConversionMode.ConversionMode}
+use Rattle.apfloat_c.specs.declared.array_calls.{ElementOperation.ElementOperation, KnownConversion.KnownConversion}
 use Rattle.apfloat_c.specs.declared.array_calls.MapCall.{MapCall}
-use Rattle.apfloat_c.specs.declared.array_data.ArrayAnswer.{ArrayAnswer}
-use Rattle.apfloat_c.specs.declared.array_data.ElementCounts.{ElementCounts}
-use Rattle.coded_calls.specs.KnownCalls.{◌>>=◌, no_such_operation}
-use Rattle.apfloat_c.specs.ArrayCalls.{bytes_in, conversion_between, conversion_widths, fitting}
-use Rattle.apfloat_c.specs.ArrayCalls.{has_element_operation, if_fitting}
+use Rattle.apfloat_c.specs.declared.array_data.{ArrayAnswer.ArrayAnswer, ElementCounts.ElementCounts}
+use Rattle.apfloat_c.specs.ArrayCalls.{array_format_coded, bytes_in, conversion_between, conversion_mode_coded}
+use Rattle.apfloat_c.specs.ArrayCalls.{conversion_widths, fitting, operation_coded, has_element_operation, if_fitting}
 use Rattle.apfloat_c.specs.ArrayCalls.{known_array_conversion, known_map, lengths_fit, operand_length, operands_fit}
-use Rattle.apfloat_c.specs.ArrayCalls.{operands_of}
-use Rattle.apfloat_c.specs.Arrays.{AreValuesConverted, AreElements, AreMapped, IsConvertedArray, IsMappedArray}
-use Rattle.apfloat_c.specs.Arrays.{IsValueConverted, answer_with}
+use Rattle.apfloat_c.specs.{ArrayCalls.operands_of, Arrays.AreValuesConverted, Arrays.AreElements}
+use Rattle.apfloat_c.specs.Arrays.{AreMapped, IsConvertedArray, IsMappedArray, IsValueConverted, answer_with}
+use Rattle.coded_calls.specs.KnownCalls.{◌>>=◌, no_such_operation}
 
 -- ---- lengths that fit
 
@@ -225,20 +218,23 @@ map_left known map width xs ys zs old front counted before after width_is known_
 
 -- ---- widths in a variable
 
-pub conversion_room : (source : Option ArrayFormat) (mode : Option ConversionMode) (target : Option ArrayFormat)
-    (given room : ℕ) (conversion : KnownConversion) (widths : Widths) → widths ≡ conversion_widths conversion
-    → known_array_conversion source mode target given room ≡ Ok conversion
-    → AreRoomy widths.source widths.target given room
-conversion_room source mode target given room conversion widths widths_are known_is =
+pub conversion_room : (format mode to given room : ℕ) (conversion : KnownConversion) (widths : Widths)
+    → widths ≡ conversion_widths conversion
+    → known_array_conversion (array_format_coded format) (conversion_mode_coded mode) (array_format_coded to) given
+    room ≡ Ok conversion → AreRoomy widths.source widths.target given room
+conversion_room format mode to given room conversion widths widths_are known_is =
     subst (λ (w : Widths). AreRoomy w.source w.target given room) (sym widths_are)
-    (conversion_fits source mode target given room conversion known_is)
+    (conversion_fits (array_format_coded format) (conversion_mode_coded mode) (array_format_coded to) given room
+    conversion known_is)
 
-pub map_room : (kind : Option FlaggedKind) (mode : Option Round) (operation : Option ElementOperation)
-    (first second third room : ℕ) (map : MapCall) (width : ℕ) → width ≡ bytes_in map.kind
-    → known_map kind mode operation (first, second, third) room ≡ Ok map → AreRoomy width width first room
-map_room kind mode operation first second third room map width width_is known_is =
+pub map_room : (format mode operation first second third room : ℕ) (map : MapCall) (width : ℕ)
+    → width ≡ bytes_in map.kind
+    → known_map (flagged_kind_coded format) (mode_coded mode) (operation_coded operation) (first, second, third) room
+    ≡ Ok map → AreRoomy width width first room
+map_room format mode operation first second third room map width width_is known_is =
     subst (λ (w : ℕ). AreRoomy w w first room) (sym width_is)
-    (map_is_known kind mode operation first second third room map known_is).roomy
+    (map_is_known (flagged_kind_coded format) (mode_coded mode) (operation_coded operation) first second third room
+    map known_is).roomy
 
 -- the bytes of the first operands are an integral number of elements
 pub first_whole : (first width bytes room : ℕ) → width ≡ bytes → AreRoomy width width first room

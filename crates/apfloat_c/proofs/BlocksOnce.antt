@@ -1,26 +1,20 @@
 -- A call on blocks leaves one code, and determines what it writes.
-use Rattle.std.proofs.Common.{◌≡◌, ℕ, ◌*◌, ◌%◌, ◌^◌, ◌<◌, List, [], ◌∷◌, length}
-use Rattle.std.proofs.Common.{Some, None, Ok, Err, refl, sym, ap}
-use Rattle.std.proofs.Common.{◌∙◌, subst, arith, lit≤}
+use Rattle.std.proofs.Common.{◌≡◌, ℕ, ◌*◌, ◌%◌, ◌^◌, ◌<◌, List, [], ◌∷◌, length, Some}
+use Rattle.std.proofs.Common.{None, Ok, Err, refl, sym, ap, ◌∙◌, subst, arith, lit≤}
 use Rattle.std.specs.Prelude.{⊤, All, Option, Result}
-use Rattle.apfloat_arrays.specs.declared.Counts.{Counts}
-use Rattle.apfloat_arrays.specs.Bytes.{AreBytes}
+use Rattle.apfloat_arrays.specs.declared.{Counts.Counts, scaled_blocks.ArrayError.ArrayError}
+use Rattle.apfloat_arrays.specs.declared.scaled_blocks.{Dequantization.Dequantization, Quantization.Quantization}
+use Rattle.apfloat_arrays.specs.{Bytes.AreBytes, scaled_blocks.OneArray.AreLeftIn}
+use Rattle.apfloat_arrays.proofs.scaled_blocks_lemmas.OneArray.{dequantized_once, quantized_once}
 use Rattle.small_formats.specs.declared.packing.PackingError.{PackingError}
 use Rattle.small_formats.specs.declared.packing.PackingError.TheVariants.{Uneven, Lengths, CodeTooWide}
-use Rattle.small_formats.specs.packing.Laws.{ArePackedOnce}
-use Rattle.small_formats.specs.packing.Packed.{IsPackedBy, IsUnpackedBy}
-use Rattle.small_formats.proofs.packing_lemmas.All.{all_cons, all_none}
 use Rattle.small_formats.specs.declared.blocks.ElementFormat.{ElementFormat}
-use Rattle.small_formats.specs.declared.blocks.ElementFormat.TheVariants.{E5M2, E4M3FN, E3M2FN, E2M3FN, E2M1FN}
+use Rattle.small_formats.specs.declared.blocks.ElementFormat.TheVariants.{E3M2FN, E2M3FN, E2M1FN}
+use Rattle.small_formats.specs.packing.{Laws.ArePackedOnce, Packed.IsPackedBy, Packed.IsUnpackedBy}
+use Rattle.small_formats.proofs.packing_lemmas.All.{all_cons, all_none}
 use Rattle.small_formats.proofs.blocks_lemmas.OneBlock.{not_both}
-use Rattle.apfloat_arrays.specs.declared.scaled_blocks.ArrayError.{ArrayError}
-use Rattle.apfloat_arrays.specs.declared.scaled_blocks.Dequantization.{Dequantization}
-use Rattle.apfloat_arrays.specs.declared.scaled_blocks.Quantization.{Quantization}
-use Rattle.apfloat_arrays.specs.scaled_blocks.OneArray.{AreLeftIn}
-use Rattle.apfloat_arrays.proofs.scaled_blocks_lemmas.OneArray.{dequantized_once, quantized_once}
-use Rattle.apfloat_c.specs.declared.array_data.ArrayAnswer.{ArrayAnswer}
-use Rattle.apfloat_c.specs.Blocks.{IsDequantizedReply, IsPackingCall, IsPackingReply, IsQuantizedReply, IsReply}
-use Rattle.apfloat_c.specs.Blocks.{packing_code}
+use Rattle.apfloat_c.specs.{declared.array_data.ArrayAnswer.ArrayAnswer, Blocks.IsDequantizedReply}
+use Rattle.apfloat_c.specs.Blocks.{IsPackingCall, IsPackingReply, IsQuantizedReply, IsReply, packing_code}
 use Rattle.apfloat_c.specs.OneAnswer.{IsDequantizedCallOnce, IsLeftIn, IsPackedCallOnce, IsQuantizedCallOnce}
 use Rattle.apfloat_c.specs.OneAnswer.{IsUnpackedCallOnce}
 
@@ -172,14 +166,13 @@ call_once : (Says : ℕ → ℕ → List ℕ → List ℕ → List ℕ → Resul
     → IsLeftIn old first → IsLeftIn old second → IsPackingCall Says element given old first code
     → IsPackingCall Says element given old second other → (code ≡ other) × (first ≡ second)
 call_once Says sixes fours None given old first second code other a b x y = (x.0 ∙ sym y.0, x.1 ∙ sym y.1)
-call_once Says sixes fours (Some E5M2) given old first second code other a b x y = (x.0 ∙ sym y.0, x.1 ∙ sym y.1)
-call_once Says sixes fours (Some E4M3FN) given old first second code other a b x y = (x.0 ∙ sym y.0, x.1 ∙ sym y.1)
 call_once Says sixes fours (Some E3M2FN) given old first second code other a b x y =
     reply_once (Says 6 4) sixes given old first second code other a b x y
 call_once Says sixes fours (Some E2M3FN) given old first second code other a b x y =
     reply_once (Says 6 4) sixes given old first second code other a b x y
 call_once Says sixes fours (Some E2M1FN) given old first second code other a b x y =
     reply_once (Says 4 2) fours given old first second code other a b x y
+call_once Says sixes fours (Some element) given old first second code other a b x y = (x.0 ∙ sym y.0, x.1 ∙ sym y.1)
 
 pub packed_call_once : ArePackedOnce → IsPackedCallOnce
 packed_call_once once =

@@ -1,11 +1,8 @@
 -- Digits and hexadecimal texts are written in one way: one code, the same bytes, and one result.
-use Rattle.std.proofs.Common.{◌≡◌, ℕ, ℤ, List, length, Option, Result, Ok, Err, refl, sym, ap, ◌∙◌, subst, arith}
-use Rattle.rustc_apfloat.specs.declared.StatusAnd.{StatusAnd}
-use Rattle.rustc_apfloat.specs.declared.Round.{Round}
-use Rattle.rustc_apfloat.specs.Datum.{Datum}
-use Rattle.rustc_apfloat.specs.Flags.{bits_of}
-use Rattle.rustc_apfloat.specs.Format.{Format}
-use Rattle.rustc_apfloat.specs.Lawful.{format_with}
+use Rattle.std.proofs.Common.{◌≡◌, ℕ, ℤ, List, length, Option, Result, Ok, Err, refl, sym, ap, ◌∙◌}
+use Rattle.std.proofs.Common.{subst, arith}
+use Rattle.rustc_apfloat.specs.declared.{StatusAnd.StatusAnd, Round.Round}
+use Rattle.rustc_apfloat.specs.{Datum.Datum, Flags.bits_of, Format.Format, Lawful.format_with}
 use Rattle.apfloat_model.specs.whole_numbers.WholeNumbers.{inexact_unless}
 use Rattle.apfloat_digits.specs.declared.decimal.written.Written.{Written}
 use Rattle.apfloat_digits.specs.declared.decimal.written.Written.TheVariants.{Digits, WithoutDigits, NoRoom}
@@ -13,19 +10,13 @@ use Rattle.apfloat_digits.specs.declared.hexadecimal.written.HexError.{HexError}
 use Rattle.apfloat_digits.specs.declared.hexadecimal.written.HexError.TheVariants.{NoRoom as NoRoomForText}
 use Rattle.apfloat_digits.specs.declared.hexadecimal.written.HexError.TheVariants.{TooManyDigits}
 use Rattle.apfloat_digits.specs.hexadecimal.WrittenTexts.{IsPut, IsWrittenRounded}
-use Rattle.apfloat_digits.proofs.decimal_lemmas.OneCount.{one_answer}
-use Rattle.apfloat_digits.proofs.decimal_lemmas.RoundedTexts.{one_written}
-use Rattle.apfloat_digits.proofs.hexadecimal_lemmas.NanPayloads.{one_full}
-use Rattle.apfloat_digits.proofs.hexadecimal_lemmas.Roundings.{one_text}
-use Rattle.formats_at_run_time.specs.declared.BuiltInFormat.{BuiltInFormat}
-use Rattle.formats_at_run_time.specs.BuiltIns.{constants_in}
-use Rattle.formats_at_run_time.specs.ValueKinds.{value_of}
-use Rattle.coded_calls.specs.declared.data.Answer.{Answer}
-use Rattle.apfloat_c.specs.Digits.{AreDigitsLeft, AreDigitsWrittenOnce, IsCountGivenOnce, IsCounted}
-use Rattle.apfloat_c.specs.Digits.{IsHexPutOnce, IsHexTold, IsRoundedHexPutOnce}
-use Rattle.apfloat_c.specs.Digits.{IsRoundedHexTold, IsWritingTold, count_told}
-use Rattle.coded_calls.specs.OneReply.{SameAnswer}
+use Rattle.apfloat_digits.proofs.decimal_lemmas.{OneCount.one_answer, RoundedTexts.one_written}
+use Rattle.apfloat_digits.proofs.hexadecimal_lemmas.{NanPayloads.one_full, Roundings.one_text}
+use Rattle.formats_at_run_time.specs.{declared.BuiltInFormat.BuiltInFormat, BuiltIns.constants_in, ValueKinds.value_of}
+use Rattle.coded_calls.specs.{declared.data.Answer.Answer, OneReply.SameAnswer}
 use Rattle.coded_calls.proofs.ExportsOnce.{unchanged}
+use Rattle.apfloat_c.specs.Digits.{AreDigitsLeft, AreDigitsWrittenOnce, IsCountGivenOnce, IsCounted, IsHexPutOnce}
+use Rattle.apfloat_c.specs.Digits.{IsHexTold, IsRoundedHexPutOnce, IsRoundedHexTold, IsWritingTold, count_told}
 
 counted_once : (size other status also : ℕ) (exponent : ℤ) (first second : Answer) → size ≡ other
     → status ≡ also

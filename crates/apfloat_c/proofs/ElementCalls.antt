@@ -1,26 +1,21 @@
 -- One more element of an operation on arrays, and the bytes of its result.
-use Rattle.std.proofs.Common.{◌≡◌, ℕ, ◌+◌, ◌-◌, ◌*◌, ◌^◌, ◌<◌, List, [], ◌∷◌, ◌++◌, length, sym, subst, ap, ◌∙◌, lit≤}
+use Rattle.std.proofs.Common.{◌≡◌, ℕ, ◌+◌, ◌-◌, ◌*◌, ◌^◌, ◌<◌, ◌≤◌, ◌⊎◌, List, []}
+use Rattle.std.proofs.Common.{◌∷◌, ◌++◌, length, sym, subst, ap, ◌∙◌, inl, inr, lit≤}
+use Rattle.std.proofs.{Math.Path.subst₃, lemmas.List.length_push}
 use Rattle.std.specs.Prelude.{slice_range}
-use Rattle.std.proofs.Math.Path.{subst₃}
-use Rattle.std.proofs.lemmas.List.{length_push}
-use borrow.Rule.Slice.PartMut.{put_mid}
 use Rattle.rustc_apfloat.specs.declared.Round.{Round}
-use Rattle.formats_at_run_time.specs.declared.FlaggedKind.{FlaggedKind}
-use Rattle.formats_at_run_time.specs.declared.FlaggedKind.TheVariants.{OfFormat, Pairs}
+use Rattle.formats_at_run_time.specs.declared.FlaggedKind.{FlaggedKind, TheVariants.OfFormat, TheVariants.Pairs}
 use Rattle.formats_at_run_time.specs.FlaggedKinds.{flagged_constants, flagged_kind_of}
 use Rattle.apfloat_arrays.specs.Bytes.{number_of}
-use Rattle.apfloat_arrays.proofs.LittleEndian.{fits}
-use Rattle.apfloat_arrays.proofs.Places.{count_push, places_more}
-use Rattle.apfloat_arrays.proofs.WidthBounds.{flagged_room}
-use Rattle.coded_calls.specs.declared.data.Answer.{Answer}
-use Rattle.apfloat_c.specs.declared.array_calls.ElementOperation.{ElementOperation}
-use Rattle.apfloat_c.specs.declared.array_calls.ElementOperation.TheVariants.{OfTwo, FusedSum, SquareRoot}
-use Rattle.apfloat_c.specs.declared.array_calls.MapCall.{MapCall}
-use Rattle.apfloat_c.specs.declared.array_data.Element.{Element}
-use Rattle.apfloat_c.specs.declared.array_data.ElementCounts.{ElementCounts}
-use Rattle.coded_calls.specs.Answers.{IsKindAnswer, whole}
-use Rattle.apfloat_c.specs.ArrayCalls.{bytes_in}
-use Rattle.apfloat_c.specs.Arrays.{AreElements, IsElement, IsElementAt, became_nan, call_of, counts_of, raised, with_element}
+use Rattle.apfloat_arrays.proofs.{LittleEndian.fits, WidthBounds.flagged_room}
+use Rattle.apfloat_arrays.proofs.Places.{count_push, place_below, places_more}
+use Rattle.coded_calls.specs.{declared.data.Answer.Answer, Answers.IsKindAnswer, Answers.whole}
+use Rattle.apfloat_c.specs.declared.array_calls.ElementOperation.{ElementOperation, TheVariants.FusedSum}
+use Rattle.apfloat_c.specs.declared.array_calls.{ElementOperation.TheVariants.SquareRoot, MapCall.MapCall}
+use Rattle.apfloat_c.specs.declared.array_data.{Element.Element, ElementCounts.ElementCounts}
+use Rattle.apfloat_c.specs.{ArrayCalls.bytes_in, Arrays.AreElements}
+use Rattle.apfloat_c.specs.Arrays.{IsElement, IsElementAt, became_nan, call_of, counts_of, raised, with_element}
+use borrow.Rule.Slice.PartMut.{put_mid}
 
 -- counting one more element counts the list with that element
 counts_push : (elements : List Element) (element : Element)
@@ -34,6 +29,13 @@ counts_push elements element =
     let invalid = count_push (raised 1) elements element in
     let nans = count_push became_nan elements element in
     cc
+
+-- the bytes of a place are those of an array that has any
+pub place_within : (index count width size : ℕ) → (size ≡ 0) ⊎ (size ≡ count * width) → index < count
+    → (size ≡ 0) ⊎ (index * width + width ≤ size)
+place_within index count width size (inl none) before = inl none
+place_within index count width size (inr all) before =
+    inr (subst (λ (n : ℕ). index * width + width ≤ n) (sym all) (place_below index count width before))
 
 -- one more element is computed in its place
 pub elements_more : (map : MapCall) (xs ys zs : List ℕ) (width index count : ℕ) (x y z : ℕ) (bytes new : List ℕ)
@@ -73,17 +75,12 @@ elements_more map xs ys zs width index count x y z bytes new counted element is 
 pub result_fits : (kind : FlaggedKind) (mode : Round) (operation : ElementOperation) (x y z : ℕ) (answer : Answer)
     → IsKindAnswer (flagged_kind_of kind) mode (call_of operation x y z) answer
     → whole answer.bits < 256 ^ bytes_in kind
-result_fits (OfFormat format) mode (OfTwo arithmetic) x y z answer is =
-    fits (whole answer.bits) (flagged_constants format).bits (bytes_in (OfFormat format))
-    is.is_written.is_encoded.below (flagged_room format)
-result_fits (OfFormat format) mode FusedSum x y z answer is =
-    fits (whole answer.bits) (flagged_constants format).bits (bytes_in (OfFormat format))
-    is.is_written.is_encoded.below (flagged_room format)
+result_fits Pairs mode FusedSum x y z answer is = absurd is
+result_fits Pairs mode operation x y z answer is =
+    fits (whole answer.bits) 128 16 is.is_written.is_encoded.below (lit≤ tt)
 result_fits (OfFormat format) mode SquareRoot x y z answer is =
     fits (whole answer.bits) (flagged_constants format).bits (bytes_in (OfFormat format))
     is.is_written.is_encoded.below (flagged_room format)
-result_fits Pairs mode (OfTwo arithmetic) x y z answer is =
-    fits (whole answer.bits) 128 16 is.is_written.is_encoded.below (lit≤ tt)
-result_fits Pairs mode FusedSum x y z answer is = absurd is
-result_fits Pairs mode SquareRoot x y z answer is =
-    fits (whole answer.bits) 128 16 is.is_written.is_encoded.below (lit≤ tt)
+result_fits (OfFormat format) mode operation x y z answer is =
+    fits (whole answer.bits) (flagged_constants format).bits (bytes_in (OfFormat format))
+    is.is_written.is_encoded.below (flagged_room format)

@@ -18,10 +18,7 @@ use Rattle.exact_reductions.specs.Reductions.{IsReducible, IsTotal, Tally, joine
 use Rattle.exact_reductions.specs.Reductions.{no_terms, product_terms, tally, tally_of, value_terms}
 use Rattle.exact_reductions.proofs.Laws.{total_once}
 use Rattle.exact_reductions.proofs.Tallies.{IsUnderWay, all_done, none_joined, one_done, product_one, value_one}
-use Rattle.formats_at_run_time.specs.declared.BuiltInFormat.{BuiltInFormat}
-use Rattle.formats_at_run_time.specs.declared.BuiltInFormat.TheVariants.{Half, Single, Double, Quad, BFloat, E5M2}
-use Rattle.formats_at_run_time.specs.declared.BuiltInFormat.TheVariants.{E4M3FN, E4M3FNUZ, X87, E4M3, E5M2FNUZ}
-use Rattle.formats_at_run_time.specs.declared.BuiltInFormat.TheVariants.{E4M3B11FNUZ, TF32}
+use Rattle.formats_at_run_time.specs.declared.BuiltInFormat.{BuiltInFormat, TheVariants.Quad}
 use Rattle.formats_at_run_time.specs.declared.FlaggedFormat.{FlaggedFormat}
 use Rattle.formats_at_run_time.specs.declared.FlaggedFormat.TheVariants.{BuiltIn, AfterRounding, BeforeRounding}
 use Rattle.formats_at_run_time.specs.declared.FlaggedKind.{FlaggedKind}
@@ -47,19 +44,8 @@ use Rattle.coded_calls.proofs.ExportsOnce.{OnceAnswer, format_determined, unchan
 -- ---- the formats
 
 reducible_built_in : (format : BuiltInFormat) → IsReducible (format_with (constants_in format))
-reducible_built_in Half = record { room = lit≤ tt; few = lit≤ tt }
-reducible_built_in Single = record { room = lit≤ tt; few = lit≤ tt }
-reducible_built_in Double = record { room = lit≤ tt; few = lit≤ tt }
 reducible_built_in Quad = record { room = lit≤ tt; few = lit≤ tt }
-reducible_built_in BFloat = record { room = lit≤ tt; few = lit≤ tt }
-reducible_built_in E5M2 = record { room = lit≤ tt; few = lit≤ tt }
-reducible_built_in E4M3FN = record { room = lit≤ tt; few = lit≤ tt }
-reducible_built_in E4M3FNUZ = record { room = lit≤ tt; few = lit≤ tt }
-reducible_built_in X87 = record { room = lit≤ tt; few = lit≤ tt }
-reducible_built_in E4M3 = record { room = lit≤ tt; few = lit≤ tt }
-reducible_built_in E5M2FNUZ = record { room = lit≤ tt; few = lit≤ tt }
-reducible_built_in E4M3B11FNUZ = record { room = lit≤ tt; few = lit≤ tt }
-reducible_built_in TF32 = record { room = lit≤ tt; few = lit≤ tt }
+reducible_built_in format = record { room = lit≤ tt; few = lit≤ tt }
 
 pub reducible : (format : FlaggedFormat) → IsReducible (format_with (flagged_constants format))
 reducible (BuiltIn format) = reducible_built_in format

@@ -1,18 +1,16 @@
 -- Decimals are read with every rule of flags, in one way.
 use Rattle.std.proofs.Common.{◌≡◌, ℕ, List, Option, Some, Ok, Err, sym, ◌∙◌}
-use Rattle.rustc_apfloat.specs.declared.Round.{Round}
-use Rattle.rustc_apfloat.specs.Lawful.{format_with}
+use Rattle.rustc_apfloat.specs.{declared.Round.Round, Lawful.format_with}
 use Rattle.apfloat_decimals.specs.Decimals.{HasQuadExponents}
 use Rattle.formats_at_run_time.specs.declared.FlaggedFormat.{FlaggedFormat}
 use Rattle.formats_at_run_time.specs.declared.FlaggedFormat.TheVariants.{BuiltIn, AfterRounding, BeforeRounding}
 use Rattle.formats_at_run_time.specs.declared.FlaggedKind.{FlaggedKind}
 use Rattle.formats_at_run_time.specs.FlaggedKinds.{flagged_constants, flagged_kind_of, format_of_ieee}
 use Rattle.coded_calls.specs.declared.data.Answer.{Answer}
+use Rattle.coded_calls.proofs.ExportsOnce.{kind_law, unchanged}
 use Rattle.apfloat_c.specs.Decimals.{IsReadInto}
 use Rattle.apfloat_c.specs.Readings.{IsDecimalRead, IsDecimalReadOnce, known_text}
-use Rattle.apfloat_c.proofs.DecimalReadings.{exponents_within}
-use Rattle.coded_calls.proofs.ExportsOnce.{kind_law, unchanged}
-use Rattle.apfloat_c.proofs.ParsedOnce.{read_into_once}
+use Rattle.apfloat_c.proofs.{DecimalReadings.exponents_within, ParsedOnce.read_into_once}
 
 -- the exponents of a format do not depend on its rule of flags
 pub flagged_exponents : (format : FlaggedFormat) → HasQuadExponents (format_with (flagged_constants format))

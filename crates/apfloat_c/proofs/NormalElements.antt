@@ -1,34 +1,19 @@
 -- Elements whose operands and result are normal numbers.
-use Rattle.std.proofs.Common.{◌≡◌, ℕ, ◌*◌, ◌/◌, ◌%◌, ◌^◌, ◌<◌, ◌≤◌, pos, false, List, sym, refl, ap, ◌∙◌, subst}
-use Rattle.std.proofs.Common.{arith, lit≤}
-use Rattle.rustc_apfloat.specs.Classes.{is_nan}
-use Rattle.rustc_apfloat.specs.Datum.{Datum}
-use Rattle.rustc_apfloat.specs.Flags.{bits_of}
-use Rattle.rustc_apfloat.specs.Lawful.{Constants, format_with, layout_with}
-use Rattle.rustc_apfloat.specs.Layout.{IsEncodedBy}
-use Rattle.rustc_apfloat.specs.declared.Round.{Round}
-use Rattle.rustc_apfloat.specs.declared.Status.{Status}
-use Rattle.formats_at_run_time.specs.declared.Arithmetic.{Arithmetic}
-use Rattle.formats_at_run_time.specs.declared.Arithmetic.TheVariants.{Sum, Difference, Product, Quotient}
-use Rattle.formats_at_run_time.specs.declared.Arithmetic.TheVariants.{NearestRemainder, TruncatedRemainder}
-use Rattle.formats_at_run_time.specs.declared.FlaggedKind.{FlaggedKind}
-use Rattle.formats_at_run_time.specs.declared.FlaggedKind.TheVariants.{OfFormat, Pairs}
-use Rattle.formats_at_run_time.specs.FlaggedKinds.{flagged_kind_of}
-use Rattle.formats_at_run_time.specs.OfTwo.{IsOfTwo}
-use Rattle.formats_at_run_time.specs.Relations.{in_format}
+use Rattle.std.proofs.Common.{◌≡◌, ℕ, ◌*◌, ◌/◌, ◌%◌, ◌^◌, ◌<◌, ◌≤◌, pos, false, List}
+use Rattle.std.proofs.Common.{sym, refl, ap, ◌∙◌, subst, arith, lit≤}
+use Rattle.rustc_apfloat.specs.{Classes.is_nan, Datum.Datum, Flags.bits_of, Lawful.Constants, Lawful.format_with}
+use Rattle.rustc_apfloat.specs.{Lawful.layout_with, Layout.IsEncodedBy, declared.Round.Round, declared.Status.Status}
+use Rattle.formats_at_run_time.specs.declared.Arithmetic.{Arithmetic, TheVariants.Sum}
+use Rattle.formats_at_run_time.specs.declared.FlaggedKind.{FlaggedKind, TheVariants.OfFormat, TheVariants.Pairs}
+use Rattle.formats_at_run_time.specs.{FlaggedKinds.flagged_kind_of, OfTwo.IsOfTwo, Relations.in_format}
 use Rattle.formats_at_run_time.specs.ValueKinds.{bits_in, of_format, value_of}
 use Rattle.apfloat_arrays.specs.Bytes.{number_of}
-use Rattle.apfloat_arrays.proofs.LittleEndian.{fits}
-use Rattle.fast_bits.specs.declared.encoded.Encoded.{Encoded}
-use Rattle.fast_bits.specs.Encoded.{IsNumberAnswer}
-use Rattle.apfloat_c.specs.declared.array_calls.ElementOperation.TheVariants.{OfTwo}
-use Rattle.apfloat_c.specs.declared.array_calls.MapCall.{MapCall}
-use Rattle.apfloat_c.specs.declared.array_data.Element.{Element}
-use Rattle.coded_calls.specs.declared.data.Halves.{Halves}
-use Rattle.coded_calls.specs.Answers.{IsKindAnswer, whole}
-use Rattle.apfloat_c.specs.ArrayCalls.{bytes_in}
+use Rattle.apfloat_arrays.proofs.{LittleEndian.fits, WidthBounds.flagged_room}
+use Rattle.fast_bits.specs.{declared.encoded.Encoded.Encoded, Encoded.IsNumberAnswer}
+use Rattle.apfloat_c.specs.declared.array_calls.{ElementOperation.TheVariants.OfTwo, MapCall.MapCall}
+use Rattle.apfloat_c.specs.{declared.array_data.Element.Element, ArrayCalls.bytes_in}
 use Rattle.apfloat_c.specs.Arrays.{IsElement, call_of, relation_of_two}
-use Rattle.apfloat_arrays.proofs.WidthBounds.{flagged_room}
+use Rattle.coded_calls.specs.{declared.data.Halves.Halves, Answers.IsKindAnswer, Answers.whole}
 
 -- the bits of a value of a kind fit in the bytes of an element
 kind_fits : (kind : FlaggedKind) → bits_in (flagged_kind_of kind) ≤ 8 * bytes_in kind
@@ -55,11 +40,7 @@ of_two : (c : Constants) (arithmetic : Arithmetic) (mode : Round) (x y value : D
     → relation_of_two c arithmetic mode x y value (bits_of status)
     → IsOfTwo (in_format c) arithmetic mode x y (record { status = status; value = value })
 of_two c Sum mode x y value status given = given
-of_two c Difference mode x y value status given = given
-of_two c Product mode x y value status given = given
-of_two c Quotient mode x y value status given = given
-of_two c NearestRemainder mode x y value status given = given
-of_two c TruncatedRemainder mode x y value status given = given
+of_two c arithmetic mode x y value status given = given
 
 -- a number in bits is the element that a call gives
 normal_in_format : (c : Constants) (mode : Round) (arithmetic : Arithmetic) (x y : ℕ) (encoded : Encoded)

@@ -1,39 +1,27 @@
 -- Conversions of pairs of doubles and their fused sums have one result each.
-use Rattle.std.proofs.Common.{◌≡◌, ℕ, Bool, Option, None, Some, Ok, Err, Result, refl, sym, ap, ◌∙◌, subst, lit<}
+use Rattle.std.proofs.Common.{◌≡◌, ℕ, Bool, Option, None, Some, Ok, Err, Result, refl, sym, ap, ◌∙◌}
+use Rattle.std.proofs.{Common.subst, Common.lit<, lemmas.Bool.true≢false}
 use Rattle.std.specs.Prelude.{option_map}
-use Rattle.std.proofs.lemmas.Bool.{true≢false}
 use Rattle.rustc_apfloat.specs.declared.Category.TheVariants.{Infinity as Infinite, NaN}
-use Rattle.rustc_apfloat.specs.Classes.{is_nan_category}
-use Rattle.rustc_apfloat.specs.Predicates.{is_infinite_category}
+use Rattle.rustc_apfloat.specs.{declared.Round.Round, declared.StatusAnd.StatusAnd, Classes.is_nan_category}
+use Rattle.rustc_apfloat.specs.{Predicates.is_infinite_category, Datum.Datum, Determined.Determines}
+use Rattle.rustc_apfloat.specs.{Determined.DeterminesBoth, Format.Format, Lawful.format_with, PairAnswers.HasOneAnswer}
+use Rattle.rustc_apfloat.specs.{Pairs.Pair, double_double_operations.PairConversions.IsPairFrom}
+use Rattle.rustc_apfloat.specs.double_double_operations.{PairConversions.IsPairTo, PairFusedSums.IsPairFusedSum}
 use Rattle.apfloat_decimals.specs.declared.decimal.Decimal.{Decimal}
 use Rattle.apfloat_digits.specs.of_double_doubles.PairShortest.{GivesPairShortest}
-use Rattle.apfloat_c.specs.declared.decimals.DecimalText.{DecimalText}
-use Rattle.apfloat_c.specs.declared.decimals.Shortest.{Shortest}
+use Rattle.apfloat_c.specs.declared.decimals.{DecimalText.DecimalText, Shortest.Shortest}
 use Rattle.apfloat_c.specs.declared.decimals.Shortest.TheVariants.{Number, Infinity, Nan}
 use Rattle.apfloat_c.specs.Decimals.{text_of_shortest}
-use Rattle.apfloat_c.proofs.TextsOnce.{one_struct}
-use Rattle.rustc_apfloat.specs.declared.Round.{Round}
-use Rattle.rustc_apfloat.specs.declared.StatusAnd.{StatusAnd}
-use Rattle.rustc_apfloat.specs.Datum.{Datum}
-use Rattle.rustc_apfloat.specs.Determined.{Determines, DeterminesBoth}
-use Rattle.rustc_apfloat.specs.Format.{Format}
-use Rattle.rustc_apfloat.specs.Lawful.{format_with}
-use Rattle.rustc_apfloat.specs.PairAnswers.{HasOneAnswer}
-use Rattle.rustc_apfloat.specs.Pairs.{Pair}
-use Rattle.rustc_apfloat.specs.double_double_operations.PairConversions.{IsPairFrom, IsPairTo}
-use Rattle.rustc_apfloat.specs.double_double_operations.PairFusedSums.{IsPairFusedSum}
-use Rattle.apfloat_model.proofs.Determined.{gives_once}
-use Rattle.apfloat_pair_theory.proofs.calls.PairsDetermined.{pairs_determined}
-use Rattle.formats_at_run_time.specs.BuiltIns.{constants_in}
-use Rattle.formats_at_run_time.specs.FlaggedKinds.{flagged_constants}
-use Rattle.formats_at_run_time.specs.Relations.{in_format, in_pairs}
-use Rattle.formats_at_run_time.specs.ValueKinds.{value_of}
-use Rattle.formats_at_run_time.proofs.FormatLaws.{format_law}
-use Rattle.coded_calls.specs.Answers.{IsValue}
-use Rattle.coded_calls.specs.declared.data.Answer.{Answer}
-use Rattle.coded_calls.specs.OneReply.{SameAnswer}
 use Rattle.apfloat_c.specs.Pairs.{ArePairCallsOnce, IsPairConverted, IsPairFusedCall, IsPairMade, KnownSource}
 use Rattle.apfloat_c.specs.Pairs.{IsPairShortestWritten, IsPairText, IsPairTextTold, KnownTarget, pair_of}
+use Rattle.apfloat_c.proofs.TextsOnce.{one_struct}
+use Rattle.apfloat_model.proofs.Determined.{gives_once}
+use Rattle.apfloat_pair_theory.proofs.calls.PairsDetermined.{pairs_determined}
+use Rattle.formats_at_run_time.specs.{BuiltIns.constants_in, FlaggedKinds.flagged_constants, Relations.in_format}
+use Rattle.formats_at_run_time.specs.{Relations.in_pairs, ValueKinds.value_of}
+use Rattle.formats_at_run_time.proofs.FormatLaws.{format_law}
+use Rattle.coded_calls.specs.{Answers.IsValue, declared.data.Answer.Answer, OneReply.SameAnswer}
 use Rattle.coded_calls.proofs.ExportsOnce.{OnceAnswer, format_determined, unchanged, value_once}
 
 -- if a relation has one pair with one status, it leaves one result

@@ -1,24 +1,21 @@
 -- A decimal text is read in one way: one code, and one result.
-use Rattle.std.proofs.Common.{◌≡◌, ℕ, true, false, List, Option, None, Some, Ok, Err, sym, ◌∙◌, subst, inl, inr, lit<}
+use Rattle.std.proofs.Common.{◌≡◌, ℕ, true, false, List, Option, None, Some, Ok, Err, sym, ◌∙◌, subst}
+use Rattle.std.proofs.Common.{inl, inr, lit<}
 use Rattle.std.specs.Prelude.{IsTrue, is_some}
-use Rattle.rustc_apfloat.specs.declared.Round.{Round}
-use Rattle.rustc_apfloat.specs.Flags.{bits_of}
-use Rattle.rustc_apfloat.specs.Lawful.{format_with}
-use Rattle.rustc_apfloat.specs.PairFormats.{wide}
+use Rattle.rustc_apfloat.specs.{declared.Round.Round, Flags.bits_of, Lawful.format_with, PairFormats.wide}
 use Rattle.apfloat_model.specs.declared.parse_error.Fault.{Fault}
 use Rattle.apfloat_model.proofs.Determined.{gives_once}
 use Rattle.apfloat_pair_theory.proofs.calls.PairsDetermined.{pairs_determined}
 use Rattle.apfloat_decimals.specs.DecimalTexts.{decimal_fault_of}
 use Rattle.apfloat_decimals.proofs.spelled.OneReading.{decimal_reading_once, reading_no_fault}
 use Rattle.apfloat_digits.proofs.of_double_doubles_lemmas.OneReading.{pair_decimal_reading_once}
-use Rattle.formats_at_run_time.specs.BuiltIns.{kind_of}
-use Rattle.formats_at_run_time.specs.Relations.{in_format, in_pairs}
+use Rattle.formats_at_run_time.specs.{BuiltIns.kind_of, Relations.in_format, Relations.in_pairs}
 use Rattle.formats_at_run_time.specs.ValueKinds.{Kind, of_format, of_pairs}
-use Rattle.coded_calls.specs.declared.data.Answer.{Answer}
+use Rattle.coded_calls.specs.{declared.data.Answer.Answer, OneReply.SameAnswer}
+use Rattle.coded_calls.proofs.ExportsOnce.{KindHasLaw, built_in_kind_law, OnceAnswer, format_determined, unchanged}
+use Rattle.coded_calls.proofs.ExportsOnce.{value_once}
 use Rattle.apfloat_c.specs.Decimals.{IsDecimalAnswer, IsDecimalOutcome, IsReadInto}
 use Rattle.apfloat_c.specs.OneAnswer.{IsParsedOnce}
-use Rattle.coded_calls.specs.OneReply.{SameAnswer}
-use Rattle.coded_calls.proofs.ExportsOnce.{KindHasLaw, built_in_kind_law, OnceAnswer, format_determined, unchanged, value_once}
 
 -- a text has one result
 decimal_answer_once : (kind : Kind) → KindHasLaw kind → (mode : Round) (text : List ℕ)

@@ -1,18 +1,13 @@
 -- Arrays that are rounded into storage formats by the modes of conversions.
-use Rattle.std.proofs.Common.{◌≡◌, ℕ, ◌+◌, ◌*◌, ◌/◌, ◌%◌, ◌≤◌, Bool, true, false, List, ◌++◌, length, take, drop}
-use Rattle.std.proofs.Common.{Result, Ok, Err, refl, sym, ap, subst, arith}
+use Rattle.std.proofs.Common.{◌≡◌, ℕ, ◌+◌, ◌*◌, ◌/◌, ◌%◌, ◌≤◌, Bool, true, false, List}
+use Rattle.std.proofs.Common.{◌++◌, length, take, drop, Result, Ok, Err, refl, sym, ap, subst, arith}
+use Rattle.std.proofs.lemmas.{Bool.and_parts, Bool.eqb-true, List.take_at, Nat.div-add-mod', Slice.drop-append-drop}
 use Rattle.std.specs.Prelude.{◌==◌}
-use Rattle.std.proofs.lemmas.Bool.{and_parts, eqb-true}
-use Rattle.std.proofs.lemmas.List.{take_at}
-use Rattle.std.proofs.lemmas.Nat.{div-add-mod'}
-use Rattle.std.proofs.lemmas.Slice.{drop-append-drop}
-use Rattle.apfloat_arrays.specs.declared.Counts.{Counts}
-use Rattle.apfloat_arrays.specs.declared.stored.EachRound.{EachRound}
+use Rattle.apfloat_arrays.specs.declared.{Counts.Counts, stored.EachRound.EachRound}
 use Rattle.apfloat_arrays.specs.declared.stored.EachRound.TheVariants.{Ieee, ToOdd, Stochastic}
 use Rattle.apfloat_arrays.specs.declared.stored.ModeConversion.{ModeConversion}
 use Rattle.apfloat_arrays.specs.stored.ByMode.{AreStoredWith, HasRandoms, mode_width}
-use Rattle.apfloat_c.specs.declared.array_data.ArrayAnswer.{ArrayAnswer}
-use Rattle.apfloat_c.specs.ArrayCalls.{if_fitting, lengths_fit}
+use Rattle.apfloat_c.specs.{declared.array_data.ArrayAnswer.ArrayAnswer, ArrayCalls.if_fitting, ArrayCalls.lengths_fit}
 use Rattle.apfloat_c.specs.Arrays.{answer_with}
 use Rattle.apfloat_c.specs.StorageModes.{AreAllStored, IsModeArray, arrays_fit, known_mode_array, randoms_fit}
 use Rattle.apfloat_c.proofs.ArrayCalls.{roomy}

@@ -1,24 +1,15 @@
 -- A call that rounds into a storage format by a mode of conversions has one answer.
 use Rattle.std.proofs.Common.{◌≡◌, ℕ, List, take, Ok, Err, sym, ap, subst, ◌∙◌, mul-one}
 use Rattle.rustc_apfloat.specs.Flags.{bits_of}
-use Rattle.apfloat_arrays.specs.declared.Counts.{Counts}
-use Rattle.apfloat_arrays.specs.declared.Outcome.{Outcome}
-use Rattle.apfloat_arrays.specs.declared.stored.ModeConversion.{ModeConversion}
-use Rattle.apfloat_arrays.specs.Blocks.{value_at}
-use Rattle.apfloat_arrays.specs.Bytes.{number_of}
-use Rattle.apfloat_arrays.specs.Outcomes.{counts_of}
+use Rattle.apfloat_arrays.specs.declared.{Counts.Counts, Outcome.Outcome, stored.ModeConversion.ModeConversion}
+use Rattle.apfloat_arrays.specs.{Blocks.value_at, Bytes.number_of, Outcomes.counts_of}
 use Rattle.apfloat_arrays.specs.stored.ByMode.{IsStoredAt, mode_width, random_of}
 use Rattle.apfloat_arrays.proofs.PlacesOnce.{FixesPlaces, bytes_take, places_once}
 use Rattle.apfloat_arrays.proofs.stored_lemmas.ByModeOnce.{AreOnce, stored_with_once}
-use Rattle.coded_calls.specs.declared.data.Answer.{Answer}
-use Rattle.coded_calls.specs.Answers.{one_if}
-use Rattle.apfloat_c.specs.declared.array_data.ArrayAnswer.{ArrayAnswer}
-use Rattle.apfloat_c.specs.Arrays.{answer_with}
-use Rattle.apfloat_c.specs.OneAnswer.{IsLeftIn}
-use Rattle.coded_calls.specs.OneReply.{SameAnswer}
+use Rattle.coded_calls.specs.{declared.data.Answer.Answer, Answers.one_if, OneReply.SameAnswer}
+use Rattle.apfloat_c.specs.{declared.array_data.ArrayAnswer.ArrayAnswer, Arrays.answer_with, OneAnswer.IsLeftIn}
 use Rattle.apfloat_c.specs.StorageModes.{AreAllStored, IsModeAnswer, IsModeArrayOnce, IsModeReplyOnce}
-use Rattle.apfloat_c.proofs.ArraysOnce.{same_front_size, same_whole}
-use Rattle.apfloat_c.proofs.StorageOnce.{same_answer}
+use Rattle.apfloat_c.proofs.{ArraysOnce.same_front_size, ArraysOnce.same_whole, StorageOnce.same_answer}
 
 mode_answer_once : AreOnce → (it : ModeConversion) (random bits : ℕ) (first second : Answer)
     → IsModeAnswer it random bits first → IsModeAnswer it random bits second → SameAnswer first second

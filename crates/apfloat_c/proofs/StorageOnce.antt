@@ -1,12 +1,9 @@
 -- A call that converts one value into a storage format or out of it has one answer.
 use Rattle.std.proofs.Common.{◌≡◌, ℕ, Ok, Err, sym, ap, ◌∙◌}
 use Rattle.rustc_apfloat.specs.Flags.{bits_of}
-use Rattle.apfloat_arrays.specs.declared.Outcome.{Outcome}
-use Rattle.apfloat_arrays.specs.declared.stored.StorageArray.{StorageArray}
+use Rattle.apfloat_arrays.specs.declared.{Outcome.Outcome, stored.StorageArray.StorageArray}
 use Rattle.apfloat_arrays.proofs.stored_lemmas.NumbersOnce.{converted_number_once}
-use Rattle.coded_calls.specs.declared.data.Answer.{Answer}
-use Rattle.coded_calls.specs.Answers.{one_if, whole}
-use Rattle.coded_calls.specs.OneReply.{SameAnswer}
+use Rattle.coded_calls.specs.{declared.data.Answer.Answer, Answers.one_if, Answers.whole, OneReply.SameAnswer}
 use Rattle.apfloat_c.specs.StorageValues.{IsStorageAnswer, IsStorageReplyOnce}
 
 pub same_answer : (first second : Answer) → first ≡ second → SameAnswer first second

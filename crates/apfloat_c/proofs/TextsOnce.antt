@@ -1,17 +1,12 @@
 -- The text of a value is determined by its bits: one code, and one text.
-use Rattle.std.proofs.Common.{◌≡◌, ℕ, zero, suc, ◌-◌, ◌<◌, Bool, true, false, List, ◌++◌, length, replicate, Err, Ok}
-use Rattle.std.proofs.Common.{Result, refl, sym, ap, ◌∙◌, arith}
+use Rattle.std.proofs.Common.{◌≡◌, ℕ, zero, suc, ◌-◌, ◌<◌, Bool, true, false, List, ◌++◌, length}
+use Rattle.std.proofs.Common.{replicate, Err, Ok, refl, sym, ap, ◌∙◌, arith}
 use Rattle.std.specs.Prelude.{nat_le, MatchOption, Option, Some, None}
-use Rattle.rustc_apfloat.specs.Datum.{Datum, finite, infinite, nan}
-use Rattle.rustc_apfloat.specs.Format.{Format}
-use Rattle.rustc_apfloat.specs.Lawful.{format_with}
-use Rattle.apfloat_decimals.specs.declared.decimal.Decimal.{Decimal}
-use Rattle.apfloat_decimals.specs.ShortestSearch.{IsShortestOf}
-use Rattle.apfloat_decimals.specs.Texts.{decimal_text}
+use Rattle.rustc_apfloat.specs.{Datum.Datum, Datum.finite, Datum.infinite, Datum.nan, Format.Format, Lawful.format_with}
+use Rattle.apfloat_decimals.specs.{declared.decimal.Decimal.Decimal, ShortestSearch.IsShortestOf, Texts.decimal_text}
 use Rattle.apfloat_decimals.proofs.shortest_decimals.OneShortest.{one_shortest}
-use Rattle.formats_at_run_time.specs.declared.BuiltInFormat.{BuiltInFormat}
-use Rattle.formats_at_run_time.specs.BuiltIns.{constants_in, known_format}
-use Rattle.formats_at_run_time.specs.ValueKinds.{value_of}
+use Rattle.formats_at_run_time.specs.{declared.BuiltInFormat.BuiltInFormat, BuiltIns.constants_in}
+use Rattle.formats_at_run_time.specs.{BuiltIns.known_format, ValueKinds.value_of}
 use Rattle.apfloat_c.specs.declared.decimals.DecimalText.{DecimalText}
 use Rattle.apfloat_c.specs.About.{IsTold, error_text, greatest_code}
 use Rattle.apfloat_c.specs.Decimals.{IsShownText, IsText, IsTextWritten, IsValueText, whole_decimal}

@@ -1,29 +1,22 @@
 -- What a call on arrays asks for, or its error.
-use Rattle.std.specs.Prelude.{ℕ, ◌/◌, ◌%◌, ◌==◌, nat_le, Bool, true, false, ◌&&◌, if◌then◌else◌, Option, Some, None}
-use Rattle.std.specs.Prelude.{ok_or, option_and_then, Result, Ok, Err}
+use Rattle.std.specs.Prelude.{ℕ, ◌/◌, ◌%◌, ◌==◌, nat_le, Bool, true, false, ◌&&◌, if◌then◌else◌}
+use Rattle.std.specs.Prelude.{Option, Some, None, ok_or, option_and_then, Result, Ok, Err}
 use Rattle.rustc_apfloat.specs.declared.Round.{Round}
 use Rattle.formats_at_run_time.specs.declared.Arithmetic.TheVariants.{Sum, Difference, Product, Quotient}
 use Rattle.formats_at_run_time.specs.declared.Arithmetic.TheVariants.{NearestRemainder, TruncatedRemainder}
-use Rattle.formats_at_run_time.specs.declared.FlaggedKind.{FlaggedKind}
-use Rattle.formats_at_run_time.specs.declared.FlaggedKind.TheVariants.{OfFormat, Pairs}
+use Rattle.formats_at_run_time.specs.declared.FlaggedKind.{FlaggedKind, TheVariants.OfFormat, TheVariants.Pairs}
 use Rattle.formats_at_run_time.specs.FlaggedKinds.{flagged_kind_coded, format_without_rule}
 use Rattle.formats_at_run_time.specs.Modes.{mode_coded}
 use Rattle.small_formats.specs.declared.saturation.Overflow.TheVariants.{Rounded, Saturated, Finite}
 use Rattle.small_formats.specs.declared.saturation.FiniteNan.TheVariants.{Kept, Largest}
-use Rattle.apfloat_arrays.specs.declared.Extended.TheVariants.{Packed}
-use Rattle.apfloat_arrays.specs.declared.Widths.{Widths}
-use Rattle.apfloat_arrays.specs.Widths.{array_widths, width_of}
-use Rattle.apfloat_arrays.specs.declared.stored.Ends.{Ends}
+use Rattle.apfloat_arrays.specs.declared.{Extended.TheVariants.Packed, Widths.Widths, stored.Ends.Ends}
 use Rattle.apfloat_arrays.specs.declared.stored.Ends.TheVariants.{Into, OutOf}
-use Rattle.apfloat_arrays.specs.declared.stored.StoredFormat.{StoredFormat}
-use Rattle.apfloat_arrays.specs.stored.Arrays.{widths_of}
-use Rattle.apfloat_arrays.specs.stored.Formats.{stored_format_coded}
-use Rattle.apfloat_c.specs.declared.array_calls.ArrayFormat.{ArrayFormat}
-use Rattle.apfloat_c.specs.declared.array_calls.ArrayFormat.TheVariants.{OfKind, OfStorage}
+use Rattle.apfloat_arrays.specs.{declared.stored.StoredFormat.StoredFormat, Widths.array_widths, Widths.width_of}
+use Rattle.apfloat_arrays.specs.stored.{Arrays.widths_of, Formats.stored_format_coded}
+use Rattle.apfloat_c.specs.declared.array_calls.ArrayFormat.{ArrayFormat, TheVariants.OfKind, TheVariants.OfStorage}
 use Rattle.apfloat_c.specs.declared.array_calls.KnownConversion.{KnownConversion}
 use Rattle.apfloat_c.specs.declared.array_calls.KnownConversion.TheVariants.{BuiltIn, Storage}
-use Rattle.apfloat_c.specs.declared.array_calls.ConversionMode.{ConversionMode}
-use Rattle.apfloat_c.specs.declared.array_calls.ElementOperation.{ElementOperation}
+use Rattle.apfloat_c.specs.declared.array_calls.{ConversionMode.ConversionMode, ElementOperation.ElementOperation}
 use Rattle.apfloat_c.specs.declared.array_calls.ElementOperation.TheVariants.{OfTwo, FusedSum, SquareRoot}
 use Rattle.apfloat_c.specs.declared.array_calls.MapCall.{MapCall}
 use Rattle.coded_calls.specs.KnownCalls.{◌>>=◌, no_such_operation, unknown_format, unknown_mode}

@@ -1,32 +1,22 @@
 -- Calls on arrays in blocks with a common scale.
-use Rattle.std.specs.Prelude.{◌≡◌, ℕ, ◌-◌, ◌==◌, ltb, ⊤, if◌then◌else◌, List, length, Option, Some, None}
-use Rattle.std.specs.Prelude.{ok_or}
-use Rattle.std.specs.Prelude.{Result, Ok, Err}
+use Rattle.std.specs.Prelude.{◌≡◌, ℕ, ◌-◌, ◌==◌, ltb, ⊤, if◌then◌else◌, List, length, Option}
+use Rattle.std.specs.Prelude.{Some, None, ok_or, Result, Ok, Err}
 use Rattle.rustc_apfloat.specs.declared.Round.{Round}
-use Rattle.formats_at_run_time.specs.declared.FlaggedKind.{FlaggedKind}
-use Rattle.formats_at_run_time.specs.declared.FlaggedKind.TheVariants.{OfFormat, Pairs}
-use Rattle.formats_at_run_time.specs.FlaggedKinds.{format_without_rule}
-use Rattle.formats_at_run_time.specs.Modes.{mode_coded}
-use Rattle.apfloat_arrays.specs.declared.Counts.{Counts}
+use Rattle.formats_at_run_time.specs.declared.FlaggedKind.{FlaggedKind, TheVariants.OfFormat, TheVariants.Pairs}
+use Rattle.formats_at_run_time.specs.{FlaggedKinds.format_without_rule, Modes.mode_coded}
+use Rattle.apfloat_arrays.specs.declared.{Counts.Counts, scaled_blocks.ArrayError.ArrayError}
+use Rattle.apfloat_arrays.specs.declared.scaled_blocks.ArrayError.TheVariants.{TensorScale, CodeTooWide}
+use Rattle.apfloat_arrays.specs.declared.scaled_blocks.BlockFormat.{BlockFormat, TheVariants.Mx, TheVariants.Nvfp4}
+use Rattle.apfloat_arrays.specs.declared.scaled_blocks.{Quantization.Quantization, Dequantization.Dequantization}
+use Rattle.apfloat_arrays.specs.scaled_blocks.Dequantized.{IsDequantizedArray, width_out}
+use Rattle.apfloat_arrays.specs.scaled_blocks.{Lengths.blocks_in, Quantized.IsQuantizedArray, Quantized.width_in}
 use Rattle.small_formats.specs.declared.packing.PackingError.{PackingError}
 use Rattle.small_formats.specs.declared.packing.PackingError.TheVariants.{CodeTooWide as WideCode}
-use Rattle.small_formats.specs.packing.Packed.{IsPackedBy, IsUnpackedBy}
-use Rattle.small_formats.specs.declared.blocks.ScaleRule.{ScaleRule}
-use Rattle.small_formats.specs.declared.blocks.ScaleRule.TheVariants.{Floor, Ceil, Even}
-use Rattle.small_formats.specs.declared.blocks.ElementFormat.{ElementFormat}
+use Rattle.small_formats.specs.declared.blocks.ScaleRule.{ScaleRule, TheVariants.Floor, TheVariants.Ceil}
+use Rattle.small_formats.specs.declared.blocks.{ScaleRule.TheVariants.Even, ElementFormat.ElementFormat}
 use Rattle.small_formats.specs.declared.blocks.ElementFormat.TheVariants.{E5M2, E4M3FN, E3M2FN, E2M3FN, E2M1FN}
-use Rattle.apfloat_arrays.specs.declared.scaled_blocks.ArrayError.{ArrayError}
-use Rattle.apfloat_arrays.specs.declared.scaled_blocks.ArrayError.TheVariants.{TensorScale, CodeTooWide}
-use Rattle.apfloat_arrays.specs.declared.scaled_blocks.BlockFormat.{BlockFormat}
-use Rattle.apfloat_arrays.specs.declared.scaled_blocks.BlockFormat.TheVariants.{Mx, Nvfp4}
-use Rattle.apfloat_arrays.specs.declared.scaled_blocks.Quantization.{Quantization}
-use Rattle.apfloat_arrays.specs.declared.scaled_blocks.Dequantization.{Dequantization}
-use Rattle.apfloat_arrays.specs.scaled_blocks.Dequantized.{IsDequantizedArray, width_out}
-use Rattle.apfloat_arrays.specs.scaled_blocks.Lengths.{blocks_in}
-use Rattle.apfloat_arrays.specs.scaled_blocks.Quantized.{IsQuantizedArray, width_in}
-use Rattle.apfloat_c.specs.declared.array_data.ArrayAnswer.{ArrayAnswer}
-use Rattle.apfloat_c.specs.ArrayCalls.{wrong_length}
-use Rattle.apfloat_c.specs.Arrays.{answer_with}
+use Rattle.small_formats.specs.packing.Packed.{IsPackedBy, IsUnpackedBy}
+use Rattle.apfloat_c.specs.{declared.array_data.ArrayAnswer.ArrayAnswer, ArrayCalls.wrong_length, Arrays.answer_with}
 use Rattle.coded_calls.specs.KnownCalls.{◌>>=◌, answered, no_such_operation, unknown_format, unknown_mode}
 use Rattle.coded_calls.specs.MachineCalls.{wide_operand}
 

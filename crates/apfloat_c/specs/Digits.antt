@@ -1,25 +1,18 @@
 -- Values written in decimal digits of any count and in hexadecimal ones, into bytes that are lent.
 use Rattle.std.specs.Prelude.{◌≡◌, ℕ, ℤ, pos, List, length, Option, Some, None, ok_or, Result, Ok, Err}
-use Rattle.rustc_apfloat.specs.declared.Round.{Round}
-use Rattle.rustc_apfloat.specs.declared.StatusAnd.{StatusAnd}
-use Rattle.rustc_apfloat.specs.Flags.{bits_of}
-use Rattle.rustc_apfloat.specs.Lawful.{format_with}
+use Rattle.rustc_apfloat.specs.{declared.Round.Round, declared.StatusAnd.StatusAnd, Flags.bits_of, Lawful.format_with}
 use Rattle.apfloat_digits.specs.declared.decimal.written.Written.{Written}
 use Rattle.apfloat_digits.specs.declared.decimal.written.Written.TheVariants.{Digits, WithoutDigits, NoRoom}
 use Rattle.apfloat_digits.specs.declared.hexadecimal.written.HexError.{HexError}
-use Rattle.apfloat_digits.specs.decimal.DigitCounts.{GivesDigitCount}
-use Rattle.apfloat_digits.specs.decimal.WrittenDigits.{IsWritten}
-use Rattle.apfloat_digits.specs.hexadecimal.PayloadTexts.{IsFullyWritten}
-use Rattle.apfloat_digits.specs.hexadecimal.WrittenTexts.{IsWrittenRounded}
-use Rattle.formats_at_run_time.specs.declared.BuiltInFormat.{BuiltInFormat}
-use Rattle.formats_at_run_time.specs.declared.FlaggedKind.{FlaggedKind}
+use Rattle.apfloat_digits.specs.decimal.{DigitCounts.GivesDigitCount, WrittenDigits.IsWritten}
+use Rattle.apfloat_digits.specs.hexadecimal.{PayloadTexts.IsFullyWritten, WrittenTexts.IsWrittenRounded}
+use Rattle.formats_at_run_time.specs.declared.{BuiltInFormat.BuiltInFormat, FlaggedKind.FlaggedKind}
 use Rattle.formats_at_run_time.specs.BuiltIns.{constants_in}
 use Rattle.formats_at_run_time.specs.ValueKinds.{Kind, of_format, of_pairs, value_of}
-use Rattle.coded_calls.specs.declared.data.Answer.{Answer}
-use Rattle.coded_calls.specs.Answers.{whole}
+use Rattle.coded_calls.specs.{declared.data.Answer.Answer, Answers.whole}
 use Rattle.coded_calls.specs.KnownCalls.{◌>>=◌, answered, text_format, unknown_format, unknown_mode}
-use Rattle.apfloat_c.specs.ArrayCalls.{wrong_length}
 use Rattle.coded_calls.specs.OneReply.{SameAnswer}
+use Rattle.apfloat_c.specs.ArrayCalls.{wrong_length}
 
 pub record KnownWriting : Type 0 where
   pub format : BuiltInFormat

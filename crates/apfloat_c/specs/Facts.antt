@@ -1,12 +1,8 @@
 -- What a format is, by its code.
 use Rattle.std.specs.Prelude.{◌≡◌, ℕ, Result, Ok, Err}
-use Rattle.formats_at_run_time.specs.declared.BuiltInFormat.{BuiltInFormat}
-use Rattle.formats_at_run_time.specs.BuiltIns.{constants_in}
-use Rattle.apfloat_arrays.specs.declared.widths.Extended.TheVariants.{Packed}
-use Rattle.apfloat_arrays.specs.Widths.{width_of}
-use Rattle.coded_calls.specs.declared.facts.Facts.{Facts}
-use Rattle.coded_calls.specs.Facts.{AreFacts, SameFacts}
-use Rattle.coded_calls.specs.KnownCalls.{answered}
+use Rattle.formats_at_run_time.specs.{declared.BuiltInFormat.BuiltInFormat, BuiltIns.constants_in}
+use Rattle.apfloat_arrays.specs.{declared.widths.Extended.TheVariants.Packed, Widths.width_of}
+use Rattle.coded_calls.specs.{declared.facts.Facts.Facts, Facts.AreFacts, Facts.SameFacts, KnownCalls.answered}
 
 -- the code 0 and the facts, or the code of the error and the previous contents
 abbrev pub AreFactsWritten : Result BuiltInFormat ℕ → Facts → Facts → ℕ → Type 0

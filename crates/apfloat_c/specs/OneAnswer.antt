@@ -2,19 +2,14 @@
 use Rattle.std.specs.Prelude.{◌≡◌, ℕ, List, length, Option, Result}
 use Rattle.formats_at_run_time.specs.declared.BuiltInFormat.{BuiltInFormat}
 use Rattle.apfloat_arrays.specs.Bytes.{AreBytes}
+use Rattle.apfloat_arrays.specs.declared.scaled_blocks.{Dequantization.Dequantization, Quantization.Quantization}
 use Rattle.small_formats.specs.declared.blocks.ElementFormat.{ElementFormat}
-use Rattle.apfloat_arrays.specs.declared.scaled_blocks.Dequantization.{Dequantization}
-use Rattle.apfloat_arrays.specs.declared.scaled_blocks.Quantization.{Quantization}
-use Rattle.apfloat_c.specs.declared.array_calls.KnownConversion.{KnownConversion}
-use Rattle.apfloat_c.specs.declared.array_calls.MapCall.{MapCall}
-use Rattle.apfloat_c.specs.declared.array_data.ArrayAnswer.{ArrayAnswer}
-use Rattle.coded_calls.specs.declared.data.Answer.{Answer}
-use Rattle.apfloat_c.specs.declared.decimals.DecimalText.{DecimalText}
-use Rattle.apfloat_c.specs.About.{IsErrorText}
-use Rattle.coded_calls.specs.OneReply.{SameAnswer}
-use Rattle.apfloat_c.specs.Arrays.{IsConvertedArray, IsMappedArray}
+use Rattle.apfloat_c.specs.declared.array_calls.{KnownConversion.KnownConversion, MapCall.MapCall}
+use Rattle.apfloat_c.specs.declared.{array_data.ArrayAnswer.ArrayAnswer, decimals.DecimalText.DecimalText}
+use Rattle.apfloat_c.specs.{About.IsErrorText, Arrays.IsConvertedArray, Arrays.IsMappedArray}
 use Rattle.apfloat_c.specs.Blocks.{IsDequantizedCall, IsPackedCall, IsQuantizedCall, IsUnpackedCall}
 use Rattle.apfloat_c.specs.Decimals.{KnownReading, IsParsed, IsShortestWritten, IsShownWritten}
+use Rattle.coded_calls.specs.{declared.data.Answer.Answer, OneReply.SameAnswer}
 
 -- a decimal text that is read
 abbrev pub IsParsedOnce : Type 0

@@ -1,11 +1,7 @@
 -- Tables of the results of an operation on two values of 8 bits.
 use Rattle.std.specs.Prelude.{ℕ, ◌/◌, ◌%◌, List, [], ◌∷◌}
-use Rattle.apfloat_arrays.specs.declared.Tally.{Tally}
-use Rattle.apfloat_arrays.specs.Entries.{HasEntry, IsEntryTable}
-use Rattle.apfloat_arrays.specs.Tallies.{tally_of}
-use Rattle.apfloat_c.specs.declared.array_calls.MapCall.{MapCall}
-use Rattle.apfloat_c.specs.declared.array_data.Element.{Element}
-use Rattle.apfloat_c.specs.Arrays.{IsElement}
+use Rattle.apfloat_arrays.specs.{declared.Tally.Tally, Entries.HasEntry, Entries.IsEntryTable, Tallies.tally_of}
+use Rattle.apfloat_c.specs.{declared.array_calls.MapCall.MapCall, declared.array_data.Element.Element, Arrays.IsElement}
 
 -- the operands are the quotient and the rest of the place by 256
 abbrev pub IsResultAt : MapCall → ℕ → ℕ → Element → Type 0

@@ -1,32 +1,22 @@
 -- Conversions of pairs of doubles from and to formats, and their fused sum.
 use Rattle.std.specs.Prelude.{◌≡◌, ℕ, false, Option, Some, None, ok_or, Result, Ok, Err}
 use Rattle.rustc_apfloat.specs.declared.Category.TheVariants.{Infinity as Infinite, NaN}
-use Rattle.rustc_apfloat.specs.Classes.{is_nan_category}
-use Rattle.rustc_apfloat.specs.Predicates.{is_infinite_category}
-use Rattle.rustc_apfloat.specs.declared.Round.{Round}
-use Rattle.rustc_apfloat.specs.declared.StatusAnd.{StatusAnd}
-use Rattle.rustc_apfloat.specs.Flags.{Gives}
-use Rattle.rustc_apfloat.specs.Lawful.{format_with}
-use Rattle.rustc_apfloat.specs.Pairs.{Pair}
+use Rattle.rustc_apfloat.specs.{declared.Round.Round, declared.StatusAnd.StatusAnd, Classes.is_nan_category}
+use Rattle.rustc_apfloat.specs.{Predicates.is_infinite_category, Flags.Gives, Lawful.format_with, Pairs.Pair}
 use Rattle.rustc_apfloat.specs.double_double_operations.PairConversions.{IsPairFrom, IsPairTo}
 use Rattle.rustc_apfloat.specs.double_double_operations.PairFusedSums.{IsPairFusedSum}
 use Rattle.apfloat_digits.specs.of_double_doubles.PairShortest.{GivesPairShortest}
-use Rattle.formats_at_run_time.specs.declared.BuiltInFormat.{BuiltInFormat}
-use Rattle.formats_at_run_time.specs.declared.FlaggedFormat.{FlaggedFormat}
-use Rattle.formats_at_run_time.specs.declared.FlaggedKind.{FlaggedKind}
-use Rattle.formats_at_run_time.specs.declared.FlaggedKind.TheVariants.{OfFormat, Pairs}
-use Rattle.formats_at_run_time.specs.BuiltIns.{constants_in}
-use Rattle.formats_at_run_time.specs.FlaggedKinds.{flagged_constants, format_without_rule}
-use Rattle.formats_at_run_time.specs.Relations.{in_format, in_pairs}
+use Rattle.formats_at_run_time.specs.declared.{BuiltInFormat.BuiltInFormat, FlaggedFormat.FlaggedFormat}
+use Rattle.formats_at_run_time.specs.declared.FlaggedKind.{FlaggedKind, TheVariants.OfFormat, TheVariants.Pairs}
+use Rattle.formats_at_run_time.specs.{BuiltIns.constants_in, FlaggedKinds.flagged_constants}
+use Rattle.formats_at_run_time.specs.{FlaggedKinds.format_without_rule, Relations.in_format, Relations.in_pairs}
 use Rattle.formats_at_run_time.specs.ValueKinds.{Kind, of_format, of_pairs, value_of}
-use Rattle.coded_calls.specs.declared.data.Answer.{Answer}
-use Rattle.coded_calls.specs.Answers.{IsValue}
+use Rattle.coded_calls.specs.{declared.data.Answer.Answer, Answers.IsValue}
 use Rattle.coded_calls.specs.KnownCalls.{◌>>=◌, answered, no_such_operation, unknown_format, unknown_mode}
-use Rattle.apfloat_c.specs.declared.decimals.DecimalText.{DecimalText}
-use Rattle.apfloat_c.specs.declared.decimals.Shortest.{Shortest}
+use Rattle.coded_calls.specs.OneReply.{SameAnswer}
+use Rattle.apfloat_c.specs.declared.decimals.{DecimalText.DecimalText, Shortest.Shortest}
 use Rattle.apfloat_c.specs.declared.decimals.Shortest.TheVariants.{Number, Infinity, Nan}
 use Rattle.apfloat_c.specs.Decimals.{IsText, text_of_shortest}
-use Rattle.coded_calls.specs.OneReply.{SameAnswer}
 
 -- the pair with these bits
 abbrev pub pair_of : ℕ → Pair

@@ -1,16 +1,14 @@
 -- Decimals with any rule of flags.
-use Rattle.std.specs.Prelude.{◌≡◌, ℕ, ◌||◌, if◌then◌else◌, List, ◌++◌, codes}
-use Rattle.std.specs.Prelude.{Option, ok_or, Result, Ok, Err}
-use Rattle.std.specs.Str.{str_eq_ignore_ascii_case}
+use Rattle.std.specs.Prelude.{◌≡◌, ℕ, ◌||◌, if◌then◌else◌, List, ◌++◌, codes, Option, ok_or}
+use Rattle.std.specs.{Prelude.Result, Prelude.Ok, Prelude.Err, Str.str_eq_ignore_ascii_case}
 use Rattle.apfloat_model.specs.texts.Specials.{after_mark, is_minus, mark_of}
 use Rattle.rustc_apfloat.specs.declared.Round.{Round}
 use Rattle.apfloat_decimals.specs.Texts.{sign_text}
-use Rattle.formats_at_run_time.specs.declared.FlaggedKind.{FlaggedKind}
-use Rattle.formats_at_run_time.specs.FlaggedKinds.{flagged_kind_of}
+use Rattle.formats_at_run_time.specs.{declared.FlaggedKind.FlaggedKind, FlaggedKinds.flagged_kind_of}
 use Rattle.coded_calls.specs.declared.data.Answer.{Answer}
 use Rattle.coded_calls.specs.KnownCalls.{◌>>=◌, unknown_format, unknown_mode}
-use Rattle.apfloat_c.specs.Decimals.{IsReadInto}
 use Rattle.coded_calls.specs.OneReply.{SameAnswer}
+use Rattle.apfloat_c.specs.Decimals.{IsReadInto}
 
 -- the text; of an infinity or a NaN in any case and with any sign (IEEE 754-2019 5.12.1), a spelling that is read
 abbrev pub known_spelling : List ℕ → List ℕ

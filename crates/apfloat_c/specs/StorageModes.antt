@@ -1,27 +1,18 @@
 -- Calls that round into storage formats by the modes of conversions.
-use Rattle.std.specs.Prelude.{◌≡◌, ℕ, ◌/◌, ◌%◌, ◌==◌, ◌&&◌, nat_le, Bool, if◌then◌else◌, List, length, take}
-use Rattle.std.specs.Prelude.{drop, Option, Some, None, ok_or, Result, Ok, Err}
-use Rattle.rustc_apfloat.specs.declared.Round.{Round}
-use Rattle.rustc_apfloat.specs.Flags.{bits_of}
-use Rattle.formats_at_run_time.specs.declared.FlaggedKind.{FlaggedKind}
-use Rattle.formats_at_run_time.specs.declared.FlaggedKind.TheVariants.{OfFormat, Pairs}
-use Rattle.formats_at_run_time.specs.FlaggedKinds.{format_without_rule}
-use Rattle.formats_at_run_time.specs.Modes.{mode_coded}
-use Rattle.apfloat_arrays.specs.declared.Counts.{Counts}
-use Rattle.apfloat_arrays.specs.declared.Outcome.{Outcome}
-use Rattle.apfloat_arrays.specs.declared.stored.EachRound.{EachRound}
+use Rattle.std.specs.Prelude.{◌≡◌, ℕ, ◌/◌, ◌%◌, ◌==◌, ◌&&◌, nat_le, Bool, if◌then◌else◌}
+use Rattle.std.specs.Prelude.{List, length, take, drop, Option, Some, None, ok_or, Result, Ok, Err}
+use Rattle.rustc_apfloat.specs.{declared.Round.Round, Flags.bits_of}
+use Rattle.formats_at_run_time.specs.declared.FlaggedKind.{FlaggedKind, TheVariants.OfFormat, TheVariants.Pairs}
+use Rattle.formats_at_run_time.specs.{FlaggedKinds.format_without_rule, Modes.mode_coded}
+use Rattle.apfloat_arrays.specs.declared.{Counts.Counts, Outcome.Outcome, stored.EachRound.EachRound}
 use Rattle.apfloat_arrays.specs.declared.stored.EachRound.TheVariants.{Ieee, ToOdd, Stochastic}
-use Rattle.apfloat_arrays.specs.declared.stored.ModeConversion.{ModeConversion}
-use Rattle.apfloat_arrays.specs.declared.stored.StoredFormat.{StoredFormat}
+use Rattle.apfloat_arrays.specs.declared.stored.{ModeConversion.ModeConversion, StoredFormat.StoredFormat}
 use Rattle.apfloat_arrays.specs.stored.ByMode.{AreStoredWith, IsStoredWith, mode_width}
-use Rattle.coded_calls.specs.declared.data.Answer.{Answer}
-use Rattle.coded_calls.specs.Answers.{one_if, whole}
-use Rattle.coded_calls.specs.KnownCalls.{◌>>=◌, answered, no_such_operation, unknown_format, unknown_mode, wrong_width}
-use Rattle.apfloat_c.specs.declared.array_data.ArrayAnswer.{ArrayAnswer}
-use Rattle.apfloat_c.specs.ArrayCalls.{if_fitting, lengths_fit}
-use Rattle.apfloat_c.specs.Arrays.{answer_with}
-use Rattle.apfloat_c.specs.OneAnswer.{IsLeftIn}
-use Rattle.coded_calls.specs.OneReply.{SameAnswer}
+use Rattle.coded_calls.specs.{declared.data.Answer.Answer, Answers.one_if, Answers.whole}
+use Rattle.coded_calls.specs.KnownCalls.{◌>>=◌, answered, no_such_operation, unknown_format, unknown_mode}
+use Rattle.coded_calls.specs.{KnownCalls.wrong_width, OneReply.SameAnswer}
+use Rattle.apfloat_c.specs.{declared.array_data.ArrayAnswer.ArrayAnswer, ArrayCalls.if_fitting, ArrayCalls.lengths_fit}
+use Rattle.apfloat_c.specs.{Arrays.answer_with, OneAnswer.IsLeftIn}
 
 -- ---- what is asked for
 

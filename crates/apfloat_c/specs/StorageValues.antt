@@ -1,20 +1,14 @@
 -- Calls that convert one value into a storage format or out of it.
 use Rattle.std.specs.Prelude.{◌≡◌, ℕ, Option, ok_or, Result, Ok, Err}
 use Rattle.rustc_apfloat.specs.Flags.{bits_of}
-use Rattle.formats_at_run_time.specs.declared.FlaggedKind.{FlaggedKind}
-use Rattle.formats_at_run_time.specs.declared.FlaggedKind.TheVariants.{OfFormat, Pairs}
+use Rattle.formats_at_run_time.specs.declared.FlaggedKind.{FlaggedKind, TheVariants.OfFormat, TheVariants.Pairs}
 use Rattle.formats_at_run_time.specs.FlaggedKinds.{format_without_rule}
-use Rattle.apfloat_arrays.specs.declared.Outcome.{Outcome}
-use Rattle.apfloat_arrays.specs.declared.Extended.TheVariants.{Packed}
-use Rattle.apfloat_arrays.specs.declared.stored.Ends.{Ends}
+use Rattle.apfloat_arrays.specs.declared.{Outcome.Outcome, Extended.TheVariants.Packed, stored.Ends.Ends}
 use Rattle.apfloat_arrays.specs.declared.stored.Ends.TheVariants.{Into, OutOf}
-use Rattle.apfloat_arrays.specs.declared.stored.StorageArray.{StorageArray}
-use Rattle.apfloat_arrays.specs.declared.stored.StoredFormat.{StoredFormat}
+use Rattle.apfloat_arrays.specs.declared.stored.{StorageArray.StorageArray, StoredFormat.StoredFormat}
 use Rattle.apfloat_arrays.specs.stored.Numbers.{IsConvertedNumber}
 use Rattle.apfloat_c.specs.declared.array_calls.ConversionMode.{ConversionMode}
-use Rattle.coded_calls.specs.OneReply.{SameAnswer}
-use Rattle.coded_calls.specs.declared.data.Answer.{Answer}
-use Rattle.coded_calls.specs.Answers.{one_if, whole}
+use Rattle.coded_calls.specs.{OneReply.SameAnswer, declared.data.Answer.Answer, Answers.one_if, Answers.whole}
 use Rattle.coded_calls.specs.KnownCalls.{◌>>=◌, answered, no_such_operation, unknown_format, unknown_mode}
 
 -- ---- what is asked for

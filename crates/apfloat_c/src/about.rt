@@ -2,10 +2,8 @@
 
 ghost use Rattle.std.specs.Prelude.{◌≡◌, ◌<◌, length};
 ghost use Rattle.apfloat_c.specs.About.{IsErrorText, error_text, made_by, version};
-ghost use Rattle.apfloat_c.specs.Decimals.{IsText};
 
-use crate::decimals::DecimalText;
-use apfloat_decimals::formatting::CAPACITY;
+use crate::decimals::{DecimalText, text_of};
 use coded_calls::codes::{ANSWERED, UNKNOWN_ERROR};
 
 /// The version of the library, as `apfloat_version` returns it.
@@ -64,18 +62,5 @@ fn error_text(error: u32) -> &'static str
         10 => "the machine does not have the operation",
         11 => "arrays overlap",
         _ => "unknown error code",
-    }
-}
-
-/// A text as it is passed to C.
-fn text_of(text: &str) -> DecimalText
-    requires { length text.now < 64 }
-    ensures { IsText text.now result }
-{
-    let mut bytes = [0; CAPACITY];
-    bytes[..text.len()].copy_from_slice(text.as_bytes());
-    DecimalText {
-        bytes,
-        length: text.len() as u32,
     }
 }

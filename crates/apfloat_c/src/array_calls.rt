@@ -1,13 +1,11 @@
 //! The meaning of the codes and lengths that calls on arrays receive, or their first error.
 
 ghost use Rattle.std.specs.Prelude.{◌≡◌, ◌*◌, ◌≤◌, length};
-ghost use Rattle.formats_at_run_time.specs.Modes.{mode_coded};
-ghost use Rattle.apfloat_arrays.specs.Blocks.{IsBlock};
-ghost use Rattle.apfloat_arrays.specs.stored.Arrays.{IsConverted, widths_of};
+ghost use Rattle.formats_at_run_time.specs.{FlaggedKinds.flagged_kind_coded, Modes.mode_coded};
+ghost use Rattle.apfloat_arrays.specs.{Blocks.IsBlock, stored.Arrays.IsConverted, stored.Arrays.widths_of};
 ghost use Rattle.apfloat_c.specs.ArrayCalls.{array_format_coded, bytes_in, conversion_between, conversion_mode_coded};
-ghost use Rattle.apfloat_c.specs.ArrayCalls.{conversion_widths, has_element_operation};
-ghost use Rattle.apfloat_c.specs.ArrayCalls.{known_array_conversion, known_map, lengths_fit, operands_fit, operands_of};
-ghost use Rattle.apfloat_c.specs.ArrayCalls.{operation_coded};
+ghost use Rattle.apfloat_c.specs.ArrayCalls.{conversion_widths, has_element_operation, known_array_conversion};
+ghost use Rattle.apfloat_c.specs.ArrayCalls.{known_map, lengths_fit, operands_fit, operands_of, operation_coded};
 ghost use Rattle.apfloat_c.specs.Arrays.{IsValueConverted};
 
 use apfloat_arrays::stored::{Ends, StorageArray, StoredFormat};
@@ -95,7 +93,7 @@ pub fn conversion_mode_coded(code: u32) -> Option<ConversionMode>
 }
 
 /// The format of arrays with this code.
-pub fn array_format_coded(code: u32) -> Option<ArrayFormat>
+fn array_format_coded(code: u32) -> Option<ArrayFormat>
     ensures { result ≡ array_format_coded code }
 {
     match FlaggedKind::coded(code) {
@@ -108,7 +106,7 @@ pub fn array_format_coded(code: u32) -> Option<ArrayFormat>
 }
 
 /// The operation of this code.
-pub fn operation_coded(code: u32) -> Option<ElementOperation>
+fn operation_coded(code: u32) -> Option<ElementOperation>
     ensures { result ≡ operation_coded code }
 {
     match code {
@@ -173,21 +171,22 @@ fn conversion_between(
 
 /// The conversion that these codes ask for, of arrays of these lengths, or the code of the first error.
 pub fn known_array_conversion(
-    source: Option<ArrayFormat>,
-    mode: Option<ConversionMode>,
-    target: Option<ArrayFormat>,
+    source: u32,
+    mode: u32,
+    target: u32,
     given: usize,
     room: usize,
 ) -> Result<KnownConversion, u32>
-    ensures { result ≡ known_array_conversion source mode target given room }
+    ensures { result ≡ known_array_conversion (array_format_coded source)
+        (conversion_mode_coded mode) (array_format_coded target) given room }
 {
-    let Some(source) = source else {
+    let Some(source) = array_format_coded(source) else {
         return Err(UNKNOWN_FORMAT);
     };
-    let Some(mode) = mode else {
+    let Some(mode) = conversion_mode_coded(mode) else {
         return Err(UNKNOWN_MODE);
     };
-    let Some(target) = target else {
+    let Some(target) = array_format_coded(target) else {
         return Err(UNKNOWN_FORMAT);
     };
     let Some(conversion) = conversion_between(source, target, mode) else {
@@ -251,21 +250,22 @@ fn convert_stored(array: StorageArray, count: usize, input: &[u8], output: &mut 
 
 /// The operation that these codes ask for, on arrays of these lengths, or the code of the first error.
 pub fn known_map(
-    kind: Option<FlaggedKind>,
-    mode: Option<Round>,
-    operation: Option<ElementOperation>,
+    format: u32,
+    mode: u32,
+    operation: u32,
     lengths: (usize, usize, usize),
     room: usize,
 ) -> Result<MapCall, u32>
-    ensures { result ≡ known_map kind mode operation lengths room }
+    ensures { result ≡ known_map (flagged_kind_coded format) (mode_coded mode)
+        (operation_coded operation) lengths room }
 {
-    let Some(kind) = kind else {
+    let Some(kind) = FlaggedKind::coded(format) else {
         return Err(UNKNOWN_FORMAT);
     };
-    let Some(round) = mode else {
+    let Some(round) = mode_coded(mode) else {
         return Err(UNKNOWN_MODE);
     };
-    let Some(operation) = operation else {
+    let Some(operation) = operation_coded(operation) else {
         return Err(NO_SUCH_OPERATION);
     };
     if !has_operation(kind, operation) {

@@ -4,9 +4,7 @@ ghost use Rattle.std.specs.Prelude.{◌≡◌, ◌≢◌, length};
 ghost use Rattle.apfloat_c.specs.ArrayCalls.{array_format_coded, conversion_mode_coded, known_array_conversion};
 ghost use Rattle.apfloat_c.specs.Arrays.{IsConvertedArray};
 
-use crate::array_calls::{
-    ArrayFormat, ConversionMode, array_format_coded, conversion_mode_coded, known_array_conversion,
-};
+use crate::array_calls::known_array_conversion;
 use crate::array_data::{ArrayAnswer, ElementCounts};
 use coded_calls::codes::ANSWERED;
 
@@ -25,15 +23,7 @@ pub extern "C" fn apfloat_convert_array(
         (length results.old) in
         IsConvertedArray known values.now results.old results.new answer.old answer.new result }
 {
-    convert_array(
-        array_format_coded(format),
-        conversion_mode_coded(mode),
-        array_format_coded(to),
-        values,
-        results,
-        &mut [],
-        answer,
-    )
+    convert_array(format, mode, to, values, results, &mut [], answer)
 }
 
 /// `apfloat_convert_array` with memory lent for a table of all results. If it has 2^19 bytes, a long array of values of
@@ -55,33 +45,26 @@ pub extern "C" fn apfloat_convert_array_by_table(
         IsConvertedArray known values.now results.old results.new answer.old answer.new result }
     ensures lent { result ≢ 0 → table.new ≡ table.old }
 {
-    convert_array(
-        array_format_coded(format),
-        conversion_mode_coded(mode),
-        array_format_coded(to),
-        values,
-        results,
-        table,
-        answer,
-    )
+    convert_array(format, mode, to, values, results, table, answer)
 }
 
-/// Converts each value of an array, as the decoded arguments ask.
+/// Converts each value of an array, as the codes ask.
 fn convert_array(
-    source: Option<ArrayFormat>,
-    mode: Option<ConversionMode>,
-    target: Option<ArrayFormat>,
+    format: u32,
+    mode: u32,
+    to: u32,
     values: &[u8],
     results: &mut [u8],
     table: &mut [u8],
     answer: &mut ArrayAnswer,
 ) -> u32
-    ensures written { let known = known_array_conversion source mode target (length values.now)
+    ensures written { let known = known_array_conversion (array_format_coded format)
+        (conversion_mode_coded mode) (array_format_coded to) (length values.now)
         (length results.old) in
         IsConvertedArray known values.now results.old results.new answer.old answer.new result }
     ensures lent { result ≢ 0 → table.new ≡ table.old }
 {
-    let known = known_array_conversion(source, mode, target, values.len(), results.len());
+    let known = known_array_conversion(format, mode, to, values.len(), results.len());
     match known {
         Err(error) => error,
         Ok(conversion) => {

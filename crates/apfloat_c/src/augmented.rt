@@ -1,17 +1,11 @@
 //! The exports of augmented operations and of payloads of NaNs.
 
 ghost use Rattle.formats_at_run_time.specs.FlaggedKinds.{flagged_kind_coded};
-ghost use Rattle.coded_calls.specs.Answers.{whole};
-ghost use Rattle.coded_calls.specs.Augmented.{IsAugmentedCall, IsPayloadCall, augmentation_coded, known_augmentation};
-ghost use Rattle.coded_calls.specs.Augmented.{known_payload, payload_coded};
-ghost use Rattle.coded_calls.specs.OneReply.{AreAugmentedCallsOnce};
+ghost use Rattle.coded_calls.specs.{Answers.whole, Augmented.IsAugmentedCall, Augmented.IsPayloadCall};
+ghost use Rattle.coded_calls.specs.Augmented.{augmentation_coded, known_augmentation, known_payload, payload_coded};
 
 use coded_calls::augmented::{reply_augmented, reply_payload};
 use coded_calls::data::{Answer, Halves};
-use ieee_operations::augmented::{
-    augmented_differences_have_one_answer, augmented_products_have_one_answer,
-    augmented_sums_have_one_answer,
-};
 
 /// The augmented sum, difference or product of two values. The rule of flags makes no difference.
 #[unsafe(no_mangle)]
@@ -42,13 +36,4 @@ pub extern "C" fn apfloat_payload(
         (whole x) answer.old answer.new result }
 {
     reply_payload(operation, format, x, answer)
-}
-
-/// Each of these calls has one answer.
-pub fn augmented_calls_have_one_answer()
-    ensures { AreAugmentedCallsOnce }
-{
-    augmented_sums_have_one_answer();
-    augmented_differences_have_one_answer();
-    augmented_products_have_one_answer();
 }

@@ -2,11 +2,10 @@
 //! C programs in `include/apfloat.h`.
 
 ghost use Rattle.std.specs.Prelude.{◌≡◌, Some};
-ghost use Rattle.formats_at_run_time.specs.FlaggedKinds.{flagged_kind_coded};
-ghost use Rattle.formats_at_run_time.specs.Modes.{mode_coded};
-ghost use Rattle.apfloat_c.specs.Blocks.{IsDequantizedCall, IsPackedCall, IsQuantizedCall, IsUnpackedCall};
-ghost use Rattle.apfloat_c.specs.Blocks.{array_error, element_coded, known_dequantization, known_quantization};
-ghost use Rattle.apfloat_c.specs.Blocks.{mx_coded, nvfp4_coded, packing_error, rule_coded, with_rule};
+ghost use Rattle.formats_at_run_time.specs.{FlaggedKinds.flagged_kind_coded, Modes.mode_coded};
+ghost use Rattle.apfloat_c.specs.Blocks.{IsDequantizedCall, IsPackedCall, IsQuantizedCall, IsUnpackedCall, array_error};
+ghost use Rattle.apfloat_c.specs.Blocks.{element_coded, known_dequantization, known_quantization, mx_coded};
+ghost use Rattle.apfloat_c.specs.Blocks.{nvfp4_coded, packing_error, rule_coded, with_rule};
 ghost use Rattle.small_formats.specs.declared.blocks.ScaleRule.TheVariants.{Floor};
 
 use crate::array_data::{ArrayAnswer, ElementCounts};
@@ -84,9 +83,7 @@ fn array_error(error: ArrayError) -> u32
     ensures { result ≡ array_error error }
 {
     match error {
-        ArrayError::EmptyBlock => WRONG_LENGTH,
-        ArrayError::Uneven => WRONG_LENGTH,
-        ArrayError::Lengths => WRONG_LENGTH,
+        ArrayError::EmptyBlock | ArrayError::Uneven | ArrayError::Lengths => WRONG_LENGTH,
         ArrayError::TensorScale => NO_SUCH_OPERATION,
         ArrayError::CodeTooWide => WIDE_OPERAND,
     }
@@ -97,22 +94,21 @@ fn packing_error(error: PackingError) -> u32
     ensures { result ≡ packing_error error }
 {
     match error {
-        PackingError::Uneven => WRONG_LENGTH,
-        PackingError::Lengths => WRONG_LENGTH,
+        PackingError::Uneven | PackingError::Lengths => WRONG_LENGTH,
         PackingError::CodeTooWide => WIDE_OPERAND,
     }
 }
 
 /// The quantization that these codes ask for, or the code of the first error.
 fn known_quantization(
-    kind: Option<FlaggedKind>,
+    format: u32,
     mode: Option<(ScaleRule, Round)>,
     blocks: Option<BlockFormat>,
     length: usize,
 ) -> Result<Quantization, u32>
-    ensures { result ≡ known_quantization kind mode blocks length }
+    ensures { result ≡ known_quantization (flagged_kind_coded format) mode blocks length }
 {
-    let Some(kind) = kind else {
+    let Some(kind) = FlaggedKind::coded(format) else {
         return Err(UNKNOWN_FORMAT);
     };
     let Some(blocks) = blocks else {
@@ -136,19 +132,19 @@ fn known_quantization(
 /// The dequantization that these codes ask for, or the code of the first error.
 fn known_dequantization(
     blocks: Option<BlockFormat>,
-    mode: Option<Round>,
-    kind: Option<FlaggedKind>,
+    mode: u32,
+    to: u32,
     length: usize,
 ) -> Result<Dequantization, u32>
-    ensures { result ≡ known_dequantization blocks mode kind length }
+    ensures { result ≡ known_dequantization blocks (mode_coded mode) (flagged_kind_coded to) length }
 {
     let Some(blocks) = blocks else {
         return Err(UNKNOWN_FORMAT);
     };
-    let Some(kind) = kind else {
+    let Some(kind) = FlaggedKind::coded(to) else {
         return Err(UNKNOWN_FORMAT);
     };
-    let Some(round) = mode else {
+    let Some(round) = mode_coded(mode) else {
         return Err(UNKNOWN_MODE);
     };
     match kind {
@@ -231,8 +227,7 @@ pub extern "C" fn apfloat_quantize_blocks(
         IsQuantizedCall known values.now scales.old scales.new codes.old codes.new answer.old
         answer.new result }
 {
-    let (kind, round) = (FlaggedKind::coded(format), rule_coded(mode));
-    let known = known_quantization(kind, round, mx_coded(element), length);
+    let known = known_quantization(format, rule_coded(mode), mx_coded(element), length);
     quantize(known, values, scales, codes, answer)
 }
 
@@ -253,11 +248,8 @@ pub extern "C" fn apfloat_quantize_nvfp4(
         IsQuantizedCall known values.now scales.old scales.new codes.old codes.new answer.old
         answer.new result }
 {
-    let (kind, round) = (
-        FlaggedKind::coded(format),
-        with_rule(ScaleRule::Floor, mode_coded(mode)),
-    );
-    let known = known_quantization(kind, round, nvfp4_coded(tensor), length);
+    let round = with_rule(ScaleRule::Floor, mode_coded(mode));
+    let known = known_quantization(format, round, nvfp4_coded(tensor), length);
     quantize(known, values, scales, codes, answer)
 }
 
@@ -279,8 +271,7 @@ pub extern "C" fn apfloat_dequantize_blocks(
         IsDequantizedCall known scales.now codes.now results.old results.new answer.old answer.new
         result }
 {
-    let (kind, round) = (FlaggedKind::coded(to), mode_coded(mode));
-    let known = known_dequantization(mx_coded(element), round, kind, length);
+    let known = known_dequantization(mx_coded(element), mode, to, length);
     dequantize(known, scales, codes, results, answer)
 }
 
@@ -301,8 +292,7 @@ pub extern "C" fn apfloat_dequantize_nvfp4(
         IsDequantizedCall known scales.now codes.now results.old results.new answer.old answer.new
         result }
 {
-    let (kind, round) = (FlaggedKind::coded(to), mode_coded(mode));
-    let known = known_dequantization(nvfp4_coded(tensor), round, kind, length);
+    let known = known_dequantization(nvfp4_coded(tensor), mode, to, length);
     dequantize(known, scales, codes, results, answer)
 }
 
@@ -313,10 +303,8 @@ pub extern "C" fn apfloat_pack_codes(element: u32, codes: &[u8], bytes: &mut [u8
 {
     let packed = match element_coded(element) {
         None => return UNKNOWN_FORMAT,
-        Some(ElementFormat::E5M2) => return NO_SUCH_OPERATION,
-        Some(ElementFormat::E4M3FN) => return NO_SUCH_OPERATION,
-        Some(ElementFormat::E3M2FN) => pack_sixes(codes, bytes),
-        Some(ElementFormat::E2M3FN) => pack_sixes(codes, bytes),
+        Some(ElementFormat::E5M2 | ElementFormat::E4M3FN) => return NO_SUCH_OPERATION,
+        Some(ElementFormat::E3M2FN | ElementFormat::E2M3FN) => pack_sixes(codes, bytes),
         Some(ElementFormat::E2M1FN) => pack_fours(codes, bytes),
     };
     match packed {
@@ -332,10 +320,8 @@ pub extern "C" fn apfloat_unpack_codes(element: u32, bytes: &[u8], codes: &mut [
 {
     let unpacked = match element_coded(element) {
         None => return UNKNOWN_FORMAT,
-        Some(ElementFormat::E5M2) => return NO_SUCH_OPERATION,
-        Some(ElementFormat::E4M3FN) => return NO_SUCH_OPERATION,
-        Some(ElementFormat::E3M2FN) => unpack_sixes(bytes, codes),
-        Some(ElementFormat::E2M3FN) => unpack_sixes(bytes, codes),
+        Some(ElementFormat::E5M2 | ElementFormat::E4M3FN) => return NO_SUCH_OPERATION,
+        Some(ElementFormat::E3M2FN | ElementFormat::E2M3FN) => unpack_sixes(bytes, codes),
         Some(ElementFormat::E2M1FN) => unpack_fours(bytes, codes),
     };
     match unpacked {

@@ -1,26 +1,19 @@
 //! Decimal texts as values, and the text of a value's shortest decimal, for C programs.
 
-ghost use Rattle.std.specs.Prelude.{◌≡◌, ◌<◌, ◌++◌, IsTrue, codes, false, length, pos};
+ghost use Rattle.std.specs.Prelude.{◌≡◌, ◌<◌, IsTrue, false, length, pos};
 ghost use Rattle.apfloat_model.specs.order.Classes.{quanta_of};
-ghost use Rattle.rustc_apfloat.specs.Datum.{finite};
-ghost use Rattle.rustc_apfloat.specs.Lawful.{format_with};
+ghost use Rattle.rustc_apfloat.specs.{Datum.finite, Lawful.format_with};
 ghost use Rattle.rustc_apfloat.specs.FlaggedTypes.{constants_of, format_of};
 ghost use Rattle.rustc_apfloat.specs.Types.{format_of as plain_format_of};
-ghost use Rattle.apfloat_decimals.specs.Decimals.{HasQuadExponents};
-ghost use Rattle.apfloat_decimals.specs.ShortestSearch.{IsWithinQuad};
-ghost use Rattle.apfloat_decimals.specs.Texts.{sign_text};
-ghost use Rattle.formats_at_run_time.specs.FlaggedKinds.{flagged_kind_coded};
-ghost use Rattle.formats_at_run_time.specs.FormatKinds.{IfFormat};
-ghost use Rattle.formats_at_run_time.specs.Modes.{mode_coded};
-ghost use Rattle.formats_at_run_time.specs.Relations.{in_pairs};
-ghost use Rattle.formats_at_run_time.specs.ValueKinds.{of_format, of_pairs};
-ghost use Rattle.coded_calls.specs.Answers.{IsValueWritten, whole};
-ghost use Rattle.coded_calls.specs.KnownCalls.{text_format};
+ghost use Rattle.apfloat_decimals.specs.{Decimals.HasQuadExponents, ShortestSearch.IsWithinQuad};
+ghost use Rattle.formats_at_run_time.specs.{FlaggedKinds.flagged_kind_coded, FormatKinds.IfFormat, Modes.mode_coded};
+ghost use Rattle.formats_at_run_time.specs.{Relations.in_pairs, ValueKinds.of_format, ValueKinds.of_pairs};
+ghost use Rattle.coded_calls.specs.{Answers.IsValueWritten, Answers.whole, KnownCalls.text_format};
 ghost use Rattle.apfloat_c.specs.Decimals.{IsKindText, IsParsed, IsReadInto, IsShortestWritten, IsShownText};
-ghost use Rattle.apfloat_c.specs.Decimals.{IsShownWritten, IsText, whole_decimal};
-ghost use Rattle.apfloat_c.specs.Decimals.{IsValueText, decimal_kind, known_reading, text_of_shortest};
+ghost use Rattle.apfloat_c.specs.Decimals.{IsShownWritten, IsText, whole_decimal, IsValueText, decimal_kind};
+ghost use Rattle.apfloat_c.specs.Decimals.{known_reading, text_of_shortest};
 
-use apfloat_decimals::formatting::{CAPACITY, Line, put_decimal};
+use apfloat_decimals::formatting::{CAPACITY, put_decimal};
 use apfloat_decimals::{Decimal, shortest};
 use apfloat_digits::of_double_doubles::read_decimal_pair_ascii;
 use coded_calls::answers::with_bits;
@@ -305,42 +298,20 @@ pub(crate) fn write(found: Shortest, text: &mut DecimalText)
         Shortest::Number(decimal) => {
             text.length = put_decimal(&mut text.bytes, decimal) as u32;
         }
-        Shortest::Infinity(negative) => write_line(infinity_line(negative), text),
-        Shortest::Nan => write_line(nan_line(), text),
+        Shortest::Infinity(negative) => *text = text_of(if negative { "-inf" } else { "inf" }),
+        Shortest::Nan => *text = text_of("nan"),
     }
 }
 
-/// The text of an infinity.
-fn infinity_line(negative: bool) -> Line
-    ensures text { result ≡ sign_text negative ++ codes "inf" }
-    ensures room { length result < 64 }
+/// A text as it is passed to C.
+pub(crate) fn text_of(text: &str) -> DecimalText
+    requires { length text.now < 64 }
+    ensures { IsText text.now result }
 {
-    let mut line = Line::new();
-    line.push_sign(negative);
-    line.push(b'i');
-    line.push(b'n');
-    line.push(b'f');
-    line
-}
-
-/// The text of a NaN.
-fn nan_line() -> Line
-    ensures text { result ≡ codes "nan" }
-    ensures room { length result < 64 }
-{
-    let mut line = Line::new();
-    line.push(b'n');
-    line.push(b'a');
-    line.push(b'n');
-    line
-}
-
-/// Writes a line as it is passed to C.
-#[inline(always)]
-fn write_line(line: Line, text: &mut DecimalText)
-    requires { length line < 64 }
-    ensures { IsText line text.new }
-{
-    text.bytes = line.bytes();
-    text.length = line.length() as u32;
+    let mut bytes = [0; CAPACITY];
+    bytes[..text.len()].copy_from_slice(text.as_bytes());
+    DecimalText {
+        bytes,
+        length: text.len() as u32,
+    }
 }

@@ -2,14 +2,10 @@
 
 ghost use Rattle.rustc_apfloat.specs.Lawful.{format_with};
 ghost use Rattle.apfloat_decimals.specs.Decimals.{HasQuadExponents};
-ghost use Rattle.formats_at_run_time.specs.FlaggedKinds.{flagged_kind_coded};
-ghost use Rattle.formats_at_run_time.specs.FormatKinds.{IfFormat};
-ghost use Rattle.formats_at_run_time.specs.Modes.{mode_coded};
-ghost use Rattle.coded_calls.specs.Answers.{whole};
-ghost use Rattle.coded_calls.specs.KnownCalls.{text_format};
-ghost use Rattle.apfloat_c.specs.Digits.{AreDigitsWritten, AreDigitsWrittenOnce, GivesKindCount, IsCountGiven};
-ghost use Rattle.apfloat_c.specs.Digits.{IsCountGivenOnce, IsHexPut, IsHexPutOnce, IsKindHex, IsKindRoundedHex};
-ghost use Rattle.apfloat_c.specs.Digits.{IsKindWritten, IsRoundedHexPut, IsRoundedHexPutOnce, known_writing};
+ghost use Rattle.formats_at_run_time.specs.{FlaggedKinds.flagged_kind_coded, FormatKinds.IfFormat, Modes.mode_coded};
+ghost use Rattle.coded_calls.specs.{Answers.whole, KnownCalls.text_format};
+ghost use Rattle.apfloat_c.specs.Digits.{AreDigitsWritten, GivesKindCount, IsCountGiven, IsHexPut, IsKindHex};
+ghost use Rattle.apfloat_c.specs.Digits.{IsKindRoundedHex, IsKindWritten, IsRoundedHexPut, known_writing};
 
 use apfloat_digits::decimal::{Written, digit_count, write_digits};
 use apfloat_digits::hexadecimal::{HexError, write_hex_rounded, write_hex_with_payload};
@@ -210,11 +206,3 @@ impl ReadsInFormat for RoundedHexCall {
         )
     }
 }
-
-/// Each of these calls has one answer.
-pub fn texts_have_one_answer()
-    ensures digits { AreDigitsWrittenOnce }
-    ensures count { IsCountGivenOnce }
-    ensures exact { IsHexPutOnce }
-    ensures rounded { IsRoundedHexPutOnce }
-{}

@@ -2,14 +2,13 @@
 
 ghost use Rattle.std.specs.Prelude.{◌≡◌, ◌⊎◌, ◌+◌, ◌<◌, ◌≤◌, length, slice_range, true};
 ghost use Rattle.rustc_apfloat.specs.FlaggedTypes.{constants_of};
-ghost use Rattle.formats_at_run_time.specs.declared.FlaggedKind.TheVariants.{Pairs};
-ghost use Rattle.formats_at_run_time.specs.FlaggedKinds.{flagged_kind_of};
+ghost use Rattle.formats_at_run_time.specs.{declared.FlaggedKind.TheVariants.Pairs, FlaggedKinds.flagged_kind_of};
 ghost use Rattle.formats_at_run_time.specs.ValueKinds.{of_format, of_pairs};
 ghost use Rattle.apfloat_arrays.specs.Bytes.{number_of};
 ghost use Rattle.apfloat_c.specs.declared.array_calls.MapCall.{MapCall};
-ghost use Rattle.coded_calls.specs.Answers.{IsKindAnswer};
 ghost use Rattle.apfloat_c.specs.ArrayCalls.{bytes_in, has_element_operation};
 ghost use Rattle.apfloat_c.specs.Arrays.{AreElements, AreOperands, IsElement, call_of, is_nan_in};
+ghost use Rattle.coded_calls.specs.Answers.{IsKindAnswer};
 
 use crate::array_calls::{ElementOperation, MapCall, bytes_in};
 use crate::array_data::{Element, ElementCounts};

@@ -1,20 +1,17 @@
 //! The exports, declared for C programs in `include/apfloat.h`.
 
-ghost use Rattle.std.specs.Prelude.{Some};
-ghost use Rattle.std.specs.Int.{cast_signed, w128};
+ghost use Rattle.std.specs.{Prelude.Some, Int.cast_signed, Int.w128};
 ghost use Rattle.rustc_apfloat.specs.declared.Round.TheVariants.{NearestTiesToEven};
 ghost use Rattle.formats_at_run_time.specs.declared.Arithmetic.TheVariants.{Sum, Difference, Product, Quotient};
 ghost use Rattle.formats_at_run_time.specs.declared.Arithmetic.TheVariants.{NearestRemainder, TruncatedRemainder};
+ghost use Rattle.formats_at_run_time.specs.{FlaggedKinds.flagged_kind_coded, Modes.mode_coded};
 ghost use Rattle.coded_calls.specs.declared.exported_call.ExportedCall.TheVariants.{OfTwo, FusedSum, SquareRoot};
 ghost use Rattle.coded_calls.specs.declared.exported_call.ExportedCall.TheVariants.{FromUnsigned, FromSigned};
 ghost use Rattle.coded_calls.specs.declared.exported_call.ExportedCall.TheVariants.{ToUnsigned, ToSigned};
-ghost use Rattle.coded_calls.specs.declared.exported_call.ExportedCall.TheVariants.{RoundToIntegral, Scaling};
-ghost use Rattle.coded_calls.specs.declared.exported_call.ExportedCall.TheVariants.{Fraction, Exponent, NextUp};
-ghost use Rattle.coded_calls.specs.declared.exported_call.ExportedCall.TheVariants.{NextDown, Comparison, Class};
-ghost use Rattle.coded_calls.specs.declared.exported_call.ExportedCall.TheVariants.{Conversion, Text};
-ghost use Rattle.formats_at_run_time.specs.FlaggedKinds.{flagged_kind_coded};
-ghost use Rattle.formats_at_run_time.specs.Modes.{mode_coded};
-ghost use Rattle.coded_calls.specs.KnownCalls.{known_call};
+ghost use Rattle.coded_calls.specs.declared.exported_call.ExportedCall.TheVariants.{RoundToIntegral, Scaling, Fraction};
+ghost use Rattle.coded_calls.specs.declared.exported_call.ExportedCall.TheVariants.{Exponent, NextUp, NextDown};
+ghost use Rattle.coded_calls.specs.declared.exported_call.ExportedCall.TheVariants.{Comparison, Class, Conversion};
+ghost use Rattle.coded_calls.specs.{declared.exported_call.ExportedCall.TheVariants.Text, KnownCalls.known_call};
 ghost use Rattle.coded_calls.specs.Answers.{IsReturned, whole};
 
 use coded_calls::by_code::{reply, reply_in_kind};
@@ -36,19 +33,11 @@ pub extern "C" fn apfloat_add(
     y: Halves,
     answer: &mut Answer,
 ) -> u32
-    ensures { let call = OfTwo Sum (whole x) (whole y) in
-        IsReturned (known_call (flagged_kind_coded format) (mode_coded mode) call)
-        answer.old answer.new result }
+    ensures { IsReturned (known_call (flagged_kind_coded format) (mode_coded mode)
+        (OfTwo Sum (whole x) (whole y))) answer.old answer.new result }
 {
-    reply_in_kind(
-        format,
-        mode,
-        SumCall {
-            x: x.number(),
-            y: y.number(),
-        },
-        answer,
-    )
+    let (x, y) = (x.number(), y.number());
+    reply_in_kind(format, mode, SumCall { x, y }, answer)
 }
 
 /// The difference of two values, rounded once.
@@ -60,19 +49,11 @@ pub extern "C" fn apfloat_sub(
     y: Halves,
     answer: &mut Answer,
 ) -> u32
-    ensures { let call = OfTwo Difference (whole x) (whole y) in
-        IsReturned (known_call (flagged_kind_coded format) (mode_coded mode) call)
-        answer.old answer.new result }
+    ensures { IsReturned (known_call (flagged_kind_coded format) (mode_coded mode)
+        (OfTwo Difference (whole x) (whole y))) answer.old answer.new result }
 {
-    reply_in_kind(
-        format,
-        mode,
-        DifferenceCall {
-            x: x.number(),
-            y: y.number(),
-        },
-        answer,
-    )
+    let (x, y) = (x.number(), y.number());
+    reply_in_kind(format, mode, DifferenceCall { x, y }, answer)
 }
 
 /// The product of two values, rounded once.
@@ -84,19 +65,11 @@ pub extern "C" fn apfloat_mul(
     y: Halves,
     answer: &mut Answer,
 ) -> u32
-    ensures { let call = OfTwo Product (whole x) (whole y) in
-        IsReturned (known_call (flagged_kind_coded format) (mode_coded mode) call)
-        answer.old answer.new result }
+    ensures { IsReturned (known_call (flagged_kind_coded format) (mode_coded mode)
+        (OfTwo Product (whole x) (whole y))) answer.old answer.new result }
 {
-    reply_in_kind(
-        format,
-        mode,
-        ProductCall {
-            x: x.number(),
-            y: y.number(),
-        },
-        answer,
-    )
+    let (x, y) = (x.number(), y.number());
+    reply_in_kind(format, mode, ProductCall { x, y }, answer)
 }
 
 /// The quotient of two values, rounded once.
@@ -108,53 +81,34 @@ pub extern "C" fn apfloat_div(
     y: Halves,
     answer: &mut Answer,
 ) -> u32
-    ensures { let call = OfTwo Quotient (whole x) (whole y) in
-        IsReturned (known_call (flagged_kind_coded format) (mode_coded mode) call)
-        answer.old answer.new result }
+    ensures { IsReturned (known_call (flagged_kind_coded format) (mode_coded mode)
+        (OfTwo Quotient (whole x) (whole y))) answer.old answer.new result }
 {
-    reply(
-        format,
-        mode,
-        QuotientCall {
-            x: x.number(),
-            y: y.number(),
-        },
-        answer,
-    )
+    let (x, y) = (x.number(), y.number());
+    reply(format, mode, QuotientCall { x, y }, answer)
 }
 
 /// The remainder by the integer nearest to the quotient, ties to even.
 #[unsafe(no_mangle)]
 pub extern "C" fn apfloat_rem(format: u32, x: Halves, y: Halves, answer: &mut Answer) -> u32
-    ensures { let call = OfTwo NearestRemainder (whole x) (whole y) in
-        IsReturned (known_call (flagged_kind_coded format) (Some NearestTiesToEven) call)
-        answer.old answer.new result }
+    ensures { IsReturned (known_call (flagged_kind_coded format) (Some NearestTiesToEven)
+        (OfTwo NearestRemainder (whole x) (whole y))) answer.old answer.new result }
 {
-    reply(
-        format,
-        NEAREST_EVEN,
-        NearestRemainderCall {
-            x: x.number(),
-            y: y.number(),
-        },
-        answer,
-    )
+    let (x, y) = (x.number(), y.number());
+    reply(format, NEAREST_EVEN, NearestRemainderCall { x, y }, answer)
 }
 
 /// The remainder by the quotient truncated to an integer, like `fmod` in C.
 #[unsafe(no_mangle)]
 pub extern "C" fn apfloat_mod(format: u32, x: Halves, y: Halves, answer: &mut Answer) -> u32
-    ensures { let call = OfTwo TruncatedRemainder (whole x) (whole y) in
-        IsReturned (known_call (flagged_kind_coded format) (Some NearestTiesToEven) call)
-        answer.old answer.new result }
+    ensures { IsReturned (known_call (flagged_kind_coded format) (Some NearestTiesToEven)
+        (OfTwo TruncatedRemainder (whole x) (whole y))) answer.old answer.new result }
 {
+    let (x, y) = (x.number(), y.number());
     reply(
         format,
         NEAREST_EVEN,
-        TruncatedRemainderCall {
-            x: x.number(),
-            y: y.number(),
-        },
+        TruncatedRemainderCall { x, y },
         answer,
     )
 }
@@ -169,28 +123,18 @@ pub extern "C" fn apfloat_fma(
     z: Halves,
     answer: &mut Answer,
 ) -> u32
-    ensures { let call = FusedSum (whole x) (whole y) (whole z) in
-        IsReturned (known_call (flagged_kind_coded format) (mode_coded mode) call)
-        answer.old answer.new result }
+    ensures { IsReturned (known_call (flagged_kind_coded format) (mode_coded mode)
+        (FusedSum (whole x) (whole y) (whole z))) answer.old answer.new result }
 {
-    reply_in_kind(
-        format,
-        mode,
-        FusedSumCall {
-            x: x.number(),
-            y: y.number(),
-            z: z.number(),
-        },
-        answer,
-    )
+    let (x, y, z) = (x.number(), y.number(), z.number());
+    reply_in_kind(format, mode, FusedSumCall { x, y, z }, answer)
 }
 
 /// The square root of a value, rounded once.
 #[unsafe(no_mangle)]
 pub extern "C" fn apfloat_sqrt(format: u32, mode: u32, x: Halves, answer: &mut Answer) -> u32
-    ensures { let call = SquareRoot (whole x) in
-        IsReturned (known_call (flagged_kind_coded format) (mode_coded mode) call)
-        answer.old answer.new result }
+    ensures { IsReturned (known_call (flagged_kind_coded format) (mode_coded mode)
+        (SquareRoot (whole x))) answer.old answer.new result }
 {
     reply_in_kind(format, mode, SquareRootCall { x: x.number() }, answer)
 }
@@ -204,9 +148,8 @@ pub extern "C" fn apfloat_convert(
     x: Halves,
     answer: &mut Answer,
 ) -> u32
-    ensures { let call = Conversion (whole x) (flagged_kind_coded to) in
-        IsReturned (known_call (flagged_kind_coded format) (mode_coded mode) call)
-        answer.old answer.new result }
+    ensures { IsReturned (known_call (flagged_kind_coded format) (mode_coded mode)
+        (Conversion (whole x) (flagged_kind_coded to))) answer.old answer.new result }
 {
     reply_in_kind(format, mode, ConversionCall { x: x.number(), to }, answer)
 }
@@ -219,18 +162,11 @@ pub extern "C" fn apfloat_from_u128(
     number: Halves,
     answer: &mut Answer,
 ) -> u32
-    ensures { let call = FromUnsigned (whole number) in
-        IsReturned (known_call (flagged_kind_coded format) (mode_coded mode) call)
-        answer.old answer.new result }
+    ensures { IsReturned (known_call (flagged_kind_coded format) (mode_coded mode)
+        (FromUnsigned (whole number))) answer.old answer.new result }
 {
-    reply(
-        format,
-        mode,
-        FromUnsignedCall {
-            number: number.number(),
-        },
-        answer,
-    )
+    let number = number.number();
+    reply(format, mode, FromUnsignedCall { number }, answer)
 }
 
 /// An integer in two's complement as a value, rounded once.
@@ -241,18 +177,11 @@ pub extern "C" fn apfloat_from_i128(
     number: Halves,
     answer: &mut Answer,
 ) -> u32
-    ensures { let call = FromSigned (cast_signed w128 (whole number)) in
-        IsReturned (known_call (flagged_kind_coded format) (mode_coded mode) call)
-        answer.old answer.new result }
+    ensures { IsReturned (known_call (flagged_kind_coded format) (mode_coded mode)
+        (FromSigned (cast_signed w128 (whole number)))) answer.old answer.new result }
 {
-    reply(
-        format,
-        mode,
-        FromSignedCall {
-            number: number.number().cast_signed(),
-        },
-        answer,
-    )
+    let number = number.number().cast_signed();
+    reply(format, mode, FromSignedCall { number }, answer)
 }
 
 /// A value as an integer of `width` binary digits, 1 to 128, in `bits`; `number` says whether that equals the
@@ -265,19 +194,11 @@ pub extern "C" fn apfloat_to_u128(
     width: u32,
     answer: &mut Answer,
 ) -> u32
-    ensures { let call = ToUnsigned (whole x) width in
-        IsReturned (known_call (flagged_kind_coded format) (mode_coded mode) call)
-        answer.old answer.new result }
+    ensures { IsReturned (known_call (flagged_kind_coded format) (mode_coded mode)
+        (ToUnsigned (whole x) width)) answer.old answer.new result }
 {
-    reply(
-        format,
-        mode,
-        ToUnsignedCall {
-            x: x.number(),
-            width,
-        },
-        answer,
-    )
+    let x = x.number();
+    reply(format, mode, ToUnsignedCall { x, width }, answer)
 }
 
 /// A value as an integer of `width` binary digits, 2 to 128, in 128-bit two's complement, in `bits`; `number` says
@@ -290,19 +211,11 @@ pub extern "C" fn apfloat_to_i128(
     width: u32,
     answer: &mut Answer,
 ) -> u32
-    ensures { let call = ToSigned (whole x) width in
-        IsReturned (known_call (flagged_kind_coded format) (mode_coded mode) call)
-        answer.old answer.new result }
+    ensures { IsReturned (known_call (flagged_kind_coded format) (mode_coded mode)
+        (ToSigned (whole x) width)) answer.old answer.new result }
 {
-    reply(
-        format,
-        mode,
-        ToSignedCall {
-            x: x.number(),
-            width,
-        },
-        answer,
-    )
+    let x = x.number();
+    reply(format, mode, ToSignedCall { x, width }, answer)
 }
 
 /// A value rounded to an integer, as a value.
@@ -313,9 +226,8 @@ pub extern "C" fn apfloat_round_to_integral(
     x: Halves,
     answer: &mut Answer,
 ) -> u32
-    ensures { let call = RoundToIntegral (whole x) in
-        IsReturned (known_call (flagged_kind_coded format) (mode_coded mode) call)
-        answer.old answer.new result }
+    ensures { IsReturned (known_call (flagged_kind_coded format) (mode_coded mode)
+        (RoundToIntegral (whole x))) answer.old answer.new result }
 {
     reply(format, mode, RoundToIntegralCall { x: x.number() }, answer)
 }
@@ -329,27 +241,18 @@ pub extern "C" fn apfloat_scalbn(
     power: i32,
     answer: &mut Answer,
 ) -> u32
-    ensures { let call = Scaling (whole x) power in
-        IsReturned (known_call (flagged_kind_coded format) (mode_coded mode) call)
-        answer.old answer.new result }
+    ensures { IsReturned (known_call (flagged_kind_coded format) (mode_coded mode)
+        (Scaling (whole x) power)) answer.old answer.new result }
 {
-    reply(
-        format,
-        mode,
-        ScalingCall {
-            x: x.number(),
-            power,
-        },
-        answer,
-    )
+    let x = x.number();
+    reply(format, mode, ScalingCall { x, power }, answer)
 }
 
 /// The exponent of the highest binary digit, in `number`.
 #[unsafe(no_mangle)]
 pub extern "C" fn apfloat_ilogb(format: u32, x: Halves, answer: &mut Answer) -> u32
-    ensures { let call = Exponent (whole x) in
-        IsReturned (known_call (flagged_kind_coded format) (Some NearestTiesToEven) call)
-        answer.old answer.new result }
+    ensures { IsReturned (known_call (flagged_kind_coded format) (Some NearestTiesToEven)
+        (Exponent (whole x))) answer.old answer.new result }
 {
     reply(format, NEAREST_EVEN, ExponentCall { x: x.number() }, answer)
 }
@@ -357,9 +260,8 @@ pub extern "C" fn apfloat_ilogb(format: u32, x: Halves, answer: &mut Answer) -> 
 /// The fraction of a value, from a half to below 1, and its exponent in `number`. Only pairs of doubles use the mode.
 #[unsafe(no_mangle)]
 pub extern "C" fn apfloat_frexp(format: u32, mode: u32, x: Halves, answer: &mut Answer) -> u32
-    ensures { let call = Fraction (whole x) in
-        IsReturned (known_call (flagged_kind_coded format) (mode_coded mode) call)
-        answer.old answer.new result }
+    ensures { IsReturned (known_call (flagged_kind_coded format) (mode_coded mode)
+        (Fraction (whole x))) answer.old answer.new result }
 {
     reply_in_kind(format, mode, FractionCall { x: x.number() }, answer)
 }
@@ -367,9 +269,8 @@ pub extern "C" fn apfloat_frexp(format: u32, mode: u32, x: Halves, answer: &mut 
 /// The least value above the operand.
 #[unsafe(no_mangle)]
 pub extern "C" fn apfloat_next_up(format: u32, x: Halves, answer: &mut Answer) -> u32
-    ensures { let call = NextUp (whole x) in
-        IsReturned (known_call (flagged_kind_coded format) (Some NearestTiesToEven) call)
-        answer.old answer.new result }
+    ensures { IsReturned (known_call (flagged_kind_coded format) (Some NearestTiesToEven)
+        (NextUp (whole x))) answer.old answer.new result }
 {
     reply(format, NEAREST_EVEN, NextUpCall { x: x.number() }, answer)
 }
@@ -377,9 +278,8 @@ pub extern "C" fn apfloat_next_up(format: u32, x: Halves, answer: &mut Answer) -
 /// The greatest value below the operand.
 #[unsafe(no_mangle)]
 pub extern "C" fn apfloat_next_down(format: u32, x: Halves, answer: &mut Answer) -> u32
-    ensures { let call = NextDown (whole x) in
-        IsReturned (known_call (flagged_kind_coded format) (Some NearestTiesToEven) call)
-        answer.old answer.new result }
+    ensures { IsReturned (known_call (flagged_kind_coded format) (Some NearestTiesToEven)
+        (NextDown (whole x))) answer.old answer.new result }
 {
     reply(format, NEAREST_EVEN, NextDownCall { x: x.number() }, answer)
 }
@@ -387,27 +287,18 @@ pub extern "C" fn apfloat_next_down(format: u32, x: Halves, answer: &mut Answer)
 /// The order of two values in `number`: -1, 0 or 1, and 2 if they are unordered.
 #[unsafe(no_mangle)]
 pub extern "C" fn apfloat_compare(format: u32, x: Halves, y: Halves, answer: &mut Answer) -> u32
-    ensures { let call = Comparison (whole x) (whole y) in
-        IsReturned (known_call (flagged_kind_coded format) (Some NearestTiesToEven) call)
-        answer.old answer.new result }
+    ensures { IsReturned (known_call (flagged_kind_coded format) (Some NearestTiesToEven)
+        (Comparison (whole x) (whole y))) answer.old answer.new result }
 {
-    reply(
-        format,
-        NEAREST_EVEN,
-        ComparisonCall {
-            x: x.number(),
-            y: y.number(),
-        },
-        answer,
-    )
+    let (x, y) = (x.number(), y.number());
+    reply(format, NEAREST_EVEN, ComparisonCall { x, y }, answer)
 }
 
 /// The class of a value in `number` (IEEE 754-2019 5.7.2).
 #[unsafe(no_mangle)]
 pub extern "C" fn apfloat_classify(format: u32, x: Halves, answer: &mut Answer) -> u32
-    ensures { let call = Class (whole x) in
-        IsReturned (known_call (flagged_kind_coded format) (Some NearestTiesToEven) call)
-        answer.old answer.new result }
+    ensures { IsReturned (known_call (flagged_kind_coded format) (Some NearestTiesToEven)
+        (Class (whole x))) answer.old answer.new result }
 {
     reply(format, NEAREST_EVEN, ClassCall { x: x.number() }, answer)
 }
@@ -415,9 +306,8 @@ pub extern "C" fn apfloat_classify(format: u32, x: Halves, answer: &mut Answer) 
 /// The value of a text, rounded once; a text with a byte above 127 is refused.
 #[unsafe(no_mangle)]
 pub extern "C" fn apfloat_parse(format: u32, mode: u32, text: &[u8], answer: &mut Answer) -> u32
-    ensures { let call = Text text.entry in
-        IsReturned (known_call (flagged_kind_coded format) (mode_coded mode) call)
-        answer.old answer.new result }
+    ensures { IsReturned (known_call (flagged_kind_coded format) (mode_coded mode)
+        (Text text.entry)) answer.old answer.new result }
 {
     reply(format, mode, TextCall { text }, answer)
 }

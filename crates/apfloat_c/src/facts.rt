@@ -3,7 +3,7 @@
 ghost use Rattle.std.specs.Prelude.{◌≡◌};
 ghost use Rattle.formats_at_run_time.specs.FlaggedKinds.{flagged_kind_coded};
 ghost use Rattle.coded_calls.specs.KnownCalls.{text_format};
-ghost use Rattle.apfloat_c.specs.Facts.{AreFactsOnce, AreFactsWritten};
+ghost use Rattle.apfloat_c.specs.Facts.{AreFactsWritten};
 
 use apfloat_arrays::{Extended, width};
 use coded_calls::codes::{ANSWERED, NO_SUCH_OPERATION, UNKNOWN_FORMAT};
@@ -26,8 +26,3 @@ pub extern "C" fn apfloat_format_facts(format: u32, facts: &mut Facts) -> u32
         }
     }
 }
-
-/// A format has one description.
-pub fn facts_have_one_answer()
-    ensures { AreFactsOnce }
-{}

@@ -5,8 +5,7 @@ ghost use Rattle.coded_calls.specs.declared.flagless_call.FlaglessCall.TheVarian
 ghost use Rattle.coded_calls.specs.declared.flagless_call.FlaglessCall.TheVariants.{LesserNumber, GreaterNumber};
 ghost use Rattle.coded_calls.specs.declared.flagless_call.FlaglessCall.TheVariants.{Minimum, Maximum, QuietNan};
 ghost use Rattle.coded_calls.specs.declared.flagless_call.FlaglessCall.TheVariants.{SignalingNan, SignTest};
-ghost use Rattle.coded_calls.specs.Answers.{whole};
-ghost use Rattle.coded_calls.specs.FlaglessCalls.{IsFlaglessReply, is_set};
+ghost use Rattle.coded_calls.specs.{Answers.whole, FlaglessCalls.IsFlaglessReply, FlaglessCalls.is_set};
 
 use coded_calls::data::{Answer, Halves};
 use coded_calls::flagless::{is_set, reply};
@@ -36,11 +35,8 @@ pub extern "C" fn apfloat_copy_sign(format: u32, x: Halves, y: Halves, answer: &
     ensures { IsFlaglessReply (flagged_kind_coded format) (SignCopy (whole x) (whole y))
         answer.old answer.new result }
 {
-    reply(
-        format,
-        FlaglessCall::SignCopy(x.number(), y.number()),
-        answer,
-    )
+    let call = FlaglessCall::SignCopy(x.number(), y.number());
+    reply(format, call, answer)
 }
 
 /// The lesser value, or the number beside a NaN (minNum of IEEE 754-2008 5.3.1, but a signaling NaN counts as a quiet
@@ -50,11 +46,8 @@ pub extern "C" fn apfloat_min(format: u32, x: Halves, y: Halves, answer: &mut An
     ensures { IsFlaglessReply (flagged_kind_coded format) (LesserNumber (whole x) (whole y))
         answer.old answer.new result }
 {
-    reply(
-        format,
-        FlaglessCall::LesserNumber(x.number(), y.number()),
-        answer,
-    )
+    let call = FlaglessCall::LesserNumber(x.number(), y.number());
+    reply(format, call, answer)
 }
 
 /// The greater value, or the number beside a NaN (maxNum of IEEE 754-2008 5.3.1, but a signaling NaN counts as a quiet
@@ -64,11 +57,8 @@ pub extern "C" fn apfloat_max(format: u32, x: Halves, y: Halves, answer: &mut An
     ensures { IsFlaglessReply (flagged_kind_coded format) (GreaterNumber (whole x) (whole y))
         answer.old answer.new result }
 {
-    reply(
-        format,
-        FlaglessCall::GreaterNumber(x.number(), y.number()),
-        answer,
-    )
+    let call = FlaglessCall::GreaterNumber(x.number(), y.number());
+    reply(format, call, answer)
 }
 
 /// The lesser value, or the first NaN unchanged; -0 is below +0 (otherwise minimum of IEEE 754-2019 9.6).
@@ -77,11 +67,8 @@ pub extern "C" fn apfloat_minimum(format: u32, x: Halves, y: Halves, answer: &mu
     ensures { IsFlaglessReply (flagged_kind_coded format) (Minimum (whole x) (whole y))
         answer.old answer.new result }
 {
-    reply(
-        format,
-        FlaglessCall::Minimum(x.number(), y.number()),
-        answer,
-    )
+    let call = FlaglessCall::Minimum(x.number(), y.number());
+    reply(format, call, answer)
 }
 
 /// The greater value, or the first NaN unchanged; -0 is below +0 (otherwise maximum of IEEE 754-2019 9.6).
@@ -90,11 +77,8 @@ pub extern "C" fn apfloat_maximum(format: u32, x: Halves, y: Halves, answer: &mu
     ensures { IsFlaglessReply (flagged_kind_coded format) (Maximum (whole x) (whole y))
         answer.old answer.new result }
 {
-    reply(
-        format,
-        FlaglessCall::Maximum(x.number(), y.number()),
-        answer,
-    )
+    let call = FlaglessCall::Maximum(x.number(), y.number());
+    reply(format, call, answer)
 }
 
 /// The quiet NaN with this payload, truncated to the bits that the format has room for (IEEE 754-2019 6.2.1); it is
@@ -109,11 +93,8 @@ pub extern "C" fn apfloat_qnan(
     ensures { let call = QuietNan (is_set negative) (whole payload) in
         IsFlaglessReply (flagged_kind_coded format) call answer.old answer.new result }
 {
-    reply(
-        format,
-        FlaglessCall::QuietNan(is_set(negative), payload.number()),
-        answer,
-    )
+    let call = FlaglessCall::QuietNan(is_set(negative), payload.number());
+    reply(format, call, answer)
 }
 
 /// The signaling NaN with this payload, truncated to the bits that the format has room for; if none of them is set, the
@@ -129,11 +110,8 @@ pub extern "C" fn apfloat_snan(
     ensures { let call = SignalingNan (is_set negative) (whole payload) in
         IsFlaglessReply (flagged_kind_coded format) call answer.old answer.new result }
 {
-    reply(
-        format,
-        FlaglessCall::SignalingNan(is_set(negative), payload.number()),
-        answer,
-    )
+    let call = FlaglessCall::SignalingNan(is_set(negative), payload.number());
+    reply(format, call, answer)
 }
 
 /// Whether the value has a minus sign, in `number` (IEEE 754-2019 5.7.2, isSignMinus).

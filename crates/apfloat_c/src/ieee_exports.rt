@@ -2,11 +2,9 @@
 
 ghost use Rattle.std.specs.Prelude.{Some};
 ghost use Rattle.rustc_apfloat.specs.declared.Round.TheVariants.{NearestTiesToEven};
-ghost use Rattle.formats_at_run_time.specs.FlaggedKinds.{flagged_kind_coded};
-ghost use Rattle.formats_at_run_time.specs.Modes.{mode_coded};
+ghost use Rattle.formats_at_run_time.specs.{FlaggedKinds.flagged_kind_coded, Modes.mode_coded};
 ghost use Rattle.coded_calls.specs.declared.ieee_call.IeeeCall.TheVariants.{TotalOrder, LogB, ScaleB, Integral};
-ghost use Rattle.coded_calls.specs.Answers.{whole};
-ghost use Rattle.coded_calls.specs.FlaglessCalls.{is_set};
+ghost use Rattle.coded_calls.specs.{Answers.whole, FlaglessCalls.is_set};
 ghost use Rattle.coded_calls.specs.IeeeCalls.{IsIeeeReply, IsInAnotherReply, comparison_call, extremum_call};
 ghost use Rattle.coded_calls.specs.IeeeCalls.{extremum_coded, on_nan_coded, operation_coded, predicate_coded};
 
@@ -44,9 +42,8 @@ pub extern "C" fn apfloat_compare_predicate(
 /// The order of two values in the total order, in `number`: -1, 0 or 1 (IEEE 754-2019 5.10).
 #[unsafe(no_mangle)]
 pub extern "C" fn apfloat_total_order(format: u32, x: Halves, y: Halves, answer: &mut Answer) -> u32
-    ensures { let call = Some (TotalOrder (whole x) (whole y)) in
-        IsIeeeReply (flagged_kind_coded format) (Some NearestTiesToEven) call
-        answer.old answer.new result }
+    ensures { IsIeeeReply (flagged_kind_coded format) (Some NearestTiesToEven)
+        (Some (TotalOrder (whole x) (whole y))) answer.old answer.new result }
 {
     let call = IeeeCall::TotalOrder(x.number(), y.number());
     reply(format, NEAREST_EVEN, Some(call), answer)
@@ -76,8 +73,7 @@ pub extern "C" fn apfloat_extremum(
 /// The exponent of a value as a value, with its flags (IEEE 754-2019 5.3.3, logB).
 #[unsafe(no_mangle)]
 pub extern "C" fn apfloat_log_b(format: u32, mode: u32, x: Halves, answer: &mut Answer) -> u32
-    ensures { let call = Some (LogB (whole x)) in
-        IsIeeeReply (flagged_kind_coded format) (mode_coded mode) call
+    ensures { IsIeeeReply (flagged_kind_coded format) (mode_coded mode) (Some (LogB (whole x)))
         answer.old answer.new result }
 {
     reply(format, mode, Some(IeeeCall::LogB(x.number())), answer)
@@ -92,23 +88,17 @@ pub extern "C" fn apfloat_scale_b(
     power: i32,
     answer: &mut Answer,
 ) -> u32
-    ensures { let call = Some (ScaleB (whole x) power) in
-        IsIeeeReply (flagged_kind_coded format) (mode_coded mode) call
-        answer.old answer.new result }
+    ensures { IsIeeeReply (flagged_kind_coded format) (mode_coded mode)
+        (Some (ScaleB (whole x) power)) answer.old answer.new result }
 {
-    reply(
-        format,
-        mode,
-        Some(IeeeCall::ScaleB(x.number(), power)),
-        answer,
-    )
+    let call = IeeeCall::ScaleB(x.number(), power);
+    reply(format, mode, Some(call), answer)
 }
 
 /// A value rounded to an integral value, without INEXACT (IEEE 754-2019 5.9).
 #[unsafe(no_mangle)]
 pub extern "C" fn apfloat_integral(format: u32, mode: u32, x: Halves, answer: &mut Answer) -> u32
-    ensures { let call = Some (Integral (whole x)) in
-        IsIeeeReply (flagged_kind_coded format) (mode_coded mode) call
+    ensures { IsIeeeReply (flagged_kind_coded format) (mode_coded mode) (Some (Integral (whole x)))
         answer.old answer.new result }
 {
     reply(format, mode, Some(IeeeCall::Integral(x.number())), answer)
@@ -131,11 +121,7 @@ pub extern "C" fn apfloat_to_format(
         IsInAnotherReply (flagged_kind_coded format) (flagged_kind_coded target)
         (mode_coded mode) call answer.old answer.new result }
 {
-    reply_in_another(
-        FlaggedKind::coded(format),
-        FlaggedKind::coded(target),
-        mode_coded(mode),
-        operation_coded(operation, x.number(), y.number(), z.number()),
-        answer,
-    )
+    let call = operation_coded(operation, x.number(), y.number(), z.number());
+    let (source, target) = (FlaggedKind::coded(format), FlaggedKind::coded(target));
+    reply_in_another(source, target, mode_coded(mode), call, answer)
 }

@@ -27,5 +27,4 @@ mod pairs;
 mod readings;
 mod reductions;
 mod storage_modes;
-mod storage_one_answer;
 mod storage_values;

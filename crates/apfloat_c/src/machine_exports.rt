@@ -1,7 +1,6 @@
 //! The export of what machines deliver.
 
-ghost use Rattle.formats_at_run_time.specs.FlaggedKinds.{flagged_kind_coded};
-ghost use Rattle.formats_at_run_time.specs.Modes.{mode_coded};
+ghost use Rattle.formats_at_run_time.specs.{FlaggedKinds.flagged_kind_coded, Modes.mode_coded};
 ghost use Rattle.coded_calls.specs.Answers.{whole};
 ghost use Rattle.coded_calls.specs.MachineCalls.{IsMachineReply, known_machine_call, machine_call, machine_coded};
 

@@ -1,16 +1,12 @@
 //! The exports that apply operations to arrays, declared for C programs in `include/apfloat.h`.
 
 ghost use Rattle.std.specs.Prelude.{◌≡◌, ◌≢◌, ℕ, length};
-ghost use Rattle.formats_at_run_time.specs.FlaggedKinds.{flagged_kind_coded};
-ghost use Rattle.formats_at_run_time.specs.Modes.{mode_coded};
-ghost use Rattle.apfloat_c.specs.ArrayCalls.{known_map, operation_coded};
-ghost use Rattle.apfloat_c.specs.Arrays.{IsMappedArray};
+ghost use Rattle.formats_at_run_time.specs.{FlaggedKinds.flagged_kind_coded, Modes.mode_coded};
+ghost use Rattle.apfloat_c.specs.{ArrayCalls.known_map, ArrayCalls.operation_coded, Arrays.IsMappedArray};
 
-use crate::array_calls::{ElementOperation, bytes_in, known_map, operation_coded};
+use crate::array_calls::{bytes_in, known_map};
 use crate::array_data::ArrayAnswer;
 use coded_calls::codes::ANSWERED;
-use formats_at_run_time::{FlaggedKind, mode_coded};
-use rustc_apfloat::Round;
 
 /// Applies an operation to each element of an array, or to the elements of two or three arrays.
 #[unsafe(no_mangle)]
@@ -30,17 +26,8 @@ pub extern "C" fn apfloat_map_array(
         IsMappedArray known xs.now ys.now zs.now results.old results.new answer.old answer.new
         result }
 {
-    mapped(
-        FlaggedKind::coded(format),
-        mode_coded(mode),
-        operation_coded(operation),
-        xs,
-        ys,
-        zs,
-        results,
-        &mut [],
-        answer,
-    )
+    let table = &mut [];
+    mapped(format, mode, operation, xs, ys, zs, results, table, answer)
 }
 
 /// `apfloat_map_array` with memory lent for a table of all results. If it has 2^19 bytes, a long array of sums,
@@ -65,24 +52,14 @@ pub extern "C" fn apfloat_map_array_by_table(
         result }
     ensures lent { result ≢ 0 → table.new ≡ table.old }
 {
-    mapped(
-        FlaggedKind::coded(format),
-        mode_coded(mode),
-        operation_coded(operation),
-        xs,
-        ys,
-        zs,
-        results,
-        table,
-        answer,
-    )
+    mapped(format, mode, operation, xs, ys, zs, results, table, answer)
 }
 
-/// Applies an operation, as the decoded arguments ask.
+/// Applies an operation, as the codes ask.
 fn mapped(
-    kind: Option<FlaggedKind>,
-    mode: Option<Round>,
-    operation: Option<ElementOperation>,
+    format: u32,
+    mode: u32,
+    operation: u32,
     xs: &[u8],
     ys: &[u8],
     zs: &[u8],
@@ -90,19 +67,15 @@ fn mapped(
     table: &mut [u8],
     answer: &mut ArrayAnswer,
 ) -> u32
-    ensures written { let known = known_map kind mode operation
-        (length xs.now, length ys.now, length zs.now) (length results.old) in
+    ensures written { let lengths : ℕ × ℕ × ℕ = (length xs.now, length ys.now, length zs.now) in
+        let known = known_map (flagged_kind_coded format) (mode_coded mode)
+        (operation_coded operation) lengths (length results.old) in
         IsMappedArray known xs.now ys.now zs.now results.old results.new answer.old answer.new
         result }
     ensures lent { result ≢ 0 → table.new ≡ table.old }
 {
-    let known = known_map(
-        kind,
-        mode,
-        operation,
-        (xs.len(), ys.len(), zs.len()),
-        results.len(),
-    );
+    let lengths = (xs.len(), ys.len(), zs.len());
+    let known = known_map(format, mode, operation, lengths, results.len());
     match known {
         Err(error) => error,
         Ok(map) => {

@@ -4,8 +4,7 @@ ghost use Rattle.std.specs.Prelude.{◌≡◌, ◌*◌, ◌<◌, ◌≤◌, leng
 ghost use Rattle.rustc_apfloat.specs.FlaggedTypes.{constants_of};
 ghost use Rattle.formats_at_run_time.specs.declared.Arithmetic.{Arithmetic};
 ghost use Rattle.formats_at_run_time.specs.declared.Arithmetic.TheVariants.{Sum, Difference, Product};
-ghost use Rattle.formats_at_run_time.specs.FlaggedKinds.{flagged_kind_of};
-ghost use Rattle.formats_at_run_time.specs.ValueKinds.{of_format, value_of};
+ghost use Rattle.formats_at_run_time.specs.{FlaggedKinds.flagged_kind_of, ValueKinds.of_format, ValueKinds.value_of};
 ghost use Rattle.fast_bits.specs.Encoded.{IsNumberAnswer};
 ghost use Rattle.apfloat_c.specs.declared.array_calls.ElementOperation.TheVariants.{OfTwo};
 ghost use Rattle.apfloat_c.specs.Arrays.{AreElements, AreOperands, relation_of_two};

@@ -3,11 +3,9 @@
 
 ghost use Rattle.std.specs.Prelude.{◌≡◌, ◌*◌, ◌<◌, ◌≤◌, IsTrue, [], length, true};
 ghost use Rattle.rustc_apfloat.specs.FlaggedTypes.{constants_of};
-ghost use Rattle.formats_at_run_time.specs.FlaggedKinds.{flagged_kind_of};
-ghost use Rattle.formats_at_run_time.specs.ValueKinds.{of_format};
-ghost use Rattle.apfloat_c.specs.ArrayCalls.{bytes_in, has_element_operation};
-ghost use Rattle.apfloat_c.specs.Arrays.{AreElements, AreOperands};
-ghost use Rattle.apfloat_c.specs.OperationTables.{IsEntry, IsTable};
+ghost use Rattle.formats_at_run_time.specs.{FlaggedKinds.flagged_kind_of, ValueKinds.of_format};
+ghost use Rattle.apfloat_c.specs.{ArrayCalls.bytes_in, ArrayCalls.has_element_operation, Arrays.AreElements};
+ghost use Rattle.apfloat_c.specs.{Arrays.AreOperands, OperationTables.IsEntry, OperationTables.IsTable};
 
 use crate::array_calls::{MapCall, bytes_in};
 use crate::array_data::{Element, ElementCounts};

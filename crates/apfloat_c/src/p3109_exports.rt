@@ -1,15 +1,11 @@
 //! The exports that convert one value into a format of IEEE P3109 or out of it.
 
-ghost use Rattle.formats_at_run_time.specs.FlaggedKinds.{flagged_kind_coded};
-ghost use Rattle.formats_at_run_time.specs.Modes.{mode_coded};
-ghost use Rattle.coded_calls.specs.Answers.{whole};
-ghost use Rattle.coded_calls.specs.P3109.{IsP3109Reply, descriptor_coded};
-ghost use Rattle.coded_calls.specs.P3109.{known_into, known_out_of, rule_coded};
-ghost use Rattle.coded_calls.specs.OneReply.{IsP3109ReplyOnce};
+ghost use Rattle.formats_at_run_time.specs.{FlaggedKinds.flagged_kind_coded, Modes.mode_coded};
+ghost use Rattle.coded_calls.specs.{Answers.whole, P3109.IsP3109Reply};
+ghost use Rattle.coded_calls.specs.P3109.{descriptor_coded, known_into, known_out_of, rule_coded};
 
 use coded_calls::data::{Answer, Halves};
 use coded_calls::p3109::{P3109Format, reply_into, reply_out_of};
-use p3109_formats::projections_by_mode_have_one_answer;
 
 /// A value as a code of a format of P3109, rounded once.
 #[unsafe(no_mangle)]
@@ -41,11 +37,4 @@ pub extern "C" fn apfloat_from_p3109(
         IsP3109Reply known answer.old answer.new result }
 {
     reply_out_of(format, mode, to, code, answer)
-}
-
-/// The contract of these exports allows one code and one result.
-pub fn p3109_exports_have_one_answer()
-    ensures { IsP3109ReplyOnce }
-{
-    projections_by_mode_have_one_answer();
 }

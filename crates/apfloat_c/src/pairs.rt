@@ -1,20 +1,16 @@
 //! Conversions of pairs of doubles from and to formats, and their fused sum, for C programs.
 
-ghost use Rattle.formats_at_run_time.specs.FlaggedKinds.{flagged_kind_coded};
-ghost use Rattle.formats_at_run_time.specs.Modes.{mode_coded};
+ghost use Rattle.formats_at_run_time.specs.{FlaggedKinds.flagged_kind_coded, Modes.mode_coded};
 ghost use Rattle.coded_calls.specs.Answers.{whole};
-ghost use Rattle.apfloat_c.specs.Pairs.{ArePairCallsOnce, IsPairConverted, IsPairFilled, IsPairFusedCall};
-ghost use Rattle.apfloat_c.specs.Pairs.{IsPairMade, IsPairOfKind, IsPairShortestWritten};
-ghost use Rattle.apfloat_c.specs.Pairs.{IsPairText, known_source, known_target};
+ghost use Rattle.apfloat_c.specs.Pairs.{IsPairConverted, IsPairFilled, IsPairFusedCall, IsPairMade, IsPairOfKind};
+ghost use Rattle.apfloat_c.specs.Pairs.{IsPairShortestWritten, IsPairText, known_source, known_target};
 
 use crate::decimals::{DecimalText, Shortest, pair_in_bits, write};
-use apfloat_digits::of_double_doubles::{pair_shortest_reads_back, shortest_of_pair};
+use apfloat_digits::of_double_doubles::shortest_of_pair;
 use coded_calls::codes::{ANSWERED, NO_SUCH_OPERATION, UNKNOWN_FORMAT, UNKNOWN_MODE};
 use coded_calls::data::{Answer, Halves};
 use formats_at_run_time::{FillsInFormat, FlaggedKind, InFormat, mode_coded};
-use rustc_apfloat::double_double_operations::{
-    operations_have_one_answer, pair_from_format, pair_mul_add_r, pair_to_format,
-};
+use rustc_apfloat::double_double_operations::{pair_from_format, pair_mul_add_r, pair_to_format};
 use rustc_apfloat::ieee::{Flagged, IeeeFloat, Semantics};
 use rustc_apfloat::ppc::DoubleDouble;
 use rustc_apfloat::{Category, Float, Round, StatusAnd};
@@ -160,12 +156,4 @@ impl InFormat for PairFromFormat {
     fn in_format<S: Semantics>(self) -> StatusAnd<DoubleDouble> {
         pair_from_format(IeeeFloat::<S>::from_bits(self.bits), self.round)
     }
-}
-
-/// Each of these calls has one answer.
-pub fn pair_calls_have_one_answer()
-    ensures { ArePairCallsOnce }
-{
-    operations_have_one_answer();
-    pair_shortest_reads_back();
 }

@@ -2,9 +2,8 @@
 
 ghost use Rattle.std.specs.Prelude.{◌≡◌};
 ghost use Rattle.std.specs.Str.{str_eq_ignore_ascii_case};
-ghost use Rattle.formats_at_run_time.specs.FlaggedKinds.{flagged_kind_coded};
-ghost use Rattle.formats_at_run_time.specs.Modes.{mode_coded};
-ghost use Rattle.apfloat_c.specs.Readings.{IsDecimalRead, IsDecimalReadOnce, known_spelling, known_text};
+ghost use Rattle.formats_at_run_time.specs.{FlaggedKinds.flagged_kind_coded, Modes.mode_coded};
+ghost use Rattle.apfloat_c.specs.Readings.{IsDecimalRead, known_spelling, known_text};
 
 use crate::decimals::{DecimalReading, read_pair};
 use apfloat_conversions::hex_texts::split_mark;
@@ -60,8 +59,3 @@ fn is_word(text: &[u8], word: &[u8]) -> bool
 {
     text.eq_ignore_ascii_case(word)
 }
-
-/// A text is read in one way: one code, and one result.
-pub fn readings_have_one_answer()
-    ensures { IsDecimalReadOnce }
-{}

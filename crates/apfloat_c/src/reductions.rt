@@ -11,7 +11,7 @@ ghost use Rattle.formats_at_run_time.specs.Modes.{mode_coded};
 ghost use Rattle.formats_at_run_time.specs.Relations.{in_format};
 ghost use Rattle.coded_calls.specs.Answers.{IsValueWritten};
 ghost use Rattle.apfloat_c.specs.declared.reductions.Reduction.TheVariants.{Sum, Magnitudes, Products};
-ghost use Rattle.apfloat_c.specs.Reductions.{IsReducedCall, IsReducedCallOnce, IsReducedIn};
+ghost use Rattle.apfloat_c.specs.Reductions.{IsReducedCall, IsReducedIn};
 ghost use Rattle.apfloat_c.specs.Reductions.{known_reduction, reducible_format, sums_fit, term_of, values_from};
 
 use crate::array_calls::bytes_in;
@@ -264,8 +264,3 @@ fn add_term<S: Flagged, const WORDS: usize>(
         Reduction::Products => sum.add_product(x, IeeeFloat::<S>::from_bits(y)),
     }
 }
-
-/// Each of these calls has one answer.
-pub fn reductions_have_one_answer()
-    ensures { IsReducedCallOnce }
-{}

@@ -3,11 +3,10 @@
 
 ghost use Rattle.std.specs.Prelude.{◌≡◌, IfOk, length};
 ghost use Rattle.formats_at_run_time.specs.FlaggedKinds.{flagged_kind_coded};
-ghost use Rattle.apfloat_arrays.specs.stored.ByMode.{HasDigits};
-ghost use Rattle.apfloat_arrays.specs.stored.Formats.{stored_format_coded};
+ghost use Rattle.apfloat_arrays.specs.stored.{ByMode.HasDigits, Formats.stored_format_coded};
 ghost use Rattle.coded_calls.specs.Answers.{whole};
-ghost use Rattle.apfloat_c.specs.StorageModes.{IsModeArray, IsModeReply, arrays_fit, each_round_coded};
-ghost use Rattle.apfloat_c.specs.StorageModes.{known_by_mode, known_mode_array, randoms_fit};
+ghost use Rattle.apfloat_c.specs.StorageModes.{IsModeArray, IsModeReply, arrays_fit, each_round_coded, known_by_mode};
+ghost use Rattle.apfloat_c.specs.StorageModes.{known_mode_array, randoms_fit};
 
 use crate::array_calls::lengths_fit;
 use crate::array_data::{ArrayAnswer, ElementCounts};
@@ -40,23 +39,19 @@ fn each_round_coded(mode: u32, digits: u32) -> Result<EachRound, u32>
 }
 
 /// The conversion that these codes ask for, or the code of the first error.
-fn known_by_mode(
-    source: Option<FlaggedKind>,
-    mode: u32,
-    digits: u32,
-    target: Option<StoredFormat>,
-) -> Result<ModeConversion, u32>
-    ensures is { result ≡ known_by_mode source (each_round_coded mode digits) target }
+fn known_by_mode(format: u32, mode: u32, to: u32, digits: u32) -> Result<ModeConversion, u32>
+    ensures is { result ≡ known_by_mode (flagged_kind_coded format) (each_round_coded mode digits)
+        (stored_format_coded to) }
     ensures digits { IfOk result (λ it. HasDigits it.round) }
 {
-    let Some(source) = source else {
+    let Some(source) = FlaggedKind::coded(format) else {
         return Err(UNKNOWN_FORMAT);
     };
     let round = match each_round_coded(mode, digits) {
         Ok(round) => round,
         Err(error) => return Err(error),
     };
-    let Some(target) = target else {
+    let Some(target) = StoredFormat::coded(to) else {
         return Err(UNKNOWN_FORMAT);
     };
     match source {
@@ -139,12 +134,7 @@ pub extern "C" fn apfloat_to_storage_by(
         (stored_format_coded to) in
         IsModeReply known random (whole x) answer.old answer.new result }
 {
-    let known = known_by_mode(
-        FlaggedKind::coded(format),
-        mode,
-        digits,
-        StoredFormat::coded(to),
-    );
+    let known = known_by_mode(format, mode, to, digits);
     convert(known, random, x.number(), answer)
 }
 
@@ -167,12 +157,7 @@ pub extern "C" fn apfloat_convert_array_by(
         IsModeArray known randoms.now values.now results.old results.new answer.old answer.new
         result }
 {
-    let asked = known_by_mode(
-        FlaggedKind::coded(format),
-        mode,
-        digits,
-        StoredFormat::coded(to),
-    );
+    let asked = known_by_mode(format, mode, to, digits);
     convert_array(asked, randoms, values, results, answer)
 }
 

@@ -28,20 +28,17 @@ fn between(ends: Ends, mode: ConversionMode) -> StorageArray
 }
 
 /// The conversion into a storage format that these codes ask for, or the code of the first error.
-fn known_storing(
-    source: Option<FlaggedKind>,
-    mode: Option<ConversionMode>,
-    target: Option<StoredFormat>,
-) -> Result<StorageArray, u32>
-    ensures { result ≡ known_storing source mode target }
+fn known_storing(format: u32, mode: u32, to: u32) -> Result<StorageArray, u32>
+    ensures { result ≡ known_storing (flagged_kind_coded format) (conversion_mode_coded mode)
+        (stored_format_coded to) }
 {
-    let Some(source) = source else {
+    let Some(source) = FlaggedKind::coded(format) else {
         return Err(UNKNOWN_FORMAT);
     };
-    let Some(mode) = mode else {
+    let Some(mode) = conversion_mode_coded(mode) else {
         return Err(UNKNOWN_MODE);
     };
-    let Some(target) = target else {
+    let Some(target) = StoredFormat::coded(to) else {
         return Err(UNKNOWN_FORMAT);
     };
     match source {
@@ -51,20 +48,17 @@ fn known_storing(
 }
 
 /// The conversion from a storage format that these codes ask for, or the code of the first error.
-fn known_loading(
-    source: Option<StoredFormat>,
-    mode: Option<ConversionMode>,
-    target: Option<FlaggedKind>,
-) -> Result<StorageArray, u32>
-    ensures { result ≡ known_loading source mode target }
+fn known_loading(format: u32, mode: u32, to: u32) -> Result<StorageArray, u32>
+    ensures { result ≡ known_loading (stored_format_coded format) (conversion_mode_coded mode)
+        (flagged_kind_coded to) }
 {
-    let Some(source) = source else {
+    let Some(source) = StoredFormat::coded(format) else {
         return Err(UNKNOWN_FORMAT);
     };
-    let Some(mode) = mode else {
+    let Some(mode) = conversion_mode_coded(mode) else {
         return Err(UNKNOWN_MODE);
     };
-    let Some(target) = target else {
+    let Some(target) = FlaggedKind::coded(to) else {
         return Err(UNKNOWN_FORMAT);
     };
     match target {
@@ -100,12 +94,7 @@ pub extern "C" fn apfloat_to_storage(
         (stored_format_coded to) in
         IsStorageReply known (whole x) answer.old answer.new result }
 {
-    let known = known_storing(
-        FlaggedKind::coded(format),
-        conversion_mode_coded(mode),
-        StoredFormat::coded(to),
-    );
-    convert(known, x.number(), answer)
+    convert(known_storing(format, mode, to), x.number(), answer)
 }
 
 /// The value of a code of a storage format in another format, rounded once.
@@ -121,10 +110,5 @@ pub extern "C" fn apfloat_from_storage(
         (flagged_kind_coded to) in
         IsStorageReply known code answer.old answer.new result }
 {
-    let known = known_loading(
-        StoredFormat::coded(format),
-        conversion_mode_coded(mode),
-        FlaggedKind::coded(to),
-    );
-    convert(known, u128::from(code), answer)
+    convert(known_loading(format, mode, to), u128::from(code), answer)
 }

@@ -2,8 +2,7 @@
 use Rattle.std.proofs.Common.{◌≡◌, true, false, refl, ⊎_elim, eqb, Result, Ok, Err}
 use Rattle.std.proofs.lemmas.Bool.{cases_Bool}
 use Rattle.std.specs.Result.{IsOkAnd}
-use Rattle.apfloat_decimals.specs.declared.decimal.Decimal.{Decimal}
-use Rattle.apfloat_decimals.specs.ReadBack.{is_written_whole, written}
+use Rattle.apfloat_decimals.specs.{declared.decimal.Decimal.Decimal, ReadBack.is_written_whole, ReadBack.written}
 
 -- the text of a decimal has its sign
 pub written_sign : (x : Decimal) → (written x).negative ≡ x.negative

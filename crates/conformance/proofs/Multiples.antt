@@ -1,11 +1,10 @@
 -- The two multiples of the spacing that enclose a magnitude are its neighbours.
-use Rattle.std.proofs.Common.{◌≡◌, ℕ, zero, suc, ◌+◌, ◌-◌, ◌*◌, ◌/◌, ◌%◌, ◌^◌, ◌<◌, ◌≤◌, ◌⊎◌, ⊎_elim, sym, subst, arith}
+use Rattle.std.proofs.Common.{◌≡◌, ℕ, zero, suc, ◌+◌, ◌-◌, ◌*◌, ◌/◌, ◌%◌, ◌^◌, ◌<◌}
+use Rattle.std.proofs.Common.{◌≤◌, ◌⊎◌, ⊎_elim, sym, subst, arith}
 use Rattle.std.proofs.Math.Nat.{mul-le-mul_right, div-add-mod', pow-suc}
-use Rattle.std.proofs.lemmas.Nat.{pow_pos}
-use Rattle.std.proofs.lemmas.Bool.{cases_lt}
+use Rattle.std.proofs.lemmas.{Nat.pow_pos, Bool.cases_lt}
 use Rattle.std.specs.Int.{div_ceil}
-use Rattle.apfloat_model.specs.rounding.Grid.{IsBelow, IsAbove}
-use Rattle.apfloat_model.specs.rounding.Enclosure.{IsEnclosed}
+use Rattle.apfloat_model.specs.rounding.{Grid.IsBelow, Grid.IsAbove, Enclosure.IsEnclosed}
 use Rattle.apfloat_model.proofs.general.Powers.{twice_half}
 use Rattle.apfloat_model.proofs.rounding.Neighbours.{below_is, above_is_same, above_is_next}
 use Rattle.apfloat_model.proofs.rounding.NeighboursExist.{enclosed_by_quotient}

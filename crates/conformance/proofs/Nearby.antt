@@ -1,11 +1,8 @@
 -- The difference of near numbers, by the law of differences.
 use Rattle.std.proofs.Common.{◌≡◌, ℕ, ap, sym, ◌∙◌}
-use Rattle.std.specs.Prelude.{◌-ℤ◌}
 use Rattle.std.proofs.Math.Path.{ap₂}
-use Rattle.rustc_apfloat.specs.Datum.{Datum}
-use Rattle.rustc_apfloat.specs.Order.{number}
-use Rattle.rustc_apfloat.specs.Rounding.{ok_bits}
-use Rattle.rustc_apfloat.specs.Sums.{IsNearby}
+use Rattle.std.specs.Prelude.{◌-ℤ◌}
+use Rattle.rustc_apfloat.specs.{Datum.Datum, Order.number, Rounding.ok_bits, Sums.IsNearby}
 use Rattle.conformance.specs.LawPremises.{AreNear}
 
 pub near_number : (x y value : Datum) (status : ℕ) → AreNear x y → IsNearby x y value status

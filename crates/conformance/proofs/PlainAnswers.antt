@@ -1,19 +1,16 @@
 -- The results of the plain program are those that one rounding delivers.
-use Rattle.std.proofs.Common.{◌≡◌, ℕ, ◌+◌, ◌-◌, ◌*◌, ◌^◌, ◌<◌, ◌≤◌, Bool, true, false, ◌||◌, cond, ltb, leb, refl, sym, ap, ◌∙◌, subst, ⊎_elim, lit<, arith}
-use Rattle.std.proofs.lemmas.Bool.{cases_eq, lt-ltb, le-ltb, lt-leb}
+use Rattle.std.proofs.Common.{◌≡◌, ℕ, ◌+◌, ◌-◌, ◌*◌, ◌^◌, ◌<◌, ◌≤◌, Bool, true, false}
+use Rattle.std.proofs.Common.{◌||◌, cond, ltb, leb, refl, sym, ap, ◌∙◌, subst, ⊎_elim, lit<, arith}
+use Rattle.std.proofs.lemmas.{Bool.cases_eq, Bool.lt-ltb, Bool.le-ltb, Bool.lt-leb, Nat.pow_pos}
 use Rattle.std.proofs.Math.Nat.{mul-le-mul_right, pow-le-pow_right}
-use Rattle.std.proofs.lemmas.Nat.{pow_pos}
-use Rattle.apfloat_model.specs.declared.kinds.Round.{Round}
-use Rattle.apfloat_model.specs.declared.kinds.NonfiniteBehavior.{NonfiniteBehavior}
-use Rattle.apfloat_model.specs.formats.Format.{Format, largest, nan_base_of}
-use Rattle.apfloat_model.specs.formats.Datum.{Datum, finite}
-use Rattle.apfloat_model.specs.rounding.Rounding.{IsPick, IsDelivered, signed_quanta, leads_out, past_largest, rounds_below_normal, is_tiny}
+use Rattle.apfloat_model.specs.declared.kinds.{Round.Round, NonfiniteBehavior.NonfiniteBehavior}
+use Rattle.apfloat_model.specs.formats.{Format.Format, Format.largest, Format.nan_base_of, Datum.Datum, Datum.finite}
+use Rattle.apfloat_model.specs.rounding.Rounding.{IsPick, IsDelivered, signed_quanta, leads_out, past_largest}
+use Rattle.apfloat_model.specs.rounding.Rounding.{rounds_below_normal, is_tiny}
 use Rattle.apfloat_model.proofs.general.Powers.{twice_half}
-use Rattle.apfloat_model.proofs.rounding.Laws.{pick_within}
-use Rattle.apfloat_model.proofs.rounding.Tininess.{by_pick_of_twice}
+use Rattle.apfloat_model.proofs.rounding.{Laws.pick_within, Tininess.by_pick_of_twice}
 use Rattle.apfloat_model.proofs.rounding.Deliveries.{delivered_past, delivered_exactly, delivered_inexactly}
-use Rattle.conformance.specs.Plain.{HasBounds, tiny_of}
-use Rattle.conformance.specs.declared.plain.Bounds.{Bounds}
+use Rattle.conformance.specs.{Plain.HasBounds, Plain.tiny_of, declared.plain.Bounds.Bounds}
 use Rattle.conformance.proofs.Multiples.{above_fits}
 
 -- a pick, multiplied by the parts, fits 128 bits

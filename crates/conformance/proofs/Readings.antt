@@ -1,16 +1,11 @@
 -- The status of the reading of a text.
 use Rattle.std.proofs.Common.{ℕ}
 use Rattle.std.specs.Prelude.{List, Result, Ok, Err}
-use Rattle.apfloat_model.specs.declared.kinds.Round.{Round}
-use Rattle.apfloat_model.specs.declared.parse_error.ParseError.{ParseError}
+use Rattle.apfloat_model.specs.declared.{kinds.Round.Round, parse_error.ParseError.ParseError}
 use Rattle.apfloat_model.specs.declared.status.StatusAnd.{StatusAnd}
-use Rattle.rustc_apfloat.specs.Datum.{Datum}
-use Rattle.rustc_apfloat.specs.Flags.{bits_of}
-use Rattle.rustc_apfloat.specs.Format.{Format}
-use Rattle.rustc_apfloat.specs.PairCalls.{IsPairRead}
-use Rattle.rustc_apfloat.specs.Pairs.{Pair}
-use Rattle.rustc_apfloat.specs.Parsing.{IsRead}
 use Rattle.apfloat_model.proofs.rounding.FlagsTogether.{reading_together}
+use Rattle.rustc_apfloat.specs.{Datum.Datum, Flags.bits_of, Format.Format, PairCalls.IsPairRead, Pairs.Pair}
+use Rattle.rustc_apfloat.specs.Parsing.{IsRead}
 use Rattle.apfloat_pair_theory.proofs.calls.PairFlagsTogether.{pair_reading_together}
 use Rattle.conformance.specs.Statuses.{HasFlagsTogether}
 

@@ -1,24 +1,16 @@
 -- Sums of doubles as pairs, by the laws of sums of pairs.
-use Rattle.std.proofs.Common.{◌≡◌, ℕ, ◌+◌, ◌*◌, ◌^◌, ◌<◌, ◌≤◌, refl, sym, ◌∙◌, subst, arith}
+use Rattle.std.proofs.Common.{◌≡◌, ℕ, ◌+◌, ◌*◌, ◌^◌, ◌<◌, ◌≤◌, refl, sym, ◌∙◌}
+use Rattle.std.proofs.Common.{subst, arith}
+use Rattle.std.proofs.Math.{IntN.+ℤ_idr, Nat.mod-eq_of_lt, Nat.div-eq_of_lt, Path.subst₂}
 use Rattle.std.specs.Prelude.{ℤ, ◌+ℤ◌}
-use Rattle.std.proofs.Math.IntN.{+ℤ_idr}
-use Rattle.std.proofs.Math.Nat.{mod-eq_of_lt, div-eq_of_lt}
-use Rattle.std.proofs.Math.Path.{subst₂}
-use Rattle.rustc_apfloat.specs.Datum.{Datum}
-use Rattle.rustc_apfloat.specs.Classes.{quanta_of}
-use Rattle.rustc_apfloat.specs.Exact.{magnitude}
-use Rattle.rustc_apfloat.specs.Formats.{double_constants}
-use Rattle.rustc_apfloat.specs.Layout.{datum_of}
-use Rattle.rustc_apfloat.specs.Lawful.{layout_with}
-use Rattle.rustc_apfloat.specs.Members.{IsMember}
-use Rattle.rustc_apfloat.specs.Order.{number}
-use Rattle.rustc_apfloat.specs.PairFormats.{double}
-use Rattle.rustc_apfloat.specs.Pairs.{Pair, alone, pair_of, pair_number}
-use Rattle.rustc_apfloat.specs.PairAccuracy.{sum_reach, HasZeroLow, IsExactPair, IsClosePair, IsErrorFreeSum, IsAccurateSum}
+use Rattle.rustc_apfloat.specs.{Datum.Datum, Classes.quanta_of, Exact.magnitude, Formats.double_constants}
+use Rattle.rustc_apfloat.specs.{Layout.datum_of, Lawful.layout_with, Members.IsMember, Order.number, PairFormats.double}
+use Rattle.rustc_apfloat.specs.{Pairs.Pair, Pairs.alone, Pairs.pair_of, Pairs.pair_number, PairAccuracy.sum_reach}
+use Rattle.rustc_apfloat.specs.PairAccuracy.{HasZeroLow, IsExactPair, IsClosePair, IsErrorFreeSum, IsAccurateSum}
 use Rattle.apfloat_pair_theory.proofs.numbers.Signed.{magnitude_le, first_most}
-use Rattle.apfloat_model.proofs.whole_numbers.SignedProducts.{times_one}
 use Rattle.apfloat_pair_theory.proofs.pairs.LawOperands.{magnitude_quanta, normalised_low, double_alone}
 use Rattle.apfloat_pair_theory.proofs.sums.PairSumLaws.{single_normalised}
+use Rattle.apfloat_model.proofs.whole_numbers.SignedProducts.{times_one}
 use Rattle.conformance.specs.Summands.{reach_of_three, IsPlainSummand}
 
 -- the number of a pair that is a double and +0

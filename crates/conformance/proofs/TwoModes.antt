@@ -1,21 +1,15 @@
 -- Two results of one operation, from the laws of the operation.
 use Rattle.std.proofs.Common.{ℕ, subst}
 use Rattle.std.specs.Prelude.{List, Result, Ok, Err}
-use Rattle.apfloat_model.specs.declared.kinds.Round.{Round}
-use Rattle.apfloat_model.specs.declared.parse_error.ParseError.{ParseError}
+use Rattle.apfloat_model.specs.declared.{kinds.Round.Round, parse_error.ParseError.ParseError}
 use Rattle.apfloat_model.specs.declared.status.StatusAnd.{StatusAnd}
-use Rattle.rustc_apfloat.specs.Datum.{Datum}
-use Rattle.rustc_apfloat.specs.Flags.{Gives, bits_of}
-use Rattle.rustc_apfloat.specs.Format.{Format}
-use Rattle.rustc_apfloat.specs.Parsing.{IsRead}
-use Rattle.rustc_apfloat.specs.Readings.{IsReading}
-use Rattle.rustc_apfloat.specs.TwoModes.{AreSameIfOk, AreSameIfOkButForZeros, AreOutward, AreBoundsUnlessNan, IsOk}
 use Rattle.apfloat_model.proofs.Determined.{reading_or_refusal, refusal_once}
 use Rattle.apfloat_model.proofs.rounding.ModesAgree.{AgreesWhereOk, AgreesButForZeros, reading_agrees}
-use Rattle.apfloat_model.proofs.rounding.OutwardRoundings.{Encloses}
-use Rattle.apfloat_model.proofs.rounding.OutwardResults.{reading_encloses}
-use Rattle.conformance.specs.TwoModes.{AreInModes}
-use Rattle.conformance.specs.TwoReadings.{AreReadings}
+use Rattle.apfloat_model.proofs.rounding.{OutwardRoundings.Encloses, OutwardResults.reading_encloses}
+use Rattle.rustc_apfloat.specs.{Datum.Datum, Flags.Gives, Flags.bits_of, Format.Format, Parsing.IsRead}
+use Rattle.rustc_apfloat.specs.Readings.{IsReading}
+use Rattle.rustc_apfloat.specs.TwoModes.{AreSameIfOk, AreSameIfOkButForZeros, AreOutward, AreBoundsUnlessNan, IsOk}
+use Rattle.conformance.specs.{TwoModes.AreInModes, TwoReadings.AreReadings}
 
 same_if_ok : (R : Round → Datum → ℕ → Type 0) → AgreesWhereOk R
     → (mode other : Round) (one two : StatusAnd Datum)

@@ -1,12 +1,8 @@
 -- The contract of sums in the aliases of the formats.
 use Rattle.std.specs.Prelude.{ℕ}
-use Rattle.rustc_apfloat.specs.declared.Round.{Round}
-use Rattle.rustc_apfloat.specs.declared.StatusAnd.{StatusAnd}
-use Rattle.rustc_apfloat.specs.Datum.{Datum}
-use Rattle.rustc_apfloat.specs.Flags.{bits_of}
+use Rattle.rustc_apfloat.specs.{declared.Round.Round, declared.StatusAnd.StatusAnd, Datum.Datum, Flags.bits_of}
 use Rattle.rustc_apfloat.specs.Lawful.{Constants, format_with, layout_with}
-use Rattle.rustc_apfloat.specs.Layout.{datum_of, IsEncodedBy}
-use Rattle.rustc_apfloat.specs.Sums.{IsSum}
+use Rattle.rustc_apfloat.specs.{Layout.datum_of, Layout.IsEncodedBy, Sums.IsSum}
 
 -- the value that a bit pattern encodes in the format with these constants
 abbrev decoded : Constants → ℕ → Datum

@@ -1,12 +1,8 @@
 -- A value that is read back from its shortest decimal.
 use Rattle.std.specs.Prelude.{◌≡◌, Some}
-use Rattle.apfloat_model.specs.declared.kinds.Round.TheVariants.{NearestTiesToEven}
-use Rattle.apfloat_model.specs.declared.status.StatusAnd.{StatusAnd}
-use Rattle.apfloat_model.specs.formats.Datum.{Datum}
-use Rattle.apfloat_model.specs.formats.Format.{Format}
-use Rattle.apfloat_model.specs.rounding.Flags.{Gives}
-use Rattle.apfloat_decimals.specs.declared.decimal.Decimal.{Decimal}
-use Rattle.apfloat_decimals.specs.Decimals.{IsDecimalDelivery}
+use Rattle.apfloat_model.specs.declared.{kinds.Round.TheVariants.NearestTiesToEven, status.StatusAnd.StatusAnd}
+use Rattle.apfloat_model.specs.{formats.Datum.Datum, formats.Format.Format, rounding.Flags.Gives}
+use Rattle.apfloat_decimals.specs.{declared.decimal.Decimal.Decimal, Decimals.IsDecimalDelivery}
 use Rattle.apfloat_decimals.specs.ShortestSearch.{GivesShortest}
 
 -- the value again, with the status of rounding its shortest decimal

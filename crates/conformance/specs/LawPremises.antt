@@ -1,8 +1,6 @@
 -- The premises of the laws of the calls.
 use Rattle.std.specs.Prelude.{◌≡◌, ℕ, ◌*◌, ◌^◌, ◌<◌, ◌≤◌, Bool, false}
-use Rattle.rustc_apfloat.specs.Format.{Format}
-use Rattle.rustc_apfloat.specs.Datum.{Datum, finite}
-use Rattle.rustc_apfloat.specs.Members.{IsFiniteOf}
+use Rattle.rustc_apfloat.specs.{Format.Format, Datum.Datum, Datum.finite, Members.IsFiniteOf}
 
 -- two positive numbers, neither more than twice the other
 pub record AreNear (x y : Datum) : Type 0 where

@@ -1,8 +1,6 @@
 -- Doubles whose sums stay within the reach of the laws of sums of pairs.
 use Rattle.std.specs.Prelude.{◌≡◌, ℕ, ◌+◌, ◌^◌, ◌≤◌, true}
-use Rattle.rustc_apfloat.specs.Datum.{Datum}
-use Rattle.rustc_apfloat.specs.Classes.{is_finite, quanta_of}
-use Rattle.rustc_apfloat.specs.PairFormats.{double}
+use Rattle.rustc_apfloat.specs.{Datum.Datum, Classes.is_finite, Classes.quanta_of, PairFormats.double}
 
 -- a number of at most `reach` quanta
 pub record IsPlainSummand (reach : ℕ) (x : Datum) : Type 0 where

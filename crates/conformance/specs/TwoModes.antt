@@ -1,10 +1,7 @@
 -- Two results of one operation, in two modes.
 use Rattle.std.specs.Prelude.{ℕ}
-use Rattle.apfloat_model.specs.declared.kinds.Round.{Round}
-use Rattle.apfloat_model.specs.declared.status.StatusAnd.{StatusAnd}
-use Rattle.rustc_apfloat.specs.Datum.{Datum}
-use Rattle.rustc_apfloat.specs.Flags.{Gives}
-use Rattle.rustc_apfloat.specs.TwoModes.{AreBoundsUnlessNan, AreOutward}
+use Rattle.apfloat_model.specs.declared.{kinds.Round.Round, status.StatusAnd.StatusAnd}
+use Rattle.rustc_apfloat.specs.{Datum.Datum, Flags.Gives, TwoModes.AreBoundsUnlessNan, TwoModes.AreOutward}
 
 -- Each is that of its mode. They are the same where the first is exact, and bounds where the modes are downward and
 -- upward.

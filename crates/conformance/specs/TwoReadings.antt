@@ -1,7 +1,6 @@
 -- Two readings of one text.
 use Rattle.std.specs.Prelude.{◌≡◌, Result, Ok, Err}
-use Rattle.apfloat_model.specs.declared.parse_error.ParseError.{ParseError}
-use Rattle.apfloat_model.specs.declared.status.StatusAnd.{StatusAnd}
+use Rattle.apfloat_model.specs.declared.{parse_error.ParseError.ParseError, status.StatusAnd.StatusAnd}
 use Rattle.rustc_apfloat.specs.Datum.{Datum}
 
 -- two values that satisfy the statement, or refusals with the same words

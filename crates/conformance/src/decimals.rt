@@ -3,8 +3,7 @@
 ghost use Rattle.std.specs.Prelude.{◌≡◌, Bool, false, Some, Ok, MatchOption, IsOkAnd};
 ghost use Rattle.rustc_apfloat.specs.Types.{format_of};
 ghost use Rattle.apfloat_model.specs.order.Classes.{is_finite};
-ghost use Rattle.apfloat_decimals.specs.ReadBack.{written};
-ghost use Rattle.apfloat_decimals.specs.ShortestSearch.{IsWithinQuad, GivesShortest};
+ghost use Rattle.apfloat_decimals.specs.{ReadBack.written, ShortestSearch.IsWithinQuad, ShortestSearch.GivesShortest};
 ghost use Rattle.apfloat_decimals.specs.Texts.{decimal_text};
 ghost use Rattle.conformance.specs.DecimalRoundTrips.{IsReadBack};
 

@@ -1,15 +1,12 @@
 //! The calls of pairs of doubles, too, raise OVERFLOW and UNDERFLOW only together with INEXACT, as in `statuses`.
 
 ghost use Rattle.std.specs.Prelude.{◌≤◌, Bool};
-ghost use Rattle.rustc_apfloat.specs.Flags.{Gives, bits_of};
-ghost use Rattle.rustc_apfloat.specs.PairCalls.{IsPairFromSigned, IsPairFromUnsigned, IsPairNearestRemainder};
-ghost use Rattle.rustc_apfloat.specs.PairCalls.{IsPairNextDown, IsPairNextUp, IsPairQuotient, IsPairRead};
-ghost use Rattle.rustc_apfloat.specs.PairCalls.{IsPairRoundToIntegral, IsPairToSigned, IsPairToUnsigned};
-ghost use Rattle.rustc_apfloat.specs.PairCalls.{IsPairTruncatedRemainder};
-ghost use Rattle.rustc_apfloat.specs.PairProducts.{IsPairProduct};
-ghost use Rattle.rustc_apfloat.specs.PairRoots.{IsPairRoot};
-ghost use Rattle.rustc_apfloat.specs.PairSums.{IsPairDifference, IsPairSum};
-ghost use Rattle.rustc_apfloat.specs.RaisedFlags.{FlagsGoTogether};
+ghost use Rattle.rustc_apfloat.specs.{Flags.Gives, Flags.bits_of, PairCalls.IsPairFromSigned};
+ghost use Rattle.rustc_apfloat.specs.PairCalls.{IsPairFromUnsigned, IsPairNearestRemainder, IsPairNextDown};
+ghost use Rattle.rustc_apfloat.specs.PairCalls.{IsPairNextUp, IsPairQuotient, IsPairRead, IsPairRoundToIntegral};
+ghost use Rattle.rustc_apfloat.specs.PairCalls.{IsPairToSigned, IsPairToUnsigned, IsPairTruncatedRemainder};
+ghost use Rattle.rustc_apfloat.specs.{PairProducts.IsPairProduct, PairRoots.IsPairRoot, PairSums.IsPairDifference};
+ghost use Rattle.rustc_apfloat.specs.{PairSums.IsPairSum, RaisedFlags.FlagsGoTogether};
 ghost use Rattle.conformance.specs.Statuses.{HasFlagsTogether};
 
 use rustc_apfloat::ppc::DoubleDouble;

@@ -2,18 +2,12 @@
 //! contract states this for their statuses.
 
 ghost use Rattle.std.specs.Prelude.{◌≤◌, Bool};
-ghost use Rattle.rustc_apfloat.specs.Conversions.{IsConversion};
-ghost use Rattle.rustc_apfloat.specs.Flags.{Gives, bits_of};
+ghost use Rattle.rustc_apfloat.specs.{Conversions.IsConversion, Flags.Gives, Flags.bits_of};
 ghost use Rattle.rustc_apfloat.specs.FusedSums.{IsFusedSum, fused_limit};
-ghost use Rattle.rustc_apfloat.specs.NextUp.{IsNextDown, IsNextUp};
-ghost use Rattle.rustc_apfloat.specs.Parsing.{IsRead};
-ghost use Rattle.rustc_apfloat.specs.Products.{IsProduct, product_limit};
-ghost use Rattle.rustc_apfloat.specs.Quotients.{IsQuotient};
-ghost use Rattle.rustc_apfloat.specs.RaisedFlags.{FlagsGoTogether};
+ghost use Rattle.rustc_apfloat.specs.{NextUp.IsNextDown, NextUp.IsNextUp, Parsing.IsRead, Products.IsProduct};
+ghost use Rattle.rustc_apfloat.specs.{Products.product_limit, Quotients.IsQuotient, RaisedFlags.FlagsGoTogether};
 ghost use Rattle.rustc_apfloat.specs.Remainders.{IsNearestRemainder, IsTruncatedRemainder};
-ghost use Rattle.rustc_apfloat.specs.Roots.{IsRoot};
-ghost use Rattle.rustc_apfloat.specs.Sums.{IsDifference, IsSum};
-ghost use Rattle.rustc_apfloat.specs.FlaggedTypes.{format_of};
+ghost use Rattle.rustc_apfloat.specs.{Roots.IsRoot, Sums.IsDifference, Sums.IsSum, FlaggedTypes.format_of};
 ghost use Rattle.rustc_apfloat.specs.WholeNumbers.{IsFromSigned, IsFromUnsigned, IsRoundToIntegral};
 ghost use Rattle.rustc_apfloat.specs.WholeNumbersOut.{IsToSigned, IsToUnsigned};
 ghost use Rattle.conformance.specs.Statuses.{HasFlagsTogether};

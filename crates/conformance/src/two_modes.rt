@@ -6,17 +6,12 @@
 //!   where a zero is converted or divided by; unless one of them is a NaN (`bounds`).
 
 ghost use Rattle.std.specs.Prelude.{◌≤◌, Bool};
-ghost use Rattle.rustc_apfloat.specs.Conversions.{IsConversion};
-ghost use Rattle.rustc_apfloat.specs.FusedSums.{IsFusedSum, fused_limit};
-ghost use Rattle.rustc_apfloat.specs.Parsing.{IsRead};
-ghost use Rattle.rustc_apfloat.specs.Products.{IsProduct, product_limit};
-ghost use Rattle.rustc_apfloat.specs.Quotients.{IsQuotient};
-ghost use Rattle.rustc_apfloat.specs.Sums.{IsDifference, IsSum};
-ghost use Rattle.rustc_apfloat.specs.TwoModes.{AreBoundsUnlessNan, AreOutward, AreSameIfOk, AreSameIfOkButForZeros, IsOk, IsOkOrOfZero};
-ghost use Rattle.rustc_apfloat.specs.FlaggedTypes.{format_of};
-ghost use Rattle.rustc_apfloat.specs.WholeNumbers.{IsFromSigned, IsFromUnsigned};
-ghost use Rattle.conformance.specs.TwoModes.{AreInModes};
-ghost use Rattle.conformance.specs.TwoReadings.{AreReadings};
+ghost use Rattle.rustc_apfloat.specs.{Conversions.IsConversion, FusedSums.IsFusedSum, FusedSums.fused_limit};
+ghost use Rattle.rustc_apfloat.specs.{Parsing.IsRead, Products.IsProduct, Products.product_limit, Quotients.IsQuotient};
+ghost use Rattle.rustc_apfloat.specs.{Sums.IsDifference, Sums.IsSum, TwoModes.AreBoundsUnlessNan};
+ghost use Rattle.rustc_apfloat.specs.TwoModes.{AreOutward, AreSameIfOk, AreSameIfOkButForZeros, IsOk, IsOkOrOfZero};
+ghost use Rattle.rustc_apfloat.specs.{FlaggedTypes.format_of, WholeNumbers.IsFromSigned, WholeNumbers.IsFromUnsigned};
+ghost use Rattle.conformance.specs.{TwoModes.AreInModes, TwoReadings.AreReadings};
 
 use rustc_apfloat::ieee::{Flagged, IeeeFloat};
 use rustc_apfloat::{Float, FloatConvert, ParseError, Round, StatusAnd};

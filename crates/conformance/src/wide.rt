@@ -2,8 +2,7 @@
 //! where both may be called, they return the same.
 
 ghost use Rattle.std.specs.Prelude.{◌≡◌, ◌≤◌};
-ghost use Rattle.rustc_apfloat.specs.Products.{product_limit};
-ghost use Rattle.rustc_apfloat.specs.FusedSums.{fused_limit};
+ghost use Rattle.rustc_apfloat.specs.{Products.product_limit, FusedSums.fused_limit};
 
 use rustc_apfloat::ieee::{Flagged, IeeeFloat};
 use rustc_apfloat::{Float, Round, StatusAnd};

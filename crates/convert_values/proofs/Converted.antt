@@ -1,15 +1,12 @@
 -- Blocks that are converted one after another.
-use Rattle.std.proofs.Common.{◌≡◌, ℕ, ◌+◌, ◌-◌, ◌*◌, ◌/◌, ◌<◌, refl}
-use Rattle.std.proofs.Common.{sym, ap, ◌∙◌, subst, List, [], ◌∷◌, ◌++◌, length, take}
-use borrow.Rule.Slice.PartMut.{put_mid}
-use Rattle.apfloat_arrays.specs.declared.Counts.{Counts}
-use Rattle.apfloat_arrays.specs.declared.Widths.{Widths}
-use Rattle.apfloat_arrays.specs.Blocks.{value_at}
-use Rattle.apfloat_arrays.specs.Outcomes.{sum_of}
+use Rattle.std.proofs.Common.{◌≡◌, ℕ, ◌+◌, ◌-◌, ◌*◌, ◌/◌, ◌<◌, refl, sym, ap, ◌∙◌}
+use Rattle.std.proofs.Common.{subst, List, [], ◌∷◌, ◌++◌, length, take}
+use Rattle.apfloat_arrays.specs.declared.{Counts.Counts, Widths.Widths}
+use Rattle.apfloat_arrays.specs.{Blocks.value_at, Outcomes.sum_of, scaled_blocks.Quantized.no_counts}
 use Rattle.apfloat_arrays.proofs.Places.{places_more}
-use Rattle.apfloat_arrays.specs.scaled_blocks.Quantized.{no_counts}
 use Rattle.convert_values.specs.declared.blocks.BlockConversion.{BlockConversion}
 use Rattle.convert_values.specs.Blocks.{AreBlocksConverted, IsConverted, block_widths, total_of}
+use borrow.Rule.Slice.PartMut.{put_mid}
 
 total_push : (before : Counts) (parts : List Counts) (part : Counts)
     → total_of before (parts ++ part ∷ []) ≡ sum_of (total_of before parts) part

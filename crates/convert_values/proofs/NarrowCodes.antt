@@ -1,35 +1,21 @@
 -- The codes of a quantized block have only the bits of their format.
-use Rattle.std.proofs.Common.{◌≡◌, ℕ, zero, suc, ◌+◌, ◌-◌, ◌*◌, ◌^◌, ◌<◌, Bool}
-use Rattle.std.proofs.Common.{true, false, ap, ◌∙◌, sym, subst, arith}
-use Rattle.std.proofs.Common.{List, [], ◌∷◌, length, get_or, replicate, take, drop}
-use Rattle.std.specs.Prelude.{All, IfSome, slice_get}
-use Rattle.std.specs.Bool.{MatchBool}
-use Rattle.std.proofs.lemmas.List.{take_all}
-use Rattle.std.proofs.lemmas.Nat.{pow_pos}
-use Rattle.std.proofs.lemmas.Option.{slice_get-get_or}
-use Rattle.rustc_apfloat.specs.declared.Round.{Round}
-use Rattle.rustc_apfloat.specs.Datum.{Datum, finite}
-use Rattle.apfloat_model.specs.formats.Format.{Format}
-use Rattle.rustc_apfloat.specs.Lawful.{format_with}
+use Rattle.std.proofs.Common.{◌≡◌, ℕ, zero, suc, ◌+◌, ◌-◌, ◌*◌, ◌^◌, ◌<◌, Bool, true, false}
+use Rattle.std.proofs.Common.{ap, ◌∙◌, sym, subst, arith, List, [], ◌∷◌, length, get_or, replicate, take}
+use Rattle.std.proofs.{Common.drop, lemmas.List.take_all, lemmas.Nat.pow_pos, lemmas.Option.slice_get-get_or}
+use Rattle.std.specs.{Prelude.All, Prelude.IfSome, Prelude.slice_get, Bool.MatchBool}
+use Rattle.rustc_apfloat.specs.{declared.Round.Round, Datum.Datum, Datum.finite, Lawful.format_with}
+use Rattle.apfloat_model.specs.{formats.Format.Format, order.Classes.quanta_of}
 use Rattle.formats_at_run_time.specs.BuiltIns.{constants_in}
 use Rattle.apfloat_arrays.specs.declared.Counts.{Counts}
-use Rattle.apfloat_arrays.specs.Blocks.{value_at}
-use Rattle.small_formats.specs.declared.blocks.Block.{Block}
-use Rattle.small_formats.specs.declared.blocks.ElementFormat.{ElementFormat}
-use Rattle.small_formats.specs.blocks.Elements.{IsQuotientBy, width}
-use Rattle.small_formats.specs.blocks.Magnitudes.{are_finite}
-use Rattle.small_formats.specs.declared.blocks.ElementFormat.TheVariants.{E2M1FN}
-use Rattle.small_formats.specs.declared.blocks.ScaleRule.{ScaleRule}
+use Rattle.apfloat_arrays.specs.declared.scaled_blocks.BlockFormat.{BlockFormat, TheVariants.Mx, TheVariants.Nvfp4}
+use Rattle.apfloat_arrays.specs.{declared.scaled_blocks.Quantization.Quantization, Blocks.value_at}
+use Rattle.apfloat_arrays.specs.scaled_blocks.{Formats.IsBlockIn, Formats.tensor_of, Quantized.AreQuantized}
+use Rattle.apfloat_arrays.specs.scaled_blocks.{Quantized.IsBlockOf, Quantized.width_in, Values.values_in}
+use Rattle.small_formats.specs.declared.blocks.{Block.Block, ElementFormat.ElementFormat}
+use Rattle.small_formats.specs.declared.blocks.{ElementFormat.TheVariants.E2M1FN, ScaleRule.ScaleRule}
+use Rattle.small_formats.specs.blocks.{Elements.IsQuotientBy, Elements.width, Magnitudes.are_finite}
 use Rattle.small_formats.specs.blocks.MxBlocks.{IsBlockOfNan, IsBlockOfNumbers}
-use Rattle.small_formats.specs.blocks.Nvfp4.{IsNvBlockOfNumbers}
-use Rattle.apfloat_model.specs.order.Classes.{quanta_of}
-use Rattle.apfloat_arrays.specs.declared.scaled_blocks.BlockFormat.{BlockFormat}
-use Rattle.apfloat_arrays.specs.declared.scaled_blocks.BlockFormat.TheVariants.{Mx, Nvfp4}
-use Rattle.apfloat_arrays.specs.scaled_blocks.Formats.{IsBlockIn, tensor_of}
-use Rattle.small_formats.specs.blocks.Places.{AreElementsInPlaces}
-use Rattle.apfloat_arrays.specs.declared.scaled_blocks.Quantization.{Quantization}
-use Rattle.apfloat_arrays.specs.scaled_blocks.Quantized.{AreQuantized, IsBlockOf, width_in}
-use Rattle.apfloat_arrays.specs.scaled_blocks.Values.{values_in}
+use Rattle.small_formats.specs.blocks.{Nvfp4.IsNvBlockOfNumbers, Places.AreElementsInPlaces}
 
 quotients : (element : ElementFormat) (f : Format) (mode : Round) (divisor unit : ℕ) (values : List Datum)
     (codes flags : List ℕ)

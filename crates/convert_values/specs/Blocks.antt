@@ -1,26 +1,15 @@
 -- Streams of blocks with a common scale.
 use Rattle.std.specs.Prelude.{◌≡◌, ℕ, ◌+◌, ◌*◌, ◌/◌, List, [], ◌∷◌}
-use Rattle.formats_at_run_time.specs.FlaggedKinds.{flagged_constants}
-use Rattle.formats_at_run_time.specs.declared.FlaggedFormat.TheVariants.{BuiltIn}
-use Rattle.apfloat_arrays.specs.declared.Counts.{Counts}
-use Rattle.apfloat_arrays.specs.declared.Extended.TheVariants.{Packed}
-use Rattle.apfloat_arrays.specs.declared.Widths.{Widths}
-use Rattle.apfloat_arrays.specs.Blocks.{AreInPlaces, value_at}
-use Rattle.apfloat_arrays.specs.Outcomes.{sum_of}
-use Rattle.apfloat_arrays.specs.Widths.{width_of}
-use Rattle.apfloat_arrays.specs.declared.scaled_blocks.BlockFormat.TheVariants.{Mx}
-use Rattle.apfloat_arrays.specs.declared.scaled_blocks.Dequantization.{Dequantization}
-use Rattle.apfloat_arrays.specs.declared.scaled_blocks.Quantization.{Quantization}
-use Rattle.apfloat_arrays.specs.scaled_blocks.Dequantized.{AreDequantized, width_out}
-use Rattle.apfloat_arrays.specs.scaled_blocks.Quantized.{AreQuantized, no_counts}
-use Rattle.small_formats.specs.declared.blocks.ElementFormat.{ElementFormat}
-use Rattle.small_formats.specs.declared.blocks.ScaleRule.TheVariants.{Floor}
-use Rattle.small_formats.specs.blocks.Elements.{width}
-use Rattle.small_formats.specs.packing.Packed.{ArePacked}
-use Rattle.convert_values.specs.declared.block_form.BlockForm.{BlockForm}
-use Rattle.convert_values.specs.declared.blocks.BlockConversion.{BlockConversion}
-use Rattle.convert_values.specs.declared.blocks.BlockWay.{BlockWay}
-use Rattle.convert_values.specs.declared.blocks.BlockWay.TheVariants.{Quantize, Dequantize}
+use Rattle.formats_at_run_time.specs.{FlaggedKinds.flagged_constants, declared.FlaggedFormat.TheVariants.BuiltIn}
+use Rattle.apfloat_arrays.specs.declared.{Counts.Counts, Extended.TheVariants.Packed, Widths.Widths}
+use Rattle.apfloat_arrays.specs.declared.scaled_blocks.{BlockFormat.TheVariants.Mx, Dequantization.Dequantization}
+use Rattle.apfloat_arrays.specs.{declared.scaled_blocks.Quantization.Quantization, Blocks.AreInPlaces, Blocks.value_at}
+use Rattle.apfloat_arrays.specs.{Outcomes.sum_of, Widths.width_of, scaled_blocks.Dequantized.AreDequantized}
+use Rattle.apfloat_arrays.specs.scaled_blocks.{Dequantized.width_out, Quantized.AreQuantized, Quantized.no_counts}
+use Rattle.small_formats.specs.declared.blocks.{ElementFormat.ElementFormat, ScaleRule.TheVariants.Floor}
+use Rattle.small_formats.specs.{blocks.Elements.width, packing.Packed.ArePacked}
+use Rattle.convert_values.specs.declared.{block_form.BlockForm.BlockForm, blocks.BlockConversion.BlockConversion}
+use Rattle.convert_values.specs.declared.blocks.BlockWay.{BlockWay, TheVariants.Quantize, TheVariants.Dequantize}
 
 -- ---- bytes
 

@@ -1,13 +1,10 @@
 -- How many bytes a value takes of a stream that random digits round.
 use Rattle.std.specs.Prelude.{ℕ}
 use Rattle.formats_at_run_time.specs.BuiltIns.{constants_in}
-use Rattle.apfloat_arrays.specs.declared.Extended.{Extended}
-use Rattle.apfloat_arrays.specs.declared.Widths.{Widths}
-use Rattle.apfloat_arrays.specs.Widths.{width_of}
+use Rattle.apfloat_arrays.specs.{declared.Extended.Extended, declared.Widths.Widths, Widths.width_of}
 use Rattle.apfloat_arrays.specs.stored.Formats.{bits_in as stored_bits}
 use Rattle.convert_values.specs.declared.random.RandomConversion.{RandomConversion}
-use Rattle.convert_values.specs.declared.random.RandomTarget.{RandomTarget}
-use Rattle.convert_values.specs.declared.random.RandomTarget.TheVariants.{BuiltIn, Stored}
+use Rattle.convert_values.specs.declared.random.RandomTarget.{RandomTarget, TheVariants.BuiltIn, TheVariants.Stored}
 
 abbrev pub bits_in : RandomTarget → ℕ
 bits_in (BuiltIn format) = (constants_in format).bits

@@ -1,9 +1,7 @@
 -- How many bytes a value or a block of a stream takes.
-use Rattle.apfloat_arrays.specs.declared.Widths.{Widths}
-use Rattle.apfloat_arrays.specs.Widths.{source_width, target_width}
+use Rattle.apfloat_arrays.specs.{declared.Widths.Widths, Widths.source_width, Widths.target_width}
 use Rattle.apfloat_arrays.specs.stored.Arrays.{widths_of}
-use Rattle.convert_values.specs.RandomWidths.{random_widths}
-use Rattle.convert_values.specs.declared.conversions.StreamConversion.{StreamConversion}
+use Rattle.convert_values.specs.{RandomWidths.random_widths, declared.conversions.StreamConversion.StreamConversion}
 use Rattle.convert_values.specs.declared.conversions.StreamConversion.TheVariants.{BuiltIn, Stored, Blocks, Random}
 use Rattle.convert_values.specs.Blocks.{block_widths}
 

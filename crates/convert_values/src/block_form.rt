@@ -1,9 +1,8 @@
 //! How a block lies in bytes.
 
-ghost use Rattle.std.specs.Prelude.{◌≡◌, ◌+◌, ◌*◌, ◌%◌, ◌^◌, ◌<◌, ◌≤◌, ◌↔◌};
-ghost use Rattle.std.specs.Prelude.{All, length, IfSome, IsSome};
-ghost use Rattle.small_formats.specs.blocks.Elements.{width};
-ghost use Rattle.small_formats.specs.packing.Packed.{ArePacked};
+ghost use Rattle.std.specs.Prelude.{◌≡◌, ◌+◌, ◌*◌, ◌%◌, ◌^◌, ◌<◌, ◌≤◌, ◌↔◌, All};
+ghost use Rattle.std.specs.Prelude.{length, IfSome, IsSome};
+ghost use Rattle.small_formats.specs.{blocks.Elements.width, packing.Packed.ArePacked};
 
 use small_formats::blocks::{BLOCK, ElementFormat};
 use small_formats::packing::{pack_fours, pack_sixes, unpack_fours, unpack_sixes};

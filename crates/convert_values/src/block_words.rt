@@ -2,6 +2,7 @@
 
 use crate::block_form::{BlockForm, LONGEST};
 use crate::blocks::{BlockConversion, BlockWay};
+use crate::wrong_word::{too_many, wrong};
 use apfloat_arrays::stored::StoredFormat;
 use commands::{FORMATS, MODES, WrongWord};
 use formats_at_run_time::{BuiltInFormat, BuiltInKind, mode_named};
@@ -147,27 +148,19 @@ fn names_of(words: &[String]) -> Result<(BuiltInFormat, Round), Option<WrongWord
     match words {
         // Its value is missing.
         [word, ..] if word.as_str() == "--block-length" => Err(None),
-        [word, ..] if word.as_str().starts_with('-') => Err(Some(WrongWord {
-            fault: "no such option of blocks",
-            word: word.as_str(),
-            known: OPTIONS,
-        })),
-        [_, _, word, ..] => Err(Some(WrongWord {
-            fault: "a word too many",
-            word: word.as_str(),
-            known: &[],
-        })),
+        [word, ..] if word.as_str().starts_with('-') => Err(Some(wrong(
+            "no such option of blocks",
+            word,
+            OPTIONS,
+        ))),
+        [_, _, word, ..] => Err(Some(too_many(word))),
         [format, mode] => {
             let Some(known) = format_named(format.as_str()) else {
                 return Err(Some(wrong_format(format.as_str())));
             };
             match mode_named(mode.as_str()) {
                 Some(round) => Ok((known, round)),
-                None => Err(Some(WrongWord {
-                    fault: "no such mode",
-                    word: mode.as_str(),
-                    known: MODES,
-                })),
+                None => Err(Some(wrong("no such mode", mode, MODES))),
             }
         }
         _ => Err(None),

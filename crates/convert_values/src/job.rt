@@ -76,74 +76,56 @@ pub enum Job {
 impl Job {
     /// The job that the words of a command line name, without the program's own name.
     pub fn named(words: &[String]) -> Option<Job> {
-        if let Some(about) = About::among(words) {
-            return Some(Job::About(about));
-        }
-        match words {
-            [option, ..] if is_block_option(option.as_str()) => match blocks_named(words) {
-                Ok(conversion) => Some(Job::Convert(StreamConversion::Blocks(conversion))),
-                Err(_) => None,
-            },
-            [option, others @ ..] => match overflow_named(option.as_str()) {
-                Some(overflow) => Job::converting(overflow, others),
-                None => Job::converting(Overflow::Rounded, words),
-            },
-            [] => None,
+        match About::among(words) {
+            Some(about) => Some(Job::About(about)),
+            None => Some(Job::Convert(conversion_named(words)?)),
         }
     }
+}
 
-    /// The job that converts a stream, if the words name a conversion.
-    fn converting(overflow: Overflow, words: &[String]) -> Option<Job> {
-        match words {
-            [option, seed, source, target] if is_stochastic(option.as_str()) => {
-                Job::random(overflow, Extended::Packed, seed, source, target)
-            }
-            [layout, option, seed, source, target] if is_stochastic(option.as_str()) => {
-                let extended = extended_named(layout.as_str())?;
-                Job::random(overflow, extended, seed, source, target)
-            }
-            [source, target, mode] => {
-                Job::conversion(overflow, Extended::Packed, source, target, mode)
-            }
-            [option, source, target, mode] => {
-                let extended = extended_named(option.as_str())?;
-                Job::conversion(overflow, extended, source, target, mode)
-            }
-            _ => None,
+/// The conversion of a stream that the words name.
+fn conversion_named(words: &[String]) -> Option<StreamConversion> {
+    match words {
+        [option, ..] if is_block_option(option.as_str()) => match blocks_named(words) {
+            Ok(conversion) => Some(StreamConversion::Blocks(conversion)),
+            Err(_) => None,
+        },
+        [option, others @ ..] => match overflow_named(option.as_str()) {
+            Some(overflow) => after_overflow(overflow, others),
+            None => after_overflow(Overflow::Rounded, words),
+        },
+        [] => None,
+    }
+}
+
+/// The conversion that the words after the treatment of overflow name.
+fn after_overflow(overflow: Overflow, words: &[String]) -> Option<StreamConversion> {
+    match words {
+        [option, others @ ..] => match extended_named(option.as_str()) {
+            Some(extended) => after_layout(overflow, extended, others),
+            None => after_layout(overflow, Extended::Packed, words),
+        },
+        [] => None,
+    }
+}
+
+/// The conversion that the words after the options name.
+fn after_layout(
+    overflow: Overflow,
+    extended: Extended,
+    words: &[String],
+) -> Option<StreamConversion> {
+    match words {
+        [option, seed, source, target] if is_stochastic(option.as_str()) => {
+            let seed = seed_named(seed.as_str())?;
+            let (source, target) = (source.as_str(), target.as_str());
+            StreamConversion::random(extended, overflow, seed, source, target)
         }
-    }
-
-    /// The conversion of these words with random digits.
-    fn random(
-        overflow: Overflow,
-        extended: Extended,
-        seed: &String,
-        source: &String,
-        target: &String,
-    ) -> Option<Job> {
-        let seed = seed_named(seed.as_str())?;
-        let (source, target) = (source.as_str(), target.as_str());
-        let conversion = StreamConversion::random(extended, overflow, seed, source, target)?;
-        Some(Job::Convert(conversion))
-    }
-
-    /// The conversion of these words.
-    fn conversion(
-        overflow: Overflow,
-        extended: Extended,
-        source: &String,
-        target: &String,
-        mode: &String,
-    ) -> Option<Job> {
-        let (source, target) = (source.as_str(), target.as_str());
-        let conversion = StreamConversion::named(
-            extended,
-            overflow,
-            source,
-            target,
-            mode.as_str(),
-        )?;
-        Some(Job::Convert(conversion))
+        [source, target, mode] => {
+            let (source, target) = (source.as_str(), target.as_str());
+            StreamConversion::named(extended, overflow, source, target, mode.as_str())
+        }
+        _ => None,
     }
 }
 

@@ -133,9 +133,14 @@ pub fn tell_failure<V: Write>(failure: Failure, err: &mut V) -> io::Result<u8>
             writeln!(err, "convert_values: no memory for the buffers")?;
             return Ok(NO_MEMORY);
         }
-        Failure::Reading(error) => writeln!(err, "convert_values: reading failed: {error}")?,
-        Failure::Writing(error) => writeln!(err, "convert_values: writing failed: {error}")?,
+        Failure::Reading(error) => tell_error("reading", error, err)?,
+        Failure::Writing(error) => tell_error("writing", error, err)?,
         Failure::TooLong => writeln!(err, "convert_values: the stream has too many values")?,
     }
     Ok(FAILED)
+}
+
+/// Reports a read or a write that failed.
+fn tell_error<V: Write>(what: &str, error: io::Error, err: &mut V) -> io::Result<()> {
+    writeln!(err, "convert_values: {what} failed: {error}")
 }

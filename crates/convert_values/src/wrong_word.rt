@@ -28,53 +28,54 @@ pub fn wrong_word(words: &[String]) -> Option<WrongWord<'_>> {
     match words {
         [word, ..] if is_block_option(word.as_str()) => blocks_named(words).err()?,
         [word, next, ..] if is_option(word.as_str()) && is_block_option(next.as_str()) => {
-            Some(WrongWord {
-                fault: "no such option of blocks",
-                word: word.as_str(),
-                known: &[],
-            })
+            Some(wrong("no such option of blocks", word, &[]))
         }
-        [word, ..] if is_later_option(word.as_str()) => Some(WrongWord {
-            fault: "an option that stands after `--block FORM`",
-            word: word.as_str(),
-            known: &[],
-        }),
+        [word, ..] if is_later_option(word.as_str()) => Some(wrong(
+            "an option that stands after `--block FORM`",
+            word,
+            &[],
+        )),
         [word, seed, others @ ..] if is_stochastic(word.as_str()) => wrong_seed(seed, others),
         [word, others @ ..] if is_option(word.as_str()) => wrong_word(others),
-        [word, ..] if word.as_str().starts_with('-') => Some(WrongWord {
-            fault: "no such option",
-            word: word.as_str(),
-            known: OPTIONS,
-        }),
+        [word, ..] if word.as_str().starts_with('-') => Some(wrong(
+            "no such option",
+            word,
+            OPTIONS,
+        )),
         [_, _, _, word, ..] => Some(too_many(word)),
         _ => wrong_name(words),
     }
 }
 
-/// A word for which there is no place.
-fn too_many(word: &String) -> WrongWord<'_> {
+/// What is wrong with a word.
+pub fn wrong<'a>(
+    fault: &'static str,
+    word: &'a String,
+    known: &'static [&'static str],
+) -> WrongWord<'a> {
     WrongWord {
-        fault: "a word too many",
+        fault,
         word: word.as_str(),
-        known: &[],
+        known,
     }
+}
+
+/// A word for which there is no place.
+pub fn too_many(word: &String) -> WrongWord<'_> {
+    wrong("a word too many", word, &[])
 }
 
 /// The first wrong word of a seed and the words after it.
 fn wrong_seed<'a>(seed: &'a String, others: &'a [String]) -> Option<WrongWord<'a>> {
     if seed_named(seed.as_str()).is_none() {
-        return Some(WrongWord {
-            fault: "no whole number below 2^64",
-            word: seed.as_str(),
-            known: &[],
-        });
+        return Some(wrong("no whole number below 2^64", seed, &[]));
     }
     match others {
-        [word, ..] if word.as_str().starts_with('-') => Some(WrongWord {
-            fault: "an option after the seed",
-            word: word.as_str(),
-            known: &[],
-        }),
+        [word, ..] if word.as_str().starts_with('-') => Some(wrong(
+            "an option after the seed",
+            word,
+            &[],
+        )),
         [_, _, word, ..] => Some(too_many(word)),
         [source, target] => match wrong_format(source.as_str()) {
             Some(wrong) => Some(wrong),
@@ -125,11 +126,7 @@ fn wrong_name(names: &[String]) -> Option<WrongWord<'_>> {
     } else if let Some(wrong) = wrong_format(target.as_str()) {
         Some(wrong)
     } else if mode_named(mode.as_str()).is_none() {
-        Some(WrongWord {
-            fault: "no such mode",
-            word: mode.as_str(),
-            known: MODES,
-        })
+        Some(wrong("no such mode", mode, MODES))
     } else {
         None
     }

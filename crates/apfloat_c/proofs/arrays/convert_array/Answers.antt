@@ -6,7 +6,7 @@ use Rattle.apfloat_c.proofs.arrays.convert_array.Goals as goal
 
 pub overflow_mul-front : goal.overflow_mul-front
 overflow_mul-front c =
-    let room = conversion_room c.args.source c.args.mode c.args.target (length c.args.values.now)
+    let room = conversion_room c.args.format c.args.mode c.args.to (length c.args.values.now)
     (length c.args.results.now) c.in-Ok.conversion c.widths-widths.result c.widths-widths.ensures.is
     (sym c.known_array_conversion-known.ensures ∙ c.in-Ok.is) in
     let enough : length c.args.values.now / c.widths-widths.result.source * c.widths-widths.result.target
@@ -15,20 +15,20 @@ overflow_mul-front c =
 
 pub slice_bounds-front-end : goal.slice_bounds-front-end
 slice_bounds-front-end c =
-    (conversion_room c.args.source c.args.mode c.args.target (length c.args.values.now)
+    (conversion_room c.args.format c.args.mode c.args.to (length c.args.values.now)
     (length c.args.results.now) c.in-Ok.conversion c.widths-widths.result c.widths-widths.ensures.is
     (sym c.known_array_conversion-known.ensures ∙ c.in-Ok.is)).enough
 
 pub slice_bounds-front-end-in-Ok : goal.slice_bounds-front-end-in-Ok
 slice_bounds-front-end-in-Ok c =
     sym (length-take-le _ c.args.results.now
-    (conversion_room c.args.source c.args.mode c.args.target (length c.args.values.now)
+    (conversion_room c.args.format c.args.mode c.args.to (length c.args.values.now)
     (length c.args.results.now) c.in-Ok.conversion c.widths-widths.result c.widths-widths.ensures.is
     (sym c.known_array_conversion-known.ensures ∙ c.in-Ok.is)).enough)
 
 pub convert_with-counts-requires : goal.convert_with-counts-requires
 convert_with-counts-requires c =
-    let room = conversion_room c.args.source c.args.mode c.args.target (length c.args.values.now)
+    let room = conversion_room c.args.format c.args.mode c.args.to (length c.args.values.now)
     (length c.args.results.now) c.in-Ok.conversion c.widths-widths.result c.widths-widths.ensures.is
     (sym c.known_array_conversion-known.ensures ∙ c.in-Ok.is) in
     record {
@@ -42,7 +42,7 @@ convert_with-counts-requires c =
 
 pub returns-in-Ok-clause-written : goal.returns-in-Ok-clause-written
 returns-in-Ok-clause-written c =
-    let room = conversion_room c.args.source c.args.mode c.args.target (length c.args.values.now)
+    let room = conversion_room c.args.format c.args.mode c.args.to (length c.args.values.now)
     (length c.args.results.now) c.in-Ok.conversion c.widths-widths.result c.widths-widths.ensures.is
     (sym c.known_array_conversion-known.ensures ∙ c.in-Ok.is) in
     conversion_left _ c.in-Ok.conversion c.widths-widths.result c.args.values.now c.args.results.now

@@ -1,10 +1,8 @@
 use Rattle.std.proofs.Common.{refl, inl, inr, ap, Option}
 use Rattle.std.specs.Prelude.{is_some}
 use Rattle.rustc_apfloat.specs.FlaggedTypes.{constants_of, format_of}
-use Rattle.apfloat_model.specs.declared.parse_error.Fault.{Fault}
-use Rattle.apfloat_model.specs.rounding.Flags.{bits_of}
-use Rattle.coded_calls.proofs.MeaningfulTexts.{read_ascii}
-use Rattle.coded_calls.proofs.NumberAnswers.{value_of_encoded}
+use Rattle.apfloat_model.specs.{declared.parse_error.Fault.Fault, rounding.Flags.bits_of}
+use Rattle.coded_calls.proofs.{MeaningfulTexts.read_ascii, NumberAnswers.value_of_encoded}
 use Rattle.apfloat_c.proofs.decimals.read_in_format.Goals as goal
 
 pub returns-in-Ok : goal.returns-in-Ok

@@ -1,8 +1,7 @@
 use Rattle.std.proofs.Common.{refl, inl, inr, ap, Option}
 use Rattle.std.specs.Prelude.{is_some}
 use Rattle.rustc_apfloat.specs.PairFormats.{wide}
-use Rattle.apfloat_model.specs.declared.parse_error.Fault.{Fault}
-use Rattle.apfloat_model.specs.rounding.Flags.{bits_of}
+use Rattle.apfloat_model.specs.{declared.parse_error.Fault.Fault, rounding.Flags.bits_of}
 use Rattle.coded_calls.proofs.MeaningfulTexts.{read_ascii}
 use Rattle.apfloat_c.proofs.decimals.read_pair.Goals as goal
 

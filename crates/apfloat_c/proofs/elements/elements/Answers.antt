@@ -1,8 +1,20 @@
-use Rattle.std.proofs.Common.{◌≡◌, ℕ, ◌*◌, length, ap, ◌∙◌}
+use Rattle.std.proofs.Common.{◌≡◌, ℕ, ◌*◌, length, ap, ◌∙◌, inr}
 use Rattle.apfloat_arrays.proofs.Places.{place_size}
 use Rattle.apfloat_c.specs.ArrayCalls.{bytes_in}
-use Rattle.apfloat_c.proofs.ElementCalls.{elements_more}
+use Rattle.apfloat_c.proofs.ElementCalls.{elements_more, place_within}
 use Rattle.apfloat_c.proofs.elements.elements.Goals as goal
+
+pub number_at-x-requires-clause-within : goal.number_at-x-requires-clause-within
+number_at-x-requires-clause-within g c =
+    place_within c.loop-index.index c.args.count c.args.width _ (inr c.requires.operands.xs_are) c.loop-index-test.true
+
+pub number_at-y-requires-clause-within : goal.number_at-y-requires-clause-within
+number_at-y-requires-clause-within g c =
+    place_within c.loop-index.index c.args.count c.args.width _ c.requires.operands.ys_are c.loop-index-test.true
+
+pub number_at-z-requires-clause-within : goal.number_at-z-requires-clause-within
+number_at-z-requires-clause-within g c =
+    place_within c.loop-index.index c.args.count c.args.width _ c.requires.operands.zs_are c.loop-index-test.true
 
 pub loop-index-preserved : goal.loop-index-preserved
 loop-index-preserved g c =

@@ -1,12 +1,13 @@
 use Rattle.std.proofs.Common.{ℕ, ◌*◌, ◌/◌, ◌≤◌, length, ap, sym, ◌∙◌, refl, rules}
 use Rattle.std.proofs.lemmas.List.{length-take-le}
-use Rattle.apfloat_c.specs.ArrayCalls.{bytes_in}
+use Rattle.formats_at_run_time.specs.{FlaggedKinds.flagged_kind_coded, Modes.mode_coded}
+use Rattle.apfloat_c.specs.ArrayCalls.{bytes_in, operation_coded}
 use Rattle.apfloat_c.proofs.ArrayCalls.{first_whole, map_is_known, map_left, map_room, other_whole}
 use Rattle.apfloat_c.proofs.maps.mapped.Goals as goal
 
 pub overflow_mul-front : goal.overflow_mul-front
 overflow_mul-front c =
-    let room = map_room c.args.kind c.args.mode c.args.operation (length c.args.xs.now) (length c.args.ys.now)
+    let room = map_room c.args.format c.args.mode c.args.operation (length c.args.xs.now) (length c.args.ys.now)
     (length c.args.zs.now) (length c.args.results.now) c.in-Ok.map c.bytes_in-width.result
     c.bytes_in-width.ensures.is (sym c.known_map-known.ensures ∙ c.in-Ok.is) in
     let enough : length c.args.xs.now / c.bytes_in-width.result * c.bytes_in-width.result
@@ -15,23 +16,24 @@ overflow_mul-front c =
 
 pub slice_bounds-front-end : goal.slice_bounds-front-end
 slice_bounds-front-end c =
-    (map_room c.args.kind c.args.mode c.args.operation (length c.args.xs.now) (length c.args.ys.now)
+    (map_room c.args.format c.args.mode c.args.operation (length c.args.xs.now) (length c.args.ys.now)
     (length c.args.zs.now) (length c.args.results.now) c.in-Ok.map c.bytes_in-width.result
     c.bytes_in-width.ensures.is (sym c.known_map-known.ensures ∙ c.in-Ok.is)).enough
 
 pub slice_bounds-front-end-in-Ok : goal.slice_bounds-front-end-in-Ok
 slice_bounds-front-end-in-Ok c =
-    let room = map_room c.args.kind c.args.mode c.args.operation (length c.args.xs.now) (length c.args.ys.now)
+    let room = map_room c.args.format c.args.mode c.args.operation (length c.args.xs.now) (length c.args.ys.now)
     (length c.args.zs.now) (length c.args.results.now) c.in-Ok.map c.bytes_in-width.result
     c.bytes_in-width.ensures.is (sym c.known_map-known.ensures ∙ c.in-Ok.is) in
     sym (length-take-le _ c.args.results.now room.enough)
 
 pub over_with-counted-requires : goal.over_with-counted-requires
 over_with-counted-requires c =
-    let room = map_room c.args.kind c.args.mode c.args.operation (length c.args.xs.now) (length c.args.ys.now)
+    let room = map_room c.args.format c.args.mode c.args.operation (length c.args.xs.now) (length c.args.ys.now)
     (length c.args.zs.now) (length c.args.results.now) c.in-Ok.map c.bytes_in-width.result
     c.bytes_in-width.ensures.is (sym c.known_map-known.ensures ∙ c.in-Ok.is) in
-    let known = map_is_known c.args.kind c.args.mode c.args.operation (length c.args.xs.now) (length c.args.ys.now)
+    let known = map_is_known (flagged_kind_coded c.args.format) (mode_coded c.args.mode)
+    (operation_coded c.args.operation) (length c.args.xs.now) (length c.args.ys.now)
     (length c.args.zs.now) (length c.args.results.now) c.in-Ok.map (sym c.known_map-known.ensures ∙ c.in-Ok.is) in
     let xs = first_whole (length c.args.xs.now) c.bytes_in-width.result (bytes_in c.in-Ok.map.kind)
     (length c.args.results.now) c.bytes_in-width.ensures.is room in
@@ -49,7 +51,7 @@ over_with-counted-requires c =
 
 pub returns-in-Ok-clause-written : goal.returns-in-Ok-clause-written
 returns-in-Ok-clause-written c =
-    let room = map_room c.args.kind c.args.mode c.args.operation (length c.args.xs.now) (length c.args.ys.now)
+    let room = map_room c.args.format c.args.mode c.args.operation (length c.args.xs.now) (length c.args.ys.now)
     (length c.args.zs.now) (length c.args.results.now) c.in-Ok.map c.bytes_in-width.result
     c.bytes_in-width.ensures.is (sym c.known_map-known.ensures ∙ c.in-Ok.is) in
     map_left _ c.in-Ok.map c.bytes_in-width.result c.args.xs.now c.args.ys.now c.args.zs.now c.args.results.now

@@ -4,7 +4,7 @@ use Rattle.rustc_apfloat.specs.FlaggedTypes.{constants_of}
 use Rattle.apfloat_arrays.specs.Bytes.{number_of}
 use Rattle.apfloat_arrays.proofs.Places.{place_size}
 use Rattle.apfloat_c.specs.ArrayCalls.{bytes_in}
-use Rattle.apfloat_c.proofs.ElementCalls.{elements_more}
+use Rattle.apfloat_c.proofs.ElementCalls.{elements_more, place_within}
 use Rattle.apfloat_c.proofs.NormalElements.{normal_element, normal_fits}
 use Rattle.apfloat_c.proofs.normal_elements.normal_elements_of.Goals as goal
 use Rattle.apfloat_c.proofs.normal_elements.normal_elements_of.Goals.{in-Some, in_default}
@@ -18,6 +18,10 @@ write_number-requires g c =
     subst (λ (w : ℕ). c.in-Some.normal.bits < 256 ^ w) (sym (long ∙ c.requires.operands.width_is))
     (normal_fits (constants_of g.S.Flagged) c.args.calls.map.kind c.in-Some.normal.bits _ c.requires.kind
     c.in-Some.ensures.is_answer.is_encoded)
+
+pub number_at-z-requires-clause-within : goal.number_at-z-requires-clause-within
+number_at-z-requires-clause-within g c =
+    place_within c.loop-index.index c.args.count c.args.width _ c.requires.operands.zs_are c.loop-index-test.true
 
 pub loop-index-preserved : goal.loop-index-preserved
 loop-index-preserved g c =

@@ -1,6 +1,5 @@
 use Rattle.std.proofs.Common.{◌≡◌, ◌*◌, length, ◌∙◌}
-use Rattle.apfloat_arrays.proofs.Places.{place_size}
-use Rattle.apfloat_arrays.proofs.TalliedResults.{no_entries}
+use Rattle.apfloat_arrays.proofs.{Places.place_size, TalliedResults.no_entries}
 use Rattle.apfloat_c.specs.OperationTables.{IsResultAt, element_tally}
 use Rattle.apfloat_c.proofs.OperationTables.{table_more}
 use Rattle.apfloat_c.proofs.operation_tables.fill.Goals as goal

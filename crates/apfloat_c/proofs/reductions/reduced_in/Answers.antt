@@ -1,7 +1,6 @@
-use Rattle.std.proofs.Common.{ℕ, ◌+◌, ◌*◌, ◌≤◌, arith, inr, subst, sym}
-use Rattle.rustc_apfloat.specs.FlaggedTypes.{constants_of}
-use Rattle.rustc_apfloat.specs.Flags.{bits_of}
-use Rattle.apfloat_arrays.proofs.Places.{place_below}
+use Rattle.std.proofs.Common.{◌≤◌, arith, inr}
+use Rattle.rustc_apfloat.specs.{FlaggedTypes.constants_of, Flags.bits_of}
+use Rattle.apfloat_c.proofs.ElementCalls.{place_within}
 use Rattle.apfloat_c.proofs.ExactSums.{added_more, added_none, all_added}
 use Rattle.apfloat_c.proofs.reductions.reduced_in.Goals as goal
 
@@ -13,13 +12,11 @@ loop-index-init g c =
 
 pub number_at-x-requires-clause-within : goal.number_at-x-requires-clause-within
 number_at-x-requires-clause-within g c =
-    inr (subst (λ (n : ℕ). c.loop-index.index * c.args.width + c.args.width ≤ n) (sym c.requires.xs)
-    (place_below c.loop-index.index c.args.count c.args.width c.loop-index-test.true))
+    place_within c.loop-index.index c.args.count c.args.width _ (inr c.requires.xs) c.loop-index-test.true
 
 pub number_at-y-requires-clause-within : goal.number_at-y-requires-clause-within
 number_at-y-requires-clause-within g c =
-    inr (subst (λ (n : ℕ). c.loop-index.index * c.args.width + c.args.width ≤ n) (sym c.requires.ys)
-    (place_below c.loop-index.index c.args.count c.args.width c.loop-index-test.true))
+    place_within c.loop-index.index c.args.count c.args.width _ (inr c.requires.ys) c.loop-index-test.true
 
 pub loop-index-preserved : goal.loop-index-preserved
 loop-index-preserved g c =

@@ -1,8 +1,6 @@
 use Rattle.std.proofs.Common.{Result, Ok, Err, ap, sym, subst}
-use Rattle.apfloat_model.specs.declared.parse_error.ParseError.{ParseError}
-use Rattle.apfloat_model.specs.declared.status.StatusAnd.{StatusAnd}
-use Rattle.rustc_apfloat.specs.declared.Round.TheVariants.{NearestTiesToEven}
-use Rattle.rustc_apfloat.specs.Determined.{AreOneReading}
+use Rattle.apfloat_model.specs.declared.{parse_error.ParseError.ParseError, status.StatusAnd.StatusAnd}
+use Rattle.rustc_apfloat.specs.{declared.Round.TheVariants.NearestTiesToEven, Determined.AreOneReading}
 use Rattle.rustc_apfloat.specs.Parsing.{without_status}
 use Rattle.conformance.specs.Agreements.{AreOneValue}
 use Rattle.conformance.proofs.agreements.readings.Goals as goal

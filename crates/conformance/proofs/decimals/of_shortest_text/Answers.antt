@@ -1,10 +1,8 @@
 use Rattle.std.proofs.Common.{◌≡◌, arith}
 use Rattle.std.proofs.lemmas.Int.{ints}
 use Rattle.rustc_apfloat.specs.Types.{format_of}
-use Rattle.apfloat_model.specs.declared.kinds.Round.TheVariants.{NearestTiesToEven}
-use Rattle.apfloat_model.specs.rounding.Flags.{bits_of}
-use Rattle.apfloat_decimals.specs.Parsing.{Spells}
-use Rattle.apfloat_decimals.specs.ReadBack.{IsStoredDecimal, written}
+use Rattle.apfloat_model.specs.{declared.kinds.Round.TheVariants.NearestTiesToEven, rounding.Flags.bits_of}
+use Rattle.apfloat_decimals.specs.{Parsing.Spells, ReadBack.IsStoredDecimal, ReadBack.written}
 use Rattle.conformance.proofs.DecimalRoundTrips.{ok_and}
 use Rattle.conformance.proofs.decimals.of_shortest_text.Goals as goal
 

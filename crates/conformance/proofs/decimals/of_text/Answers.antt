@@ -1,7 +1,5 @@
-use Rattle.std.proofs.Common.{arith}
-use Rattle.std.proofs.lemmas.Int.{ints}
-use Rattle.apfloat_decimals.specs.Parsing.{Spells}
-use Rattle.apfloat_decimals.specs.ReadBack.{IsStoredDecimal, written}
+use Rattle.std.proofs.{Common.arith, lemmas.Int.ints}
+use Rattle.apfloat_decimals.specs.{Parsing.Spells, ReadBack.IsStoredDecimal, ReadBack.written}
 use Rattle.conformance.proofs.DecimalRoundTrips.{written_sign}
 use Rattle.conformance.proofs.decimals.of_text.Goals as goal
 

@@ -1,11 +1,8 @@
 use Rattle.std.proofs.Common.{◌≡◌, ℕ, subst}
 use Rattle.apfloat_model.specs.declared.kinds.Round.{Round}
-use Rattle.rustc_apfloat.specs.Format.{Format}
-use Rattle.rustc_apfloat.specs.Datum.{Datum}
-use Rattle.rustc_apfloat.specs.Negation.{swapped}
-use Rattle.rustc_apfloat.specs.Products.{IsProduct}
-use Rattle.rustc_apfloat.specs.FlaggedTypes.{format_of}
 use Rattle.apfloat_model.proofs.Once.{product_once}
+use Rattle.rustc_apfloat.specs.{Format.Format, Datum.Datum, Negation.swapped, Products.IsProduct}
+use Rattle.rustc_apfloat.specs.FlaggedTypes.{format_of}
 use Rattle.conformance.proofs.laws.opposite_products.Goals as goal
 
 turned_once : (format : Format) (opposite other : Round) (x turned y value answer : Datum) (s t : ℕ) → other ≡ opposite

@@ -1,5 +1,4 @@
-use Rattle.rustc_apfloat.specs.Rounding.{ok_bits}
-use Rattle.rustc_apfloat.specs.FlaggedTypes.{format_of}
+use Rattle.rustc_apfloat.specs.{Rounding.ok_bits, FlaggedTypes.format_of}
 use Rattle.apfloat_model.proofs.Once.{next_down_once}
 use Rattle.conformance.proofs.laws.up_and_down.Goals as goal
 

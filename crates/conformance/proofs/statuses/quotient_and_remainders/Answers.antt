@@ -1,5 +1,4 @@
-use Rattle.rustc_apfloat.specs.FlaggedTypes.{format_of}
-use Rattle.rustc_apfloat.specs.Remainders.{truncated_quotient, nearest_quotient}
+use Rattle.rustc_apfloat.specs.{FlaggedTypes.format_of, Remainders.truncated_quotient, Remainders.nearest_quotient}
 use Rattle.apfloat_model.proofs.rounding.FlagsTogether.{quotient_together, remainder_together}
 use Rattle.conformance.proofs.statuses.quotient_and_remainders.Goals as goal
 

@@ -1,9 +1,6 @@
 use Rattle.std.specs.Prelude.{Bool}
-use Rattle.rustc_apfloat.specs.Conversions.{IsConversion}
-use Rattle.rustc_apfloat.specs.TwoModes.{IsOkOrOfZero}
-use Rattle.rustc_apfloat.specs.FlaggedTypes.{format_of}
-use Rattle.apfloat_model.proofs.rounding.ModesAgree.{conversion_agrees}
-use Rattle.apfloat_model.proofs.rounding.OutwardResults.{conversion_encloses}
+use Rattle.rustc_apfloat.specs.{Conversions.IsConversion, TwoModes.IsOkOrOfZero, FlaggedTypes.format_of}
+use Rattle.apfloat_model.proofs.rounding.{ModesAgree.conversion_agrees, OutwardResults.conversion_encloses}
 use Rattle.conformance.proofs.TwoModes.{in_modes}
 use Rattle.conformance.proofs.two_modes.conversions.Goals as goal
 

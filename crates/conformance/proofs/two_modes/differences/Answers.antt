@@ -1,7 +1,5 @@
-use Rattle.rustc_apfloat.specs.Sums.{IsDifference}
-use Rattle.rustc_apfloat.specs.FlaggedTypes.{format_of}
-use Rattle.apfloat_model.proofs.rounding.ModesAgree.{difference_agrees}
-use Rattle.apfloat_model.proofs.rounding.OutwardResults.{difference_encloses}
+use Rattle.rustc_apfloat.specs.{Sums.IsDifference, FlaggedTypes.format_of}
+use Rattle.apfloat_model.proofs.rounding.{ModesAgree.difference_agrees, OutwardResults.difference_encloses}
 use Rattle.conformance.proofs.TwoModes.{but_for_zeros}
 use Rattle.conformance.proofs.two_modes.differences.Goals as goal
 

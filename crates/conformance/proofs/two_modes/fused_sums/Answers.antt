@@ -1,7 +1,5 @@
-use Rattle.rustc_apfloat.specs.FusedSums.{IsFusedSum}
-use Rattle.rustc_apfloat.specs.FlaggedTypes.{format_of}
-use Rattle.apfloat_model.proofs.rounding.ModesAgree.{fused_sum_agrees}
-use Rattle.apfloat_model.proofs.rounding.OutwardResults.{fused_sum_encloses}
+use Rattle.rustc_apfloat.specs.{FusedSums.IsFusedSum, FlaggedTypes.format_of}
+use Rattle.apfloat_model.proofs.rounding.{ModesAgree.fused_sum_agrees, OutwardResults.fused_sum_encloses}
 use Rattle.conformance.proofs.TwoModes.{but_for_zeros}
 use Rattle.conformance.proofs.two_modes.fused_sums.Goals as goal
 

@@ -1,7 +1,6 @@
 use Rattle.std.specs.Int.{w128}
 use Rattle.std.proofs.lemmas.Int.{to_z-of_z}
-use Rattle.rustc_apfloat.specs.TwoModes.{IsOk}
-use Rattle.rustc_apfloat.specs.FlaggedTypes.{format_of}
+use Rattle.rustc_apfloat.specs.{TwoModes.IsOk, FlaggedTypes.format_of}
 use Rattle.rustc_apfloat.specs.WholeNumbers.{IsFromUnsigned, IsFromSigned}
 use Rattle.apfloat_model.proofs.rounding.ModesAgree.{from_unsigned_agrees, from_signed_agrees}
 use Rattle.apfloat_model.proofs.rounding.OutwardResults.{from_unsigned_encloses, from_signed_encloses}

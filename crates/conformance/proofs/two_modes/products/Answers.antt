@@ -1,8 +1,5 @@
-use Rattle.rustc_apfloat.specs.Products.{IsProduct}
-use Rattle.rustc_apfloat.specs.TwoModes.{IsOk}
-use Rattle.rustc_apfloat.specs.FlaggedTypes.{format_of}
-use Rattle.apfloat_model.proofs.rounding.ModesAgree.{product_agrees}
-use Rattle.apfloat_model.proofs.rounding.OutwardResults.{product_encloses}
+use Rattle.rustc_apfloat.specs.{Products.IsProduct, TwoModes.IsOk, FlaggedTypes.format_of}
+use Rattle.apfloat_model.proofs.rounding.{ModesAgree.product_agrees, OutwardResults.product_encloses}
 use Rattle.conformance.proofs.TwoModes.{in_modes}
 use Rattle.conformance.proofs.two_modes.products.Goals as goal
 

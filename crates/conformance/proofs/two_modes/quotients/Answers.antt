@@ -1,8 +1,5 @@
-use Rattle.rustc_apfloat.specs.Quotients.{IsQuotient}
-use Rattle.rustc_apfloat.specs.TwoModes.{IsOkOrOfZero}
-use Rattle.rustc_apfloat.specs.FlaggedTypes.{format_of}
-use Rattle.apfloat_model.proofs.rounding.ModesAgree.{quotient_agrees}
-use Rattle.apfloat_model.proofs.rounding.OutwardResults.{quotient_encloses}
+use Rattle.rustc_apfloat.specs.{Quotients.IsQuotient, TwoModes.IsOkOrOfZero, FlaggedTypes.format_of}
+use Rattle.apfloat_model.proofs.rounding.{ModesAgree.quotient_agrees, OutwardResults.quotient_encloses}
 use Rattle.conformance.proofs.TwoModes.{in_modes}
 use Rattle.conformance.proofs.two_modes.quotients.Goals as goal
 

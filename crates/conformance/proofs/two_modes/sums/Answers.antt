@@ -1,7 +1,5 @@
-use Rattle.rustc_apfloat.specs.Sums.{IsSum}
-use Rattle.rustc_apfloat.specs.FlaggedTypes.{format_of}
-use Rattle.apfloat_model.proofs.rounding.ModesAgree.{sum_agrees}
-use Rattle.apfloat_model.proofs.rounding.OutwardResults.{sum_encloses}
+use Rattle.rustc_apfloat.specs.{Sums.IsSum, FlaggedTypes.format_of}
+use Rattle.apfloat_model.proofs.rounding.{ModesAgree.sum_agrees, OutwardResults.sum_encloses}
 use Rattle.conformance.proofs.TwoModes.{but_for_zeros}
 use Rattle.conformance.proofs.two_modes.sums.Goals as goal
 

@@ -1,7 +1,5 @@
-use Rattle.rustc_apfloat.specs.FlaggedTypes.{format_of}
-use Rattle.rustc_apfloat.specs.FusedSums.{IsFusedSum}
-use Rattle.apfloat_model.proofs.Once.{fused_sum_once}
-use Rattle.apfloat_model.proofs.Determined.{gives_once}
+use Rattle.rustc_apfloat.specs.{FlaggedTypes.format_of, FusedSums.IsFusedSum}
+use Rattle.apfloat_model.proofs.{Once.fused_sum_once, Determined.gives_once}
 use Rattle.conformance.proofs.wide.fused_sums.Goals as goal
 
 pub returns : goal.returns

@@ -1,7 +1,5 @@
-use Rattle.rustc_apfloat.specs.FlaggedTypes.{format_of}
-use Rattle.rustc_apfloat.specs.Products.{IsProduct}
-use Rattle.apfloat_model.proofs.Once.{product_once}
-use Rattle.apfloat_model.proofs.Determined.{gives_once}
+use Rattle.rustc_apfloat.specs.{FlaggedTypes.format_of, Products.IsProduct}
+use Rattle.apfloat_model.proofs.{Once.product_once, Determined.gives_once}
 use Rattle.conformance.proofs.wide.products.Goals as goal
 
 pub returns : goal.returns

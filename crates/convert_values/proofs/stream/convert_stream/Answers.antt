@@ -1,8 +1,7 @@
 use Rattle.std.proofs.Common.{rules, ◌≡◌, ℕ, ◌*◌, ◌/◌, ◌≤◌, length, ap, ◌∙◌, subst, arith}
 use Rattle.std.proofs.Math.Nat.{mul-div_cancel}
 use Rattle.apfloat_arrays.specs.declared.Widths.{Widths}
-use Rattle.convert_values.specs.declared.stream.TheConstants.{BUFFERED}
-use Rattle.convert_values.specs.StreamWidths.{stream_widths}
+use Rattle.convert_values.specs.{declared.stream.TheConstants.BUFFERED, StreamWidths.stream_widths}
 use Rattle.convert_values.proofs.stream.convert_stream.Goals as goal
 
 -- a buffer of so many values in one format has as many as one in the other has room for

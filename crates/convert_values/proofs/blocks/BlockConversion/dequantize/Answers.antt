@@ -1,8 +1,7 @@
 use Rattle.std.proofs.Common.{rules, refl}
-use Rattle.apfloat_arrays.specs.declared.Extended.TheVariants.{Packed}
-use Rattle.apfloat_arrays.specs.declared.scaled_blocks.BlockFormat.TheVariants.{Mx}
-use Rattle.formats_at_run_time.specs.declared.FlaggedFormat.TheVariants.{BuiltIn}
+use Rattle.apfloat_arrays.specs.declared.{Extended.TheVariants.Packed, scaled_blocks.BlockFormat.TheVariants.Mx}
 use Rattle.apfloat_arrays.proofs.WidthBounds.{width_room}
+use Rattle.formats_at_run_time.specs.declared.FlaggedFormat.TheVariants.{BuiltIn}
 use Rattle.convert_values.proofs.BlockLengths.{dequantized, one_block_of}
 use Rattle.convert_values.proofs.blocks.BlockConversion.dequantize.Goals as goal
 

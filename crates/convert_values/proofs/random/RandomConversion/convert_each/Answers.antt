@@ -1,7 +1,43 @@
-use Rattle.std.proofs.Common.{ap, ◌∙◌}
+use Rattle.std.proofs.Common.{rules, ◌≡◌, ℕ, ◌+◌, ◌*◌, ◌<◌, ◌≤◌, length, sym, ap, ◌∙◌, subst}
 use Rattle.apfloat_arrays.specs.declared.Widths.{Widths}
-use Rattle.apfloat_arrays.proofs.Places.{place_size}
+use Rattle.apfloat_arrays.proofs.Places.{place_below, place_size}
 use Rattle.convert_values.proofs.random.RandomConversion.convert_each.Goals as goal
+
+within : (index count width size : ℕ) → index < count → size ≡ count * width → index * width + width ≤ size
+within index count width size before all =
+    subst (λ (n : ℕ). index * width + width ≤ n) (sym all) (place_below index count width before)
+
+pub overflow_mul-from : goal.overflow_mul-from
+overflow_mul-from c =
+    let room : c.loop-index.index * c.args.widths.source + c.args.widths.source ≤ length c.args.input.now =
+    within _ c.args.count _ _ c.loop-index-test.true c.requires.input in
+    search rules
+
+pub overflow_add-source : goal.overflow_add-source
+overflow_add-source c =
+    let room : c.loop-index.index * c.args.widths.source + c.args.widths.source ≤ length c.args.input.now =
+    within _ c.args.count _ _ c.loop-index-test.true c.requires.input in
+    search rules
+
+pub slice_bounds-source-end : goal.slice_bounds-source-end
+slice_bounds-source-end c = within _ c.args.count c.args.widths.source _ c.loop-index-test.true c.requires.input
+
+pub overflow_mul-to : goal.overflow_mul-to
+overflow_mul-to c =
+    let room : c.loop-index.index * c.args.widths.target + c.args.widths.target ≤ length c.loop-index.output =
+    within _ c.args.count _ _ c.loop-index-test.true (c.loop-index.auto.output ∙ c.requires.output) in
+    search rules
+
+pub overflow_add-target : goal.overflow_add-target
+overflow_add-target c =
+    let room : c.loop-index.index * c.args.widths.target + c.args.widths.target ≤ length c.loop-index.output =
+    within _ c.args.count _ _ c.loop-index-test.true (c.loop-index.auto.output ∙ c.requires.output) in
+    search rules
+
+pub slice_bounds-target-end : goal.slice_bounds-target-end
+slice_bounds-target-end c =
+    within _ c.args.count c.args.widths.target _ c.loop-index-test.true
+    (c.loop-index.auto.output ∙ c.requires.output)
 
 pub convert_value-requires-clause-input : goal.convert_value-requires-clause-input
 convert_value-requires-clause-input c =

@@ -1,6 +1,6 @@
 use Rattle.std.proofs.Common.{◌≡◌, ℕ, length, refl, ◌∙◌}
 use Rattle.std.proofs.lemmas.List.{drop-replicate}
-use Rattle.apfloat_c.proofs.about.text_of.Goals as goal
+use Rattle.apfloat_c.proofs.decimals.text_of.Goals as goal
 
 pub returns : goal.returns
 returns c =
