@@ -1,21 +1,15 @@
 -- A converted number is a converted value.
 use Rattle.std.proofs.Common.{◌≡◌, ℕ, Bool, true, false, refl, sym, subst, inl, inr}
 use Rattle.std.proofs.lemmas.Bool.{true≢false}
-use Rattle.apfloat_model.specs.bits.Layout.{Layout}
-use Rattle.apfloat_model.specs.formats.Format.{Format}
-use Rattle.apfloat_model.specs.formats.Datum.{Datum, finite}
-use Rattle.fast_bits.specs.declared.lanes.lanes.Lane.{Lane}
-use Rattle.fast_bits.specs.declared.lanes.constants.Target.{Target}
-use Rattle.fast_bits.specs.lanes.At.{format_at, layout_at}
-use Rattle.fast_bits.specs.lanes.Lanes.{IsLane, finished, flags_of}
-use Rattle.rustc_apfloat.specs.Conversions.{IsConversion}
-use Rattle.rustc_apfloat.specs.Lawful.{Constants, format_with, layout_with}
+use Rattle.apfloat_model.specs.{bits.Layout.Layout, formats.Format.Format, formats.Datum.Datum, formats.Datum.finite}
+use Rattle.fast_bits.specs.declared.lanes.{lanes.Lane.Lane, constants.Target.Target}
+use Rattle.fast_bits.specs.lanes.{At.format_at, At.layout_at, Lanes.IsLane, Lanes.finished, Lanes.flags_of}
+use Rattle.rustc_apfloat.specs.{Conversions.IsConversion, Lawful.Constants, Lawful.format_with, Lawful.layout_with}
 use Rattle.rustc_apfloat.specs.declared.Round.{Round}
 use Rattle.small_formats.specs.declared.saturation.saturation.Overflow.{Overflow}
 use Rattle.small_formats.specs.declared.saturation.saturation.Overflow.TheVariants.{Rounded, Saturated, Finite}
-use Rattle.apfloat_arrays.specs.Outcomes.{raised}
 use Rattle.small_formats.specs.saturation.Saturation.{IsConversionBy}
-use Rattle.apfloat_arrays.specs.Singles.{IsPlanFor, outcome_of, saturates}
+use Rattle.apfloat_arrays.specs.{Outcomes.raised, Singles.IsPlanFor, Singles.outcome_of, Singles.saturates}
 use Rattle.apfloat_arrays.specs.Values.{IsAnswerAt, IsAnswerFrom}
 
 -- a finite number's conversion, with any treatment of overflow

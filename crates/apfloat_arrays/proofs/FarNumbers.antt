@@ -1,31 +1,25 @@
 -- Numbers far out of the range of a format: their bits, the side that they are on, and their results.
-use Rattle.std.proofs.Common.{◌≡◌, ℕ, ◌+◌, ◌-◌, ◌*◌, ◌^◌, ◌<◌, ◌≤◌, Bool, true, false, not, ◌&&◌, ◌||◌, eqb, List, [], ◌∷◌, Option, Some, None, refl, subst, sym, ap, ◌∙◌, arith, lit<, ℤ, pos, neg_ℤ, ◌+ℤ◌, ◌-ℤ◌, ◌≤ℤ◌, FitsSigned, w32, to_z, of_z}
-use Rattle.std.specs.Prelude.{IsTrue, IsSomeAnd, slice_get, slice_index_or}
-use Rattle.std.specs.Bool.{MatchBool}
+use Rattle.std.proofs.Common.{◌≡◌, ℕ, ◌+◌, ◌-◌, ◌*◌, ◌^◌, ◌<◌, ◌≤◌, Bool, true, false}
+use Rattle.std.proofs.Common.{not, ◌&&◌, ◌||◌, eqb, List, [], ◌∷◌, Option, Some, None, refl, subst, sym}
+use Rattle.std.proofs.Common.{ap, ◌∙◌, arith, lit<, ℤ, pos, neg_ℤ, ◌+ℤ◌, ◌-ℤ◌, ◌≤ℤ◌}
+use Rattle.std.proofs.Common.{FitsSigned, w32, to_z, of_z}
 use Rattle.std.proofs.Math.Nat.{mul-le-mul_right, mul-lt-mul_of_pos_right, mul-pos, pow-le-pow_right}
 use Rattle.std.proofs.lemmas.Int.{ints, to_z-of_z, to_z_pos}
-use Rattle.std.proofs.lemmas.Nat.{pow-add, pow_pos}
-use Rattle.std.proofs.lemmas.Option.{get_or_from_slice_get}
-use Rattle.std.proofs.lemmas.Bool.{false≢true, ne_eqb}
+use Rattle.std.proofs.lemmas.{Nat.pow-add, Nat.pow_pos, Option.get_or_from_slice_get, Bool.false≢true, Bool.ne_eqb}
+use Rattle.std.specs.{Prelude.IsTrue, Prelude.IsSomeAnd, Prelude.slice_get, Prelude.slice_index_or, Bool.MatchBool}
 use Rattle.apfloat_model.specs.declared.loss.Loss.TheVariants.{ExactlyZero}
-use Rattle.rustc_apfloat.specs.declared.Round.{Round}
-use Rattle.rustc_apfloat.specs.Format.{Format}
-use Rattle.rustc_apfloat.specs.Bounds.{IsWithin, exponent_bound}
-use Rattle.rustc_apfloat.specs.Datum.{Datum, finite}
-use Rattle.rustc_apfloat.specs.Flags.{bits_of}
-use Rattle.rustc_apfloat.specs.Lawful.{Constants, IsLawful, AreParameters, format_with, layout_with}
-use Rattle.rustc_apfloat.specs.Layout.{fields_of}
-use Rattle.rustc_apfloat.specs.Rounding.{IsDelivered, ok_bits}
-use Rattle.rustc_apfloat.specs.Standing.{StandsFor, up, down}
 use Rattle.apfloat_model.proofs.general.Powers.{two_pos, twice_half, pow3}
 use Rattle.apfloat_model.proofs.rounding.FarMagnitudes.{far_above, far_below}
+use Rattle.rustc_apfloat.specs.{declared.Round.Round, Format.Format, Bounds.IsWithin, Bounds.exponent_bound}
+use Rattle.rustc_apfloat.specs.{Datum.Datum, Datum.finite, Flags.bits_of, Lawful.Constants, Lawful.IsLawful}
+use Rattle.rustc_apfloat.specs.{Lawful.AreParameters, Lawful.format_with, Lawful.layout_with, Layout.fields_of}
+use Rattle.rustc_apfloat.specs.{Rounding.IsDelivered, Rounding.ok_bits, Standing.StandsFor, Standing.up, Standing.down}
 use Rattle.fast_bits.proofs.Reading.{quanta_with, number_read, trailing_low, span_is}
-use Rattle.apfloat_arrays.specs.declared.converted.Converted.{Converted}
+use Rattle.apfloat_arrays.specs.{declared.converted.Converted.Converted, Values.IsAnswerFrom}
+use Rattle.apfloat_arrays.specs.FarNumbers.{AnswersFar, AreFarAnswers, IsFar, IsFarPlace, far_place, with_overflow}
 use Rattle.small_formats.specs.declared.saturation.saturation.Overflow.{Overflow}
 use Rattle.small_formats.specs.declared.saturation.saturation.Overflow.TheVariants.{Rounded, Saturated, Finite}
 use Rattle.small_formats.specs.saturation.Saturation.{IsConversionBy}
-use Rattle.apfloat_arrays.specs.Values.{IsAnswerFrom}
-use Rattle.apfloat_arrays.specs.FarNumbers.{AnswersFar, AreFarAnswers, IsFar, IsFarPlace, far_place, with_overflow}
 
 -- ---- the side that a number is on
 

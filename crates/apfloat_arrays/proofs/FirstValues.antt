@@ -1,19 +1,14 @@
 -- The first values of a block whose others are zeros, which nothing but the number of values counts.
-use Rattle.std.proofs.Common.{◌≡◌, ℕ, zero, suc, ◌+◌, ◌-◌, ◌*◌, ◌<◌, ◌≤◌, Bool, false, ⊎_elim, List, ◌++◌, length, take, drop, Option, Some, sym, ◌∙◌, ap, subst, arith}
-use Rattle.std.specs.Prelude.{slice_get, slice_range, IfSome, count_by, get_or, replicate}
-use Rattle.std.proofs.Math.Seq.{take-append_seam, take-length}
-use Rattle.std.proofs.lemmas.Bool.{cases_lt}
-use Rattle.std.proofs.lemmas.List.{drop-replicate, get_or-take, length-take-le, take-replicate}
-use Rattle.std.proofs.lemmas.List.Sums.{count_by_more_no}
+use Rattle.std.proofs.Common.{◌≡◌, ℕ, zero, suc, ◌+◌, ◌-◌, ◌*◌, ◌<◌, ◌≤◌, Bool, false}
+use Rattle.std.proofs.Common.{⊎_elim, List, ◌++◌, length, take, drop, Option, Some, sym, ◌∙◌, ap, subst}
+use Rattle.std.proofs.{Common.arith, Math.Seq.take-append_seam, Math.Seq.take-length, lemmas.Bool.cases_lt}
+use Rattle.std.proofs.lemmas.List.{drop-replicate, get_or-take, length-take-le, take-replicate, Sums.count_by_more_no}
 use Rattle.std.proofs.lemmas.Option.{slice_get-get_or, slice_get_past}
 use Rattle.std.proofs.lemmas.Slice.{between_from_start, drop-append-drop}
-use Rattle.apfloat_arrays.specs.declared.counts.Counts.{Counts}
-use Rattle.apfloat_arrays.specs.declared.counts.Outcome.{Outcome}
-use Rattle.apfloat_arrays.specs.Blocks.{IsBlock, value_at}
-use Rattle.apfloat_arrays.specs.Bytes.{number_of}
-use Rattle.apfloat_arrays.specs.Outcomes.{became_nan, raised}
-use Rattle.apfloat_arrays.proofs.Joined.{in_range}
-use Rattle.apfloat_arrays.proofs.Rows.{IsQuiet}
+use Rattle.std.specs.Prelude.{slice_get, slice_range, IfSome, count_by, get_or, replicate}
+use Rattle.apfloat_arrays.specs.declared.counts.{Counts.Counts, Outcome.Outcome}
+use Rattle.apfloat_arrays.specs.{Blocks.IsBlock, Blocks.value_at, Bytes.number_of, Outcomes.became_nan, Outcomes.raised}
+use Rattle.apfloat_arrays.proofs.{Joined.in_range, Rows.IsQuiet}
 
 -- ---- counts
 

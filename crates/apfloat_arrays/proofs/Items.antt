@@ -1,8 +1,7 @@
 -- Items of a list, one of which is set.
 use Rattle.std.proofs.Common.{◌≡◌, ℕ, ◌<◌, List, length, ⊎_elim, subst, sym, set}
+use Rattle.std.proofs.lemmas.{Bool.cases_eq, List.get_or-set_same, List.get_or-set_other}
 use Rattle.std.specs.Prelude.{slice_index}
-use Rattle.std.proofs.lemmas.Bool.{cases_eq}
-use Rattle.std.proofs.lemmas.List.{get_or-set_same, get_or-set_other}
 
 -- what is said of each item, if it is said of the new one and of each other one
 pub set_says : (Says : ℕ → ℕ → Type 0) (items : List ℕ) (index value : ℕ) → index < length items

@@ -1,20 +1,18 @@
 -- A block after the values that were converted before it.
-use Rattle.std.proofs.Common.{◌≡◌, ℕ, suc, ◌+◌, ◌-◌, ◌*◌, ◌^◌, ◌<◌, ◌≤◌, Bool, List, [], ◌∷◌, ◌++◌, length, take, drop, if◌then◌else◌, Option, refl, sym, ap, ◌∙◌, subst, ⊎_elim, zero-add, arith}
-use Rattle.std.specs.Prelude.{slice_get, slice_range, IfSome, count_by}
+use Rattle.std.proofs.Common.{◌≡◌, ℕ, suc, ◌+◌, ◌-◌, ◌*◌, ◌^◌, ◌<◌, ◌≤◌, Bool, List}
+use Rattle.std.proofs.Common.{[], ◌∷◌, ◌++◌, length, take, drop, if◌then◌else◌, Option, refl, sym, ap}
+use Rattle.std.proofs.Common.{◌∙◌, subst, ⊎_elim, zero-add, arith}
 use Rattle.std.proofs.Math.Nat.{min-eq_left, mul-le-mul_right, suc-mul}
-use Rattle.std.proofs.lemmas.Bool.{cases_lt}
-use Rattle.std.proofs.lemmas.List.{drop-drop, drop-take, length-append, take-take}
-use Rattle.std.proofs.lemmas.List.Edits.{length-between}
-use Rattle.std.proofs.lemmas.List.Sums.{count_by-le-length, sum_by-append}
-use Rattle.std.proofs.lemmas.Option.{slice_get_past}
-use Rattle.std.proofs.lemmas.Slice.{between-put_mid}
-use borrow.Rule.Slice.PartMut.{put_mid}
+use Rattle.std.proofs.lemmas.{Bool.cases_lt, List.drop-drop}
+use Rattle.std.proofs.lemmas.List.{drop-take, length-append, take-take, Edits.length-between, Sums.count_by-le-length}
+use Rattle.std.proofs.lemmas.{List.Sums.sum_by-append, Option.slice_get_past, Slice.between-put_mid}
+use Rattle.std.specs.Prelude.{slice_get, slice_range, IfSome, count_by}
 use Rattle.apfloat_model.proofs.general.ListLaws.{get_left}
-use Rattle.apfloat_arrays.specs.declared.counts.Counts.{Counts}
-use Rattle.apfloat_arrays.specs.declared.counts.Outcome.{Outcome}
+use Rattle.apfloat_arrays.specs.declared.counts.{Counts.Counts, Outcome.Outcome}
 use Rattle.apfloat_arrays.specs.Blocks.{IsBlock, value_at}
 use Rattle.apfloat_arrays.specs.Outcomes.{became_nan, counts_of, raised, sum_of, sum_to_top}
 use Rattle.apfloat_arrays.proofs.Places.{before_write}
+use borrow.Rule.Slice.PartMut.{put_mid}
 
 -- ---- lists
 

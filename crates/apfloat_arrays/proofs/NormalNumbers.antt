@@ -1,22 +1,15 @@
 -- The result for a number that is converted from bits to bits.
 use Rattle.std.proofs.Common.{◌≡◌, ℕ, Bool, false, not, eqb, refl, sym, ap, subst}
 use Rattle.std.proofs.Math.Path.{subst₂}
-use Rattle.fast_bits.specs.declared.Encoded.{Encoded}
-use Rattle.fast_bits.specs.Encoded.{IsEncodedConversion}
-use Rattle.rustc_apfloat.specs.declared.Round.{Round}
-use Rattle.rustc_apfloat.specs.Datum.{Datum, finite}
-use Rattle.rustc_apfloat.specs.Flags.{bits_of}
-use Rattle.rustc_apfloat.specs.Format.{Format}
+use Rattle.fast_bits.specs.{declared.Encoded.Encoded, Encoded.IsEncodedConversion}
+use Rattle.rustc_apfloat.specs.{declared.Round.Round, Datum.Datum, Datum.finite, Flags.bits_of, Format.Format}
 use Rattle.rustc_apfloat.specs.Lawful.{Constants, format_with, layout_with}
-use Rattle.rustc_apfloat.specs.Layout.{IsEncodedBy}
-use Rattle.rustc_apfloat.specs.Rounding.{ok_bits}
-use Rattle.apfloat_arrays.specs.declared.converted.Converted.{Converted}
+use Rattle.rustc_apfloat.specs.{Layout.IsEncodedBy, Rounding.ok_bits}
+use Rattle.apfloat_arrays.specs.{declared.converted.Converted.Converted, FarNumbers.with_overflow, Values.IsAnswerFrom}
+use Rattle.apfloat_arrays.proofs.FarNumbers.{number_converted}
 use Rattle.small_formats.specs.declared.saturation.saturation.Overflow.{Overflow}
 use Rattle.small_formats.specs.declared.saturation.saturation.Overflow.TheVariants.{Rounded, Saturated, Finite}
-use Rattle.apfloat_arrays.specs.FarNumbers.{with_overflow}
 use Rattle.small_formats.specs.saturation.Saturation.{IsConversionBy}
-use Rattle.apfloat_arrays.specs.Values.{IsAnswerFrom}
-use Rattle.apfloat_arrays.proofs.FarNumbers.{number_converted}
 
 -- a number is kept, with any treatment of overflow
 kept_number : (overflow : Overflow) (g : Format) (left right : Bool) (quanta : ℕ)

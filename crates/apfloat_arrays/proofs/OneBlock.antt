@@ -1,30 +1,22 @@
 -- The conversion of a block of values is unique.
-use Rattle.std.proofs.Common.{◌≡◌, ℕ, ◌*◌, ◌<◌, ◌≤◌, Bool, List, length, take, sym, ◌∙◌, ap, subst, arith}
-use Rattle.std.proofs.lemmas.List.{take_all}
-use Rattle.rustc_apfloat.specs.declared.Round.{Round}
-use Rattle.rustc_apfloat.specs.Flags.{bits_of}
-use Rattle.rustc_apfloat.specs.Datum.{Datum, finite, infinite, nan}
-use Rattle.rustc_apfloat.specs.Conversions.{IsConverted}
-use Rattle.rustc_apfloat.specs.Classes.{is_nan}
-use Rattle.rustc_apfloat.specs.Format.{Format}
+use Rattle.std.proofs.Common.{◌≡◌, ℕ, ◌*◌, ◌<◌, ◌≤◌, Bool, List, length, take, sym, ◌∙◌, ap}
+use Rattle.std.proofs.{Common.subst, Common.arith, lemmas.List.take_all}
+use Rattle.rustc_apfloat.specs.{declared.Round.Round, Flags.bits_of, Datum.Datum, Datum.finite, Datum.infinite}
+use Rattle.rustc_apfloat.specs.{Datum.nan, Conversions.IsConverted, Classes.is_nan, Format.Format}
 use Rattle.rustc_apfloat.specs.Lawful.{Constants, IsLawful, format_with, layout_with}
 use Rattle.rustc_apfloat.specs.Layout.{datum_of, IsEncodedBy}
 use Rattle.apfloat_model.proofs.Once.{OnceWith, conversion_once}
-use Rattle.apfloat_model.proofs.bits.EncodedOnce.{encoded_once}
-use Rattle.apfloat_model.proofs.bits.Encodings.{lawful_interchange}
-use Rattle.apfloat_arrays.specs.declared.counts.Counts.{Counts}
-use Rattle.apfloat_arrays.specs.declared.counts.Outcome.{Outcome}
+use Rattle.apfloat_model.proofs.bits.{EncodedOnce.encoded_once, Encodings.lawful_interchange}
+use Rattle.apfloat_arrays.specs.declared.counts.{Counts.Counts, Outcome.Outcome}
+use Rattle.apfloat_arrays.specs.{Blocks.AreInPlaces, Blocks.IsBlock, Blocks.value_at, Bytes.AreBytes, Bytes.number_of}
+use Rattle.apfloat_arrays.specs.{OneBlock.IsBlockOnce, Outcomes.counts_of, Values.IsConvertedBy}
+use Rattle.apfloat_arrays.proofs.PlacesOnce.{FixesPlaces, places_once}
 use Rattle.small_formats.specs.declared.saturation.saturation.Overflow.{Overflow}
 use Rattle.small_formats.specs.declared.saturation.saturation.Overflow.TheVariants.{Rounded, Saturated, Finite}
 use Rattle.small_formats.specs.declared.saturation.saturation.FiniteNan.{FiniteNan}
 use Rattle.small_formats.specs.declared.saturation.saturation.FiniteNan.TheVariants.{Kept, Largest}
-use Rattle.apfloat_arrays.specs.Blocks.{AreInPlaces, IsBlock, value_at}
-use Rattle.apfloat_arrays.specs.Bytes.{AreBytes, number_of}
-use Rattle.apfloat_arrays.specs.OneBlock.{IsBlockOnce}
-use Rattle.apfloat_arrays.specs.Outcomes.{counts_of}
-use Rattle.small_formats.specs.saturation.Saturation.{IsConversionBy, IsFiniteConversion, IsSaturatedConversion, saturated}
-use Rattle.apfloat_arrays.specs.Values.{IsConvertedBy}
-use Rattle.apfloat_arrays.proofs.PlacesOnce.{FixesPlaces, places_once}
+use Rattle.small_formats.specs.saturation.Saturation.{IsConversionBy, IsFiniteConversion, IsSaturatedConversion}
+use Rattle.small_formats.specs.saturation.Saturation.{saturated}
 
 -- a conversion that saturates determines the value, the status and whether information is lost
 saturated_once : (f g : Format) (mode : Round) (x : Datum) → OnceWith (IsSaturatedConversion f g mode x)

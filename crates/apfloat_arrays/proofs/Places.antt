@@ -1,20 +1,16 @@
 -- One more value in its place.
-use Rattle.std.proofs.Common.{◌≡◌, ℕ, suc, ◌+◌, ◌-◌, ◌*◌, ◌<◌, ◌≤◌, Bool, ⊎_elim, if◌then◌else◌, List, [], ◌∷◌, ◌++◌, length, drop, Option, Some, refl, sym, ◌∙◌, ap, subst, arith, zero-add}
+use Rattle.std.proofs.Common.{◌≡◌, ℕ, suc, ◌+◌, ◌-◌, ◌*◌, ◌<◌, ◌≤◌, Bool, ⊎_elim}
+use Rattle.std.proofs.Common.{if◌then◌else◌, List, [], ◌∷◌, ◌++◌, length, drop, Option, Some, refl, sym}
+use Rattle.std.proofs.Common.{◌∙◌, ap, subst, arith, zero-add}
+use Rattle.std.proofs.{Math.Nat.mul-le-mul_right, Math.Nat.suc-mul, Math.Path.subst₃, lemmas.Bool.cases_lt}
+use Rattle.std.proofs.lemmas.{Bool.cases_eq, List.length_push, List.Edits.length-between, List.Sums.sum_by-append}
+use Rattle.std.proofs.lemmas.{Option.slice_get_past, Slice.between_is, Slice.take-put_mid_below, Slice.between-put_mid}
 use Rattle.std.specs.Prelude.{slice_get, IfSome, count_by}
-use Rattle.std.proofs.Math.Nat.{mul-le-mul_right, suc-mul}
-use Rattle.std.proofs.Math.Path.{subst₃}
-use Rattle.std.proofs.lemmas.Bool.{cases_lt, cases_eq}
-use Rattle.std.proofs.lemmas.List.{length_push}
-use Rattle.std.proofs.lemmas.List.Edits.{length-between}
-use Rattle.std.proofs.lemmas.List.Sums.{sum_by-append}
-use Rattle.std.proofs.lemmas.Option.{slice_get_past}
-use Rattle.std.proofs.lemmas.Slice.{between_is, take-put_mid_below, between-put_mid}
-use borrow.Rule.Slice.PartMut.{put_mid}
-use Rattle.apfloat_arrays.specs.declared.counts.Outcome.{Outcome}
-use Rattle.apfloat_arrays.specs.declared.counts.Counts.{Counts}
+use Rattle.apfloat_arrays.specs.declared.counts.{Outcome.Outcome, Counts.Counts}
 use Rattle.apfloat_arrays.specs.Outcomes.{counts_of, with_outcome, one_if, raised, became_nan}
 use Rattle.apfloat_arrays.specs.Blocks.{AreInPlaces, IsBlock, value_at}
 use Rattle.apfloat_model.proofs.general.ListLaws.{get_left, get_last}
+use borrow.Rule.Slice.PartMut.{put_mid}
 
 -- ---- counts
 

@@ -1,11 +1,10 @@
 -- Values that are determined in their places are determined as a whole.
-use Rattle.std.proofs.Common.{◌≡◌, ℕ, zero, suc, ◌+◌, ◌-◌, ◌*◌, ◌<◌, ◌≤◌, List, [], ◌∷◌, ◌++◌, length, take, drop, Option, Some, refl, sym, ◌∙◌, ap, subst, arith}
+use Rattle.std.proofs.Common.{◌≡◌, ℕ, zero, suc, ◌+◌, ◌-◌, ◌*◌, ◌<◌, ◌≤◌, List, []}
+use Rattle.std.proofs.Common.{◌∷◌, ◌++◌, length, take, drop, Option, Some, refl, sym, ◌∙◌, ap, subst}
+use Rattle.std.proofs.{Common.arith, Math.Nat.suc-mul, lemmas.List.take-take}
+use Rattle.std.proofs.lemmas.{List.take-append-drop, List.length-take, List.length-drop, Slice.between_is}
 use Rattle.std.specs.Prelude.{min, slice_get, IfSome}
-use Rattle.std.proofs.Math.Nat.{suc-mul}
-use Rattle.std.proofs.lemmas.List.{take-take, take-append-drop, length-take, length-drop}
-use Rattle.std.proofs.lemmas.Slice.{between_is}
-use Rattle.apfloat_arrays.specs.Blocks.{AreInPlaces, value_at}
-use Rattle.apfloat_arrays.specs.Bytes.{AreBytes, number_of}
+use Rattle.apfloat_arrays.specs.{Blocks.AreInPlaces, Blocks.value_at, Bytes.AreBytes, Bytes.number_of}
 
 -- ---- bytes
 

@@ -1,38 +1,29 @@
 -- Values given by their places, one more of them or one in place of another; and what zeros in place of infinities and
 -- NaNs count.
-use Rattle.std.proofs.Common.{◌≡◌, ℕ, ◌+◌, ◌-◌, ◌*◌, ◌/◌, ◌%◌, ◌^◌, ◌<◌, ◌≤◌, Bool, true, false, ⊎_elim, if◌then◌else◌, List, [], ◌∷◌, ◌++◌, length, take, set, length-set, Option, Some, refl, sym, ◌∙◌, ap, subst, arith, ltb, ◌||◌}
+use Rattle.std.proofs.Common.{◌≡◌, ℕ, ◌+◌, ◌-◌, ◌*◌, ◌/◌, ◌%◌, ◌^◌, ◌<◌, ◌≤◌}
+use Rattle.std.proofs.Common.{Bool, true, false, ⊎_elim, if◌then◌else◌, List, [], ◌∷◌, ◌++◌, length}
+use Rattle.std.proofs.Common.{take, set, length-set, Option, Some, refl, sym, ◌∙◌, ap, subst, arith, ltb}
+use Rattle.std.proofs.Common.{◌||◌}
+use Rattle.std.proofs.{Math.Nat.min-eq_left, lemmas.Bool.cases_eq, lemmas.Bool.cases_lt, lemmas.Bool.le-ltb}
+use Rattle.std.proofs.lemmas.{Bool.lt-ltb, List.get_or-set_same, List.get_or-set_other, List.Sums.count_by-le-length}
+use Rattle.std.proofs.lemmas.{List.Sums.sum_by-set, Option.slice_get_past, Option.slice_get-get_or, Slice.drop-put_mid}
 use Rattle.std.specs.Prelude.{slice_get, IfSome, count_by, get_or}
-use Rattle.std.proofs.Math.Nat.{min-eq_left}
-use Rattle.std.proofs.lemmas.Bool.{cases_eq, cases_lt, le-ltb, lt-ltb}
-use Rattle.std.proofs.lemmas.List.{get_or-set_same, get_or-set_other}
-use Rattle.std.proofs.lemmas.List.Sums.{count_by-le-length, sum_by-set}
-use Rattle.std.proofs.lemmas.Option.{slice_get_past, slice_get-get_or}
-use Rattle.std.proofs.lemmas.Slice.{drop-put_mid}
-use borrow.Rule.Slice.PartMut.{put_mid}
 use Rattle.apfloat_model.specs.rounding.RoundingToOdd.{odd_quotient}
-use Rattle.fast_bits.specs.lanes.Targets.{IsSingleFormat}
-use Rattle.fast_bits.proofs.lanes_lemmas.Cuts.{exact_odd, inexact_odd}
-use Rattle.fast_bits.proofs.lanes_lemmas.Singles.{single_read}
-use Rattle.rustc_apfloat.specs.Classes.{is_nan}
-use Rattle.rustc_apfloat.specs.Conversions.{IsConversion}
-use Rattle.rustc_apfloat.specs.Datum.{Datum, finite}
-use Rattle.rustc_apfloat.specs.Flags.{bits_of}
-use Rattle.rustc_apfloat.specs.Format.{Format}
-use Rattle.rustc_apfloat.specs.Lawful.{Constants, format_with, layout_with}
-use Rattle.rustc_apfloat.specs.Layout.{datum_of}
-use Rattle.rustc_apfloat.specs.declared.Round.{Round}
 use Rattle.apfloat_model.proofs.arithmetic.Signs.{plus_zero}
+use Rattle.fast_bits.specs.lanes.Targets.{IsSingleFormat}
+use Rattle.fast_bits.proofs.lanes_lemmas.{Cuts.exact_odd, Cuts.inexact_odd, Singles.single_read}
+use Rattle.rustc_apfloat.specs.{Classes.is_nan, Conversions.IsConversion, Datum.Datum, Datum.finite, Flags.bits_of}
+use Rattle.rustc_apfloat.specs.{Format.Format, Lawful.Constants, Lawful.format_with, Lawful.layout_with}
+use Rattle.rustc_apfloat.specs.{Layout.datum_of, declared.Round.Round}
 use Rattle.small_formats.specs.saturation.Saturation.{IsConversionBy, saturated}
 use Rattle.small_formats.specs.declared.saturation.saturation.Overflow.{Overflow}
 use Rattle.small_formats.specs.declared.saturation.saturation.Overflow.TheVariants.{Rounded, Saturated, Finite}
-use Rattle.apfloat_arrays.specs.declared.counts.Counts.{Counts}
-use Rattle.apfloat_arrays.specs.declared.counts.Outcome.{Outcome}
-use Rattle.apfloat_arrays.specs.Blocks.{IsBlock, value_at}
-use Rattle.apfloat_arrays.specs.Bytes.{number_of}
+use Rattle.apfloat_arrays.specs.declared.counts.{Counts.Counts, Outcome.Outcome}
+use Rattle.apfloat_arrays.specs.{Blocks.IsBlock, Blocks.value_at, Bytes.number_of}
 use Rattle.apfloat_arrays.specs.Outcomes.{became_nan, counts_of, one_if, raised, sum_to_top, with_flags, with_outcome}
-use Rattle.apfloat_arrays.specs.Rows.{IsRow, number_from, number_in}
-use Rattle.apfloat_arrays.specs.Values.{IsConvertedBy}
+use Rattle.apfloat_arrays.specs.{Rows.IsRow, Rows.number_from, Rows.number_in, Values.IsConvertedBy}
 use Rattle.apfloat_arrays.proofs.Places.{counts_push, earlier, latest, place_below, places_more, places_none}
+use borrow.Rule.Slice.PartMut.{put_mid}
 
 -- ---- rows
 

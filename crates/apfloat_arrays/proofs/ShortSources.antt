@@ -1,42 +1,35 @@
 -- A value and the value of six digits that it becomes when it is rounded to odd are converted alike.
-use Rattle.std.proofs.Common.{◌≡◌, ℕ, ◌+◌, ◌-◌, ◌*◌, ◌/◌, ◌%◌, ◌^◌, ◌<◌, ◌≤◌, ◌⊎◌, Bool, true, false, not, ◌&&◌, eqb, cond, if◌then◌else◌, List, [], ◌∷◌, suc, length, get_or, lit<, refl, sym, ap, ◌∙◌, subst, inl, inr, ⊎_elim, arith}
-use Rattle.std.specs.Bool.{MatchBool}
-use Rattle.std.proofs.Math.Nat.{add-mul-mod_self_right, div-div-eq-div-mul, div-mul-le_self, lt-div-mul-add, mul-add-div_right, mul-le-mul_right, mul-lt-mul_of_pos_right, mod-eq_of_lt, mod-le, mul-pos, mul_comm, one-mul, pow-le-pow_right, zero-div, zero-mod}
-use Rattle.std.proofs.lemmas.Int.{ints}
+use Rattle.std.proofs.Common.{◌≡◌, ℕ, ◌+◌, ◌-◌, ◌*◌, ◌/◌, ◌%◌, ◌^◌, ◌<◌, ◌≤◌}
+use Rattle.std.proofs.Common.{◌⊎◌, Bool, true, false, not, ◌&&◌, eqb, cond, if◌then◌else◌, List, []}
+use Rattle.std.proofs.Common.{◌∷◌, suc, length, get_or, lit<, refl, sym, ap, ◌∙◌, subst, inl, inr, ⊎_elim}
+use Rattle.std.proofs.{Common.arith, Math.Nat.add-mul-mod_self_right, Math.Nat.div-div-eq-div-mul}
+use Rattle.std.proofs.Math.Nat.{div-mul-le_self, lt-div-mul-add, mul-add-div_right, mul-le-mul_right}
+use Rattle.std.proofs.Math.Nat.{mul-lt-mul_of_pos_right, mod-eq_of_lt, mod-le, mul-pos, mul_comm, one-mul}
+use Rattle.std.proofs.{Math.Nat.pow-le-pow_right, Math.Nat.zero-div, Math.Nat.zero-mod, lemmas.Int.ints}
 use Rattle.std.proofs.lemmas.Nat.{div-add-mod', div_below, le-div, mod_below, pow-add, pow_pos}
 use Rattle.std.proofs.lemmas.Bool.{cases_eq, eq-eqb, eqb-true, ne_eqb, true≢false, MatchBool-at_false}
-use Rattle.apfloat_model.specs.declared.kinds.NonfiniteBehavior.{NonfiniteBehavior}
-use Rattle.apfloat_model.specs.declared.kinds.NonfiniteBehavior.TheVariants.{IEEE754}
-use Rattle.rustc_apfloat.specs.declared.Round.{Round}
-use Rattle.rustc_apfloat.specs.Format.{Format}
-use Rattle.rustc_apfloat.specs.Datum.{Datum, finite, infinite, nan}
-use Rattle.rustc_apfloat.specs.Flags.{bits_of}
-use Rattle.rustc_apfloat.specs.Lawful.{Constants, HasBits, HasNoBits, IsLawful, format_with, layout_with}
-use Rattle.rustc_apfloat.specs.Layout.{datum_of}
+use Rattle.std.specs.Bool.{MatchBool}
+use Rattle.apfloat_model.specs.declared.kinds.NonfiniteBehavior.{NonfiniteBehavior, TheVariants.IEEE754}
+use Rattle.apfloat_model.specs.rounding.RoundingToOdd.{odd_for_rest, odd_quotient}
+use Rattle.apfloat_model.proofs.general.{Choices.cond_same, Choices.not_zero, Powers.two_pos}
+use Rattle.apfloat_model.proofs.rounding.{Laws.exact_above, Neighbours.above_is_next, Neighbours.below_is}
+use Rattle.rustc_apfloat.specs.{declared.Round.Round, Format.Format, Datum.Datum, Datum.finite, Datum.infinite}
+use Rattle.rustc_apfloat.specs.{Datum.nan, Flags.bits_of, Lawful.Constants, Lawful.HasBits, Lawful.HasNoBits}
+use Rattle.rustc_apfloat.specs.{Lawful.IsLawful, Lawful.format_with, Lawful.layout_with, Layout.datum_of}
 use Rattle.rustc_apfloat.specs.Conversions.{IsConversion, IsConvertedNumber, IsKept, loses_zero_sign}
 use Rattle.rustc_apfloat.specs.Rounding.{IsDelivered, zero_sign}
-use Rattle.rustc_apfloat.specs.Grid.{IsAbove, IsBelow}
-use Rattle.rustc_apfloat.specs.Enclosure.{IsEnclosed}
-use Rattle.rustc_apfloat.specs.Standing.{reads_halves}
-use Rattle.apfloat_model.specs.rounding.RoundingToOdd.{odd_for_rest, odd_quotient}
-use Rattle.apfloat_model.proofs.general.Choices.{cond_same, not_zero}
-use Rattle.apfloat_model.proofs.general.Powers.{two_pos}
-use Rattle.apfloat_model.proofs.rounding.Laws.{exact_above}
-use Rattle.apfloat_model.proofs.rounding.Neighbours.{above_is_next, below_is}
-use Rattle.round_to_odd.specs.Again.{HasRoomFor}
-use Rattle.round_to_odd.specs.Odd.{is_odd_below, odd_between}
+use Rattle.rustc_apfloat.specs.{Grid.IsAbove, Grid.IsBelow, Enclosure.IsEnclosed, Standing.reads_halves}
+use Rattle.round_to_odd.specs.{Again.HasRoomFor, Odd.is_odd_below, Odd.odd_between}
 use Rattle.round_to_odd.proofs.OddPoints.{AgreesAtEven, odd_agrees, odd_below_is}
 use Rattle.round_to_odd.proofs.RoundedOnce.{delivered_once_more}
-use Rattle.apfloat_arrays.specs.declared.converted.Converted.{Converted}
-use Rattle.small_formats.specs.declared.saturation.saturation.Overflow.{Overflow}
-use Rattle.small_formats.specs.declared.saturation.saturation.Overflow.TheVariants.{Rounded, Saturated, Finite}
-use Rattle.apfloat_arrays.specs.Bytes.{number_of}
-use Rattle.small_formats.specs.saturation.Saturation.{IsConversionBy}
+use Rattle.apfloat_arrays.specs.{declared.converted.Converted.Converted, Bytes.number_of}
 use Rattle.apfloat_arrays.specs.ShortSources.{IsCoarseFor, IsShortFor, is_nan_of, short_of}
 use Rattle.apfloat_arrays.specs.Values.{IsAnswerFrom}
 use Rattle.apfloat_arrays.proofs.FarNumbers.{scale_is}
-use Rattle.fast_bits.proofs.lanes_lemmas.Cuts.{exact_odd, inexact_odd}
-use Rattle.fast_bits.proofs.lanes_lemmas.ScaledNumbers.{odd_some}
+use Rattle.small_formats.specs.declared.saturation.saturation.Overflow.{Overflow}
+use Rattle.small_formats.specs.declared.saturation.saturation.Overflow.TheVariants.{Rounded, Saturated, Finite}
+use Rattle.small_formats.specs.saturation.Saturation.{IsConversionBy}
+use Rattle.fast_bits.proofs.lanes_lemmas.{Cuts.exact_odd, Cuts.inexact_odd, ScaledNumbers.odd_some}
 
 -- ---- the quotient rounded to odd
 

@@ -1,7 +1,6 @@
 -- Formats that finite singles are converted to in blocks.
 use Rattle.std.proofs.Common.{◌≡◌, ◌-◌, ◌<◌, ◌≤◌, pos, negsuc, ◌≤ℤ◌, false, arith}
-use Rattle.std.proofs.lemmas.Bool.{cond-false}
-use Rattle.std.proofs.lemmas.Int.{ints}
+use Rattle.std.proofs.lemmas.{Bool.cond-false, Int.ints}
 use Rattle.fast_bits.specs.lanes.Targets.{IsTarget}
 use Rattle.rustc_apfloat.specs.Lawful.{Constants, IsLawful, format_with, layout_with}
 use Rattle.rustc_apfloat.specs.Standing.{reads_halves}

@@ -1,22 +1,15 @@
 -- Results in the places of a table.
 use Rattle.std.proofs.Common.{◌≡◌, ℕ, ◌+◌, ◌-◌, ◌*◌, ◌^◌, ◌<◌, ◌≤◌, List, length}
 use Rattle.std.proofs.Common.{take, set, Option, Some, sym, ap, ◌∙◌, subst, arith}
+use Rattle.std.proofs.{Math.Path.ap₂, lemmas.List.take_more_set, lemmas.Option.IfSome_then}
 use Rattle.std.specs.Prelude.{slice_get, IfSome}
-use Rattle.std.proofs.Math.Path.{ap₂}
-use Rattle.std.proofs.lemmas.List.{take_more_set}
-use Rattle.std.proofs.lemmas.Option.{IfSome_then}
-use borrow.Rule.Slice.PartMut.{put_mid}
-use Rattle.apfloat_arrays.specs.declared.counts.Counts.{Counts}
-use Rattle.apfloat_arrays.specs.declared.counts.Outcome.{Outcome}
-use Rattle.apfloat_arrays.specs.declared.tallies.Tally.{Tally}
+use Rattle.apfloat_arrays.specs.declared.{counts.Counts.Counts, counts.Outcome.Outcome, tallies.Tally.Tally}
 use Rattle.apfloat_arrays.specs.Blocks.{AreInPlaces, IsBlock, value_at}
-use Rattle.apfloat_arrays.specs.Bytes.{number_of}
-use Rattle.apfloat_arrays.specs.Entries.{AreEntries, AreLookedUp}
-use Rattle.apfloat_arrays.specs.Tables.{IsConvertedIn, IsResultTable, IsTable, outcome_tally}
-use Rattle.apfloat_arrays.specs.Tallies.{counts_with}
-use Rattle.apfloat_arrays.proofs.LittleEndian.{fits}
-use Rattle.apfloat_arrays.proofs.Places.{places_more}
+use Rattle.apfloat_arrays.specs.{Bytes.number_of, Entries.AreEntries, Entries.AreLookedUp, Tables.IsConvertedIn}
+use Rattle.apfloat_arrays.specs.{Tables.IsResultTable, Tables.IsTable, Tables.outcome_tally, Tallies.counts_with}
+use Rattle.apfloat_arrays.proofs.{LittleEndian.fits, Places.places_more}
 use Rattle.apfloat_arrays.proofs.TalliedResults.{are_entries, looked_up as outcomes_looked_up}
+use borrow.Rule.Slice.PartMut.{put_mid}
 
 -- one more result is written to its place
 pub table_more : {O : Type 0} (Holds : ℕ → List ℕ → O → Type 0) (width index count : ℕ) (bytes new : List ℕ)

@@ -1,20 +1,17 @@
 -- Tallies of few results as the digits of a number, and results that were looked up in a table of entries.
-use Rattle.std.proofs.Common.{◌≡◌, ℕ, zero, suc, ◌+◌, ◌-◌, ◌*◌, ◌/◌, ◌%◌, ◌^◌, ◌<◌, ◌≤◌, Bool, true, false, ⊎_elim, List, [], ◌∷◌, ◌++◌, length, refl, sym, subst, ap, ◌∙◌, lit≤, arith, add-one}
+use Rattle.std.proofs.Common.{◌≡◌, ℕ, zero, suc, ◌+◌, ◌-◌, ◌*◌, ◌/◌, ◌%◌, ◌^◌, ◌<◌}
+use Rattle.std.proofs.Common.{◌≤◌, Bool, true, false, ⊎_elim, List, [], ◌∷◌, ◌++◌, length, refl, sym}
+use Rattle.std.proofs.Common.{subst, ap, ◌∙◌, lit≤, arith, add-one}
+use Rattle.std.proofs.Math.{Path.ap₂, Nat.mul_comm}
+use Rattle.std.proofs.lemmas.{Bool.cases_eq, List.Sums.sum_by_push, Nat.div-mul-add, Nat.mod-mul-add}
 use Rattle.std.specs.Prelude.{IfSome}
-use Rattle.std.proofs.Math.Path.{ap₂}
-use Rattle.std.proofs.Math.Nat.{mul_comm}
-use Rattle.std.proofs.lemmas.Bool.{cases_eq}
-use Rattle.std.proofs.lemmas.List.Sums.{sum_by_push}
-use Rattle.std.proofs.lemmas.Nat.{div-mul-add, mod-mul-add}
-use borrow.Rule.Slice.PartMut.{put_mid}
-use Rattle.apfloat_arrays.specs.declared.tallies.Tally.{Tally}
-use Rattle.apfloat_arrays.specs.Blocks.{AreInPlaces, value_at}
-use Rattle.apfloat_arrays.specs.Bytes.{number_of}
+use Rattle.apfloat_arrays.specs.{declared.tallies.Tally.Tally, Blocks.AreInPlaces, Blocks.value_at, Bytes.number_of}
 use Rattle.apfloat_arrays.specs.Entries.{AreEntries, AreLookedUp, HasEntry, IsEntry, IsEntryOf, IsEntryTable, entry_of}
-use Rattle.apfloat_arrays.specs.Outcomes.{one_if}
-use Rattle.apfloat_arrays.specs.Tallies.{AreTalliesAtMost, Fits, nothing, packed_of, sum_of, tallies, tally_of, total, unpacked}
+use Rattle.apfloat_arrays.specs.{Outcomes.one_if, Tallies.AreTalliesAtMost}
+use Rattle.apfloat_arrays.specs.Tallies.{Fits, nothing, packed_of, sum_of, tallies, tally_of, total, unpacked}
 use Rattle.apfloat_arrays.proofs.Places.{earlier, latest, place_below, places_more, places_none, places_push}
 use Rattle.apfloat_arrays.proofs.PlacesOnce.{element}
+use borrow.Rule.Slice.PartMut.{put_mid}
 
 -- ---- digits to the base 32
 

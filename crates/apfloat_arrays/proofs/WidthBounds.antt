@@ -1,15 +1,14 @@
 -- A value takes at least one byte, at most sixteen, and enough for its bits.
-use Rattle.std.proofs.Common.{◌≡◌, ℕ, ◌*◌, ◌<◌, ◌≤◌, ◌==◌, Bool, true, false, if◌then◌else◌, refl, ⊎_elim, arith}
+use Rattle.std.proofs.Common.{◌≡◌, ℕ, ◌*◌, ◌<◌, ◌≤◌, ◌==◌, Bool, true, false}
+use Rattle.std.proofs.Common.{if◌then◌else◌, refl, ⊎_elim, arith}
 use Rattle.std.proofs.lemmas.Bool.{ltb-true, eqb-true}
 use Rattle.std.specs.Int.{div_ceil}
 use Rattle.rustc_apfloat.specs.Lawful.{HasBits, HasNoBits}
-use Rattle.formats_at_run_time.specs.declared.built_in.BuiltInFormat.{BuiltInFormat}
-use Rattle.formats_at_run_time.specs.declared.FlaggedFormat.{FlaggedFormat}
+use Rattle.formats_at_run_time.specs.declared.{built_in.BuiltInFormat.BuiltInFormat, FlaggedFormat.FlaggedFormat}
 use Rattle.formats_at_run_time.specs.declared.FlaggedFormat.TheVariants.{BuiltIn, AfterRounding, BeforeRounding}
 use Rattle.formats_at_run_time.specs.BuiltIns.{KnownFormat, constants_in, known_format}
 use Rattle.formats_at_run_time.specs.FlaggedKinds.{flagged_constants, format_of_ieee, format_without_rule}
-use Rattle.apfloat_arrays.specs.declared.widths.Extended.{Extended}
-use Rattle.apfloat_arrays.specs.declared.widths.Extended.TheVariants.{Packed, Padded}
+use Rattle.apfloat_arrays.specs.declared.widths.Extended.{Extended, TheVariants.Packed, TheVariants.Padded}
 use Rattle.apfloat_arrays.specs.Widths.{bytes_of, width_of, width_with}
 
 pub record HasRoom (bits width : ℕ) : Type 0 where

@@ -1,8 +1,6 @@
 -- Values in consecutive bytes.
 use Rattle.std.specs.Prelude.{◌≡◌, ℕ, ◌+◌, ◌*◌, List, length, slice_get, slice_range, IfSome}
-use Rattle.apfloat_arrays.specs.declared.counts.Outcome.{Outcome}
-use Rattle.apfloat_arrays.specs.declared.counts.Counts.{Counts}
-use Rattle.apfloat_arrays.specs.Outcomes.{counts_of}
+use Rattle.apfloat_arrays.specs.{declared.counts.Outcome.Outcome, declared.counts.Counts.Counts, Outcomes.counts_of}
 
 -- the bytes of a value, by its index, if each takes `width` bytes
 abbrev pub value_at : ℕ → ℕ → List ℕ → List ℕ

@@ -1,8 +1,6 @@
 -- Tables of results with their tallies, and results that are looked up in them.
 use Rattle.std.specs.Prelude.{◌≡◌, ℕ, ◌+◌, ◌*◌, ◌/◌, ◌%◌, ◌^◌, ◌<◌, List, length}
-use Rattle.apfloat_arrays.specs.declared.tallies.Tally.{Tally}
-use Rattle.apfloat_arrays.specs.Blocks.{AreInPlaces, value_at}
-use Rattle.apfloat_arrays.specs.Bytes.{number_of}
+use Rattle.apfloat_arrays.specs.{declared.tallies.Tally.Tally, Blocks.AreInPlaces, Blocks.value_at, Bytes.number_of}
 use Rattle.apfloat_arrays.specs.Tallies.{AreTalliesAtMost, packed_of, total}
 
 -- the entry of a place

@@ -1,18 +1,13 @@
 -- Numbers so far out of the range of a format that only the side and the sign matter: past all its values, or below
 -- half of its smallest positive value.
-use Rattle.std.specs.Prelude.{◌≡◌, ℕ, ◌+◌, ◌*◌, ◌^◌, ◌<◌, ◌≤◌, Bool, true, false, List, slice_get, IsSomeAnd}
-use Rattle.rustc_apfloat.specs.declared.Round.{Round}
-use Rattle.rustc_apfloat.specs.Flags.{bits_of}
-use Rattle.rustc_apfloat.specs.Format.{Format}
-use Rattle.rustc_apfloat.specs.Datum.{Datum, finite}
-use Rattle.rustc_apfloat.specs.Classes.{is_nan}
-use Rattle.rustc_apfloat.specs.Rounding.{IsDelivered}
-use Rattle.rustc_apfloat.specs.Lawful.{Constants, format_with, layout_with}
-use Rattle.rustc_apfloat.specs.Layout.{datum_of, IsEncodedBy}
-use Rattle.apfloat_arrays.specs.declared.converted.Converted.{Converted}
+use Rattle.std.specs.Prelude.{◌≡◌, ℕ, ◌+◌, ◌*◌, ◌^◌, ◌<◌, ◌≤◌, Bool, true, false, List}
+use Rattle.std.specs.Prelude.{slice_get, IsSomeAnd}
+use Rattle.rustc_apfloat.specs.{declared.Round.Round, Flags.bits_of, Format.Format, Datum.Datum, Datum.finite}
+use Rattle.rustc_apfloat.specs.{Classes.is_nan, Rounding.IsDelivered, Lawful.Constants, Lawful.format_with}
+use Rattle.rustc_apfloat.specs.{Lawful.layout_with, Layout.datum_of, Layout.IsEncodedBy}
+use Rattle.apfloat_arrays.specs.{declared.converted.Converted.Converted, Outcomes.one_if}
 use Rattle.small_formats.specs.declared.saturation.saturation.Overflow.{Overflow}
 use Rattle.small_formats.specs.declared.saturation.saturation.Overflow.TheVariants.{Rounded, Saturated, Finite}
-use Rattle.apfloat_arrays.specs.Outcomes.{one_if}
 use Rattle.small_formats.specs.saturation.Saturation.{saturated}
 
 -- a magnitude of amount / parts quanta that is on that side

@@ -1,12 +1,8 @@
 -- The conversion of a block of values is unique.
 use Rattle.std.specs.Prelude.{◌≡◌, ℕ, ◌*◌, ◌<◌, List, length}
-use Rattle.rustc_apfloat.specs.declared.Round.{Round}
-use Rattle.rustc_apfloat.specs.Lawful.{Constants, IsLawful}
-use Rattle.apfloat_arrays.specs.declared.counts.Counts.{Counts}
+use Rattle.rustc_apfloat.specs.{declared.Round.Round, Lawful.Constants, Lawful.IsLawful}
+use Rattle.apfloat_arrays.specs.{declared.counts.Counts.Counts, Blocks.IsBlock, Bytes.AreBytes, Values.IsConvertedBy}
 use Rattle.small_formats.specs.declared.saturation.saturation.Overflow.{Overflow}
-use Rattle.apfloat_arrays.specs.Blocks.{IsBlock}
-use Rattle.apfloat_arrays.specs.Bytes.{AreBytes}
-use Rattle.apfloat_arrays.specs.Values.{IsConvertedBy}
 
 -- the bytes of `count` values of this width
 pub record AreBytesOf (width count : ℕ) (bytes : List ℕ) : Type 0 where

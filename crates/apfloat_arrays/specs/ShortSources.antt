@@ -1,17 +1,12 @@
 -- Values whose significands are rounded to odd to six digits before they are converted to a format of few digits.
 use Rattle.std.specs.Prelude.{◌≡◌, ℕ, ◌-◌, ◌*◌, ◌/◌, ◌%◌, ◌^◌, ◌<◌, ◌≤◌, pos}
-use Rattle.std.specs.Prelude.{◌+ℤ◌, ◌-ℤ◌, ◌≤ℤ◌}
-use Rattle.std.specs.Prelude.{Bool, false, ◌&&◌, not, eqb, List, length}
+use Rattle.std.specs.Prelude.{◌+ℤ◌, ◌-ℤ◌, ◌≤ℤ◌, Bool, false, ◌&&◌, not, eqb, List, length}
 use Rattle.apfloat_model.specs.declared.kinds.NonfiniteBehavior.TheVariants.{IEEE754}
-use Rattle.rustc_apfloat.specs.Lawful.{Constants}
-use Rattle.rustc_apfloat.specs.declared.Round.{Round}
-use Rattle.small_formats.specs.declared.saturation.saturation.Overflow.{Overflow}
 use Rattle.apfloat_model.specs.rounding.RoundingToOdd.{odd_quotient}
-use Rattle.apfloat_arrays.specs.declared.counts.Outcome.{Outcome}
-use Rattle.apfloat_arrays.specs.declared.widths.Widths.{Widths}
-use Rattle.apfloat_arrays.specs.Tables.{IsTable}
-use Rattle.apfloat_arrays.specs.Tasks.{HaveWidths}
-use Rattle.apfloat_arrays.specs.Values.{IsAnswerAt}
+use Rattle.rustc_apfloat.specs.{Lawful.Constants, declared.Round.Round}
+use Rattle.small_formats.specs.declared.saturation.saturation.Overflow.{Overflow}
+use Rattle.apfloat_arrays.specs.declared.{counts.Outcome.Outcome, widths.Widths.Widths}
+use Rattle.apfloat_arrays.specs.{Tables.IsTable, Tasks.HaveWidths, Values.IsAnswerAt}
 
 -- z has six digits, and the exponents of c
 pub record IsShortFor (c z : Constants) : Type 0 where

@@ -1,15 +1,10 @@
 -- Blocks of singles, converted by the halves of their words.
 use Rattle.std.specs.Prelude.{◌≡◌, ℕ, ◌/◌, ◌%◌, ◌^◌, Bool, true, false}
 use Rattle.apfloat_model.specs.rounding.RoundingToOdd.{odd_quotient}
-use Rattle.fast_bits.specs.declared.lanes.constants.Target.{Target}
-use Rattle.fast_bits.specs.declared.lanes.lanes.Lane.{Lane}
-use Rattle.fast_bits.specs.lanes.At.{format_at, layout_at}
-use Rattle.fast_bits.specs.lanes.Lanes.{flags_of}
-use Rattle.rustc_apfloat.specs.Lawful.{Constants, format_with, layout_with}
-use Rattle.rustc_apfloat.specs.declared.Round.{Round}
-use Rattle.apfloat_arrays.specs.declared.counts.Counts.{Counts}
-use Rattle.apfloat_arrays.specs.declared.counts.Outcome.{Outcome}
-use Rattle.fast_bits.specs.declared.lanes.few_counts.FewCounts.{FewCounts}
+use Rattle.fast_bits.specs.declared.lanes.{constants.Target.Target, lanes.Lane.Lane, few_counts.FewCounts.FewCounts}
+use Rattle.fast_bits.specs.lanes.{At.format_at, At.layout_at, Lanes.flags_of}
+use Rattle.rustc_apfloat.specs.{Lawful.Constants, Lawful.format_with, Lawful.layout_with, declared.Round.Round}
+use Rattle.apfloat_arrays.specs.declared.counts.{Counts.Counts, Outcome.Outcome}
 use Rattle.small_formats.specs.declared.saturation.saturation.Overflow.{Overflow}
 use Rattle.small_formats.specs.declared.saturation.saturation.Overflow.TheVariants.{Rounded, Saturated, Finite}
 

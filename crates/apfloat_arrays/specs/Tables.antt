@@ -1,12 +1,8 @@
 -- Tables of results, each in the place of the bits that it is the result for.
 use Rattle.std.specs.Prelude.{ℕ, List}
 use Rattle.rustc_apfloat.specs.Flags.{bits_of}
-use Rattle.apfloat_arrays.specs.declared.counts.Outcome.{Outcome}
-use Rattle.apfloat_arrays.specs.declared.tallies.Tally.{Tally}
-use Rattle.apfloat_arrays.specs.Blocks.{AreInPlaces}
-use Rattle.apfloat_arrays.specs.Bytes.{number_of}
-use Rattle.apfloat_arrays.specs.Entries.{IsEntryTable}
-use Rattle.apfloat_arrays.specs.Tallies.{tally_of}
+use Rattle.apfloat_arrays.specs.declared.{counts.Outcome.Outcome, tallies.Tally.Tally}
+use Rattle.apfloat_arrays.specs.{Blocks.AreInPlaces, Bytes.number_of, Entries.IsEntryTable, Tallies.tally_of}
 
 -- the bytes of a result for the bits of a value, by what is said of the bits of both
 abbrev pub IsConvertedIn : (ℕ → ℕ → Outcome → Type 0) → List ℕ → List ℕ → Outcome → Type 0

@@ -1,8 +1,7 @@
 -- How many results raised each flag and how many are NaNs, and such counts as the digits of one number.
-use Rattle.std.specs.Prelude.{ℕ, zero, suc, ◌+◌, ◌*◌, ◌/◌, ◌%◌, ◌^◌, ◌<◌, ◌≤◌, ◌==◌, Bool, not, bit_and, List, sum_by}
-use Rattle.apfloat_arrays.specs.declared.counts.Counts.{Counts}
-use Rattle.apfloat_arrays.specs.declared.tallies.Tally.{Tally}
-use Rattle.apfloat_arrays.specs.Outcomes.{one_if}
+use Rattle.std.specs.Prelude.{ℕ, zero, suc, ◌+◌, ◌*◌, ◌/◌, ◌%◌, ◌^◌, ◌<◌, ◌≤◌, ◌==◌}
+use Rattle.std.specs.Prelude.{Bool, not, bit_and, List, sum_by}
+use Rattle.apfloat_arrays.specs.{declared.counts.Counts.Counts, declared.tallies.Tally.Tally, Outcomes.one_if}
 
 -- the counts of two sets of results, added
 abbrev pub sum_of : Tally → Tally → Tally

@@ -2,13 +2,8 @@
 use Rattle.std.specs.Prelude.{◌≡◌, ℕ, ◌*◌, ◌<◌, ◌≤◌, List, length}
 use Rattle.fast_bits.specs.lanes.Targets.{IsSingleFormat, IsTarget}
 use Rattle.rustc_apfloat.specs.Lawful.{Constants, format_with, layout_with}
-use Rattle.apfloat_arrays.specs.declared.counts.Counts.{Counts}
-use Rattle.apfloat_arrays.specs.declared.task.Task.{Task}
-use Rattle.apfloat_arrays.specs.declared.widths.Widths.{Widths}
-use Rattle.apfloat_arrays.specs.Blocks.{IsBlock}
-use Rattle.apfloat_arrays.specs.Rows.{IsRow, number_from}
-use Rattle.apfloat_arrays.specs.Values.{IsConvertedBy}
-use Rattle.apfloat_arrays.specs.Widths.{bytes_of}
+use Rattle.apfloat_arrays.specs.declared.{counts.Counts.Counts, task.Task.Task, widths.Widths.Widths}
+use Rattle.apfloat_arrays.specs.{Blocks.IsBlock, Rows.IsRow, Rows.number_from, Values.IsConvertedBy, Widths.bytes_of}
 
 -- values of the formats take so many bytes, before and after their conversion
 pub record HaveWidths (c d : Constants) (source target : ℕ) : Type 0 where

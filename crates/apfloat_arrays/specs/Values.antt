@@ -1,16 +1,10 @@
 -- One value.
 use Rattle.std.specs.Prelude.{◌≡◌, ℕ, Bool, List}
-use Rattle.rustc_apfloat.specs.declared.Round.{Round}
-use Rattle.rustc_apfloat.specs.Flags.{bits_of}
-use Rattle.rustc_apfloat.specs.Datum.{Datum}
-use Rattle.rustc_apfloat.specs.Classes.{is_nan}
-use Rattle.rustc_apfloat.specs.Lawful.{Constants, format_with, layout_with}
-use Rattle.rustc_apfloat.specs.Layout.{datum_of, IsEncodedBy}
-use Rattle.apfloat_arrays.specs.declared.converted.Converted.{Converted}
-use Rattle.apfloat_arrays.specs.declared.counts.Outcome.{Outcome}
-use Rattle.small_formats.specs.declared.saturation.saturation.Overflow.{Overflow}
+use Rattle.rustc_apfloat.specs.{declared.Round.Round, Flags.bits_of, Datum.Datum, Classes.is_nan, Lawful.Constants}
+use Rattle.rustc_apfloat.specs.{Lawful.format_with, Lawful.layout_with, Layout.datum_of, Layout.IsEncodedBy}
+use Rattle.apfloat_arrays.specs.declared.{converted.Converted.Converted, counts.Outcome.Outcome}
 use Rattle.apfloat_arrays.specs.Bytes.{number_of}
-use Rattle.small_formats.specs.saturation.Saturation.{IsConversionBy}
+use Rattle.small_formats.specs.{declared.saturation.saturation.Overflow.Overflow, saturation.Saturation.IsConversionBy}
 
 -- The bits of the result are the canonical encoding of the conversion of the value that `bits` encode.
 pub record IsAnswerAt (overflow : Overflow) (c d : Constants) (mode : Round) (bits result : ℕ) (outcome : Outcome)

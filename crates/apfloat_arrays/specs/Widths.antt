@@ -2,13 +2,10 @@
 use Rattle.std.specs.Prelude.{ℕ, ◌==◌, if◌then◌else◌}
 use Rattle.std.specs.Int.{div_ceil}
 use Rattle.rustc_apfloat.specs.Lawful.{Constants}
-use Rattle.formats_at_run_time.specs.declared.built_in.BuiltInFormat.{BuiltInFormat}
-use Rattle.formats_at_run_time.specs.BuiltIns.{constants_in}
+use Rattle.formats_at_run_time.specs.{declared.built_in.BuiltInFormat.BuiltInFormat, BuiltIns.constants_in}
 use Rattle.formats_at_run_time.specs.FlaggedKinds.{format_without_rule}
-use Rattle.apfloat_arrays.specs.declared.widths.Extended.{Extended}
-use Rattle.apfloat_arrays.specs.declared.widths.Extended.TheVariants.{Packed, Padded}
-use Rattle.apfloat_arrays.specs.declared.widths.Widths.{Widths}
-use Rattle.apfloat_arrays.specs.declared.conversion.Conversion.{Conversion}
+use Rattle.apfloat_arrays.specs.declared.widths.Extended.{Extended, TheVariants.Packed, TheVariants.Padded}
+use Rattle.apfloat_arrays.specs.declared.{widths.Widths.Widths, conversion.Conversion.Conversion}
 use Rattle.apfloat_arrays.specs.declared.array.ArrayConversion.{ArrayConversion}
 
 -- how many bytes so many bits take: the fewest, with four in place of three

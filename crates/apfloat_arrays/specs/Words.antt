@@ -1,10 +1,8 @@
 -- The conversions that words name.
 use Rattle.std.specs.Prelude.{ℕ, List, Option, Some, None}
-use Rattle.formats_at_run_time.specs.declared.built_in.BuiltInFormat.{BuiltInFormat}
-use Rattle.formats_at_run_time.specs.BuiltIns.{kind_named, format_in}
-use Rattle.formats_at_run_time.specs.Modes.{mode_named}
-use Rattle.apfloat_arrays.specs.declared.widths.Extended.{Extended}
-use Rattle.apfloat_arrays.specs.declared.conversion.Conversion.{Conversion}
+use Rattle.formats_at_run_time.specs.{declared.built_in.BuiltInFormat.BuiltInFormat, BuiltIns.kind_named}
+use Rattle.formats_at_run_time.specs.{BuiltIns.format_in, Modes.mode_named}
+use Rattle.apfloat_arrays.specs.declared.{widths.Extended.Extended, conversion.Conversion.Conversion}
 
 -- the result for a value, if there is one
 abbrev pub with_some : {A B : Type 0} → Option A → (A → Option B) → Option B

@@ -2,12 +2,8 @@
 
 ghost use Rattle.std.specs.Prelude.{◌≡◌, ◌*◌, ◌<◌, ◌≤◌, length};
 ghost use Rattle.rustc_apfloat.specs.FlaggedTypes.{constants_of};
-ghost use Rattle.formats_at_run_time.specs.BuiltIns.{constants_in};
-ghost use Rattle.formats_at_run_time.specs.FlaggedKinds.{flagged_constants};
-ghost use Rattle.apfloat_arrays.specs.Calls.{at_format};
-ghost use Rattle.apfloat_arrays.specs.Widths.{array_widths};
-ghost use Rattle.apfloat_arrays.specs.Values.{IsConvertedBy};
-ghost use Rattle.apfloat_arrays.specs.Blocks.{IsBlock};
+ghost use Rattle.formats_at_run_time.specs.{BuiltIns.constants_in, FlaggedKinds.flagged_constants};
+ghost use Rattle.apfloat_arrays.specs.{Calls.at_format, Widths.array_widths, Values.IsConvertedBy, Blocks.IsBlock};
 
 use crate::blocks::convert_block_by;
 use crate::counts::Counts;

@@ -3,9 +3,7 @@
 ghost use Rattle.std.specs.Prelude.{◌≡◌, ◌*◌, ◌<◌, ◌≤◌, length, take};
 ghost use Rattle.rustc_apfloat.specs.Types.{constants_of};
 ghost use Rattle.formats_at_run_time.specs.BuiltIns.{constants_in};
-ghost use Rattle.apfloat_arrays.specs.Calls.{at_format};
-ghost use Rattle.apfloat_arrays.specs.Widths.{source_width, target_width};
-ghost use Rattle.apfloat_arrays.specs.Values.{IsConvertedBy};
+ghost use Rattle.apfloat_arrays.specs.{Calls.at_format, Widths.source_width, Widths.target_width, Values.IsConvertedBy};
 ghost use Rattle.apfloat_arrays.specs.Blocks.{IsBlock};
 
 use crate::blocks::convert_block_by;

@@ -2,9 +2,7 @@
 
 ghost use Rattle.std.specs.Prelude.{◌≡◌, ◌*◌, ◌<◌, ◌≤◌, length};
 ghost use Rattle.rustc_apfloat.specs.FlaggedTypes.{constants_of};
-ghost use Rattle.apfloat_arrays.specs.Values.{IsConvertedBy};
-ghost use Rattle.apfloat_arrays.specs.Blocks.{IsBlock};
-ghost use Rattle.apfloat_arrays.specs.OneBlock.{IsBlockOnce};
+ghost use Rattle.apfloat_arrays.specs.{Values.IsConvertedBy, Blocks.IsBlock, OneBlock.IsBlockOnce};
 
 use crate::byte_sources::{convert_bytes, has_byte_table};
 use crate::counts::Counts;

@@ -2,8 +2,7 @@
 
 ghost use Rattle.std.specs.Prelude.{◌≡◌, ◌≤◌, IsTrue};
 ghost use Rattle.rustc_apfloat.specs.FlaggedTypes.{constants_of};
-ghost use Rattle.apfloat_arrays.specs.Tasks.{IsDone, IsGiven};
-ghost use Rattle.apfloat_arrays.specs.Widths.{bytes_of};
+ghost use Rattle.apfloat_arrays.specs.{Tasks.IsDone, Tasks.IsGiven, Widths.bytes_of};
 
 use crate::byte_tables::{PLACES, convert_by_table};
 use crate::counts::Counts;

@@ -1,8 +1,7 @@
 //! Values of one byte, converted by a table of the results for all 256.
 
 ghost use Rattle.std.specs.Prelude.{◌≡◌, ℕ, ◌*◌, ◌<◌, ◌≤◌, length};
-ghost use Rattle.apfloat_arrays.specs.Blocks.{IsBlock};
-ghost use Rattle.apfloat_arrays.specs.Bytes.{number_of};
+ghost use Rattle.apfloat_arrays.specs.{Blocks.IsBlock, Bytes.number_of};
 ghost use Rattle.apfloat_arrays.specs.Tables.{IsConvertedIn, IsResultTable, IsTable};
 
 use crate::counts::{Counts, Outcome};

@@ -3,9 +3,7 @@
 ghost use Rattle.std.specs.Prelude.{◌≡◌, ◌+◌, ◌*◌, ◌/◌, ◌≤◌, length, take};
 ghost use Rattle.formats_at_run_time.specs.BuiltIns.{constants_in};
 ghost use Rattle.apfloat_arrays.specs.Words.{conversion_named, format_named};
-ghost use Rattle.apfloat_arrays.specs.Widths.{source_width, target_width};
-ghost use Rattle.apfloat_arrays.specs.Values.{IsConvertedBy};
-ghost use Rattle.apfloat_arrays.specs.Blocks.{IsBlock};
+ghost use Rattle.apfloat_arrays.specs.{Widths.source_width, Widths.target_width, Values.IsConvertedBy, Blocks.IsBlock};
 
 use crate::block_call::BlockCall;
 use crate::counts::Counts;

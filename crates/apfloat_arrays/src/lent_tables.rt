@@ -3,13 +3,9 @@
 
 ghost use Rattle.std.specs.Prelude.{◌≡◌, ◌*◌, ◌<◌, ◌≤◌, IsTrue, length};
 ghost use Rattle.rustc_apfloat.specs.FlaggedTypes.{constants_of};
-ghost use Rattle.formats_at_run_time.specs.BuiltIns.{constants_in};
-ghost use Rattle.formats_at_run_time.specs.FlaggedKinds.{flagged_constants};
-ghost use Rattle.apfloat_arrays.specs.Blocks.{IsBlock};
-ghost use Rattle.apfloat_arrays.specs.Calls.{at_format};
-ghost use Rattle.apfloat_arrays.specs.Tables.{IsResultTable};
-ghost use Rattle.apfloat_arrays.specs.Values.{IsAnswerAt, IsConvertedBy};
-ghost use Rattle.apfloat_arrays.specs.Widths.{array_widths};
+ghost use Rattle.formats_at_run_time.specs.{BuiltIns.constants_in, FlaggedKinds.flagged_constants};
+ghost use Rattle.apfloat_arrays.specs.{Blocks.IsBlock, Calls.at_format, Tables.IsResultTable, Values.IsAnswerAt};
+ghost use Rattle.apfloat_arrays.specs.{Values.IsConvertedBy, Widths.array_widths};
 
 use crate::array::ArrayConversion;
 use crate::counts::Counts;

@@ -1,8 +1,7 @@
 //! Values in consecutive bytes, converted one after another.
 
 ghost use Rattle.rustc_apfloat.specs.FlaggedTypes.{constants_of};
-ghost use Rattle.apfloat_arrays.specs.Blocks.{IsBlock};
-ghost use Rattle.apfloat_arrays.specs.Tasks.{HasBytes, IsDone, IsGiven};
+ghost use Rattle.apfloat_arrays.specs.{Blocks.IsBlock, Tasks.HasBytes, Tasks.IsDone, Tasks.IsGiven};
 ghost use Rattle.apfloat_arrays.specs.Values.{IsConvertedBy};
 
 use crate::counts::Counts;

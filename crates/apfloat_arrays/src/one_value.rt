@@ -2,8 +2,7 @@
 
 ghost use Rattle.std.specs.Prelude.{◌≡◌, ◌<◌, length, IfSome, false};
 ghost use Rattle.rustc_apfloat.specs.FlaggedTypes.{constants_of};
-ghost use Rattle.apfloat_arrays.specs.FarNumbers.{AreFarAnswers};
-ghost use Rattle.apfloat_arrays.specs.Tasks.{HaveWidths};
+ghost use Rattle.apfloat_arrays.specs.{FarNumbers.AreFarAnswers, Tasks.HaveWidths};
 ghost use Rattle.apfloat_arrays.specs.Values.{IsAnswerAt, IsAnswerFrom, IsConvertedBy};
 
 use crate::byte_tables::{ByteResults, PLACES};

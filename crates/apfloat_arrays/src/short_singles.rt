@@ -4,10 +4,8 @@
 ghost use Rattle.std.specs.Prelude.{◌≡◌, ℕ, ◌<◌, slice_index};
 ghost use Rattle.std.proofs.Common.{ap};
 ghost use Rattle.apfloat_model.specs.bits.Layout.{Layout};
-ghost use Rattle.fast_bits.specs.lanes.Sides.{LeadsPast};
-ghost use Rattle.fast_bits.specs.lanes.Targets.{IsShortFormat};
-ghost use Rattle.apfloat_arrays.specs.Rows.{AreFiniteHalves, number_in};
-ghost use Rattle.apfloat_arrays.specs.Singles.{IsPlanFor, IsShortHalf};
+ghost use Rattle.fast_bits.specs.lanes.{Sides.LeadsPast, Targets.IsShortFormat};
+ghost use Rattle.apfloat_arrays.specs.{Rows.AreFiniteHalves, Rows.number_in, Singles.IsPlanFor, Singles.IsShortHalf};
 
 use crate::single_plans::{BlockPlan, SinglesPlan};
 use crate::single_targets::target_of;

@@ -1,16 +1,15 @@
 //! Plans by which singles are converted in blocks.
 
-ghost use Rattle.std.specs.Prelude.{◌≡◌, ℕ, ℤ, ◌*◌, ◌%◌, ◌^◌, ◌<◌, List, length, false, IsTrue};
+ghost use Rattle.std.specs.Prelude.{◌≡◌, ℕ, ℤ, ◌*◌, ◌%◌, ◌^◌, ◌<◌, List, length, false};
+ghost use Rattle.std.specs.Prelude.{IsTrue};
 ghost use Rattle.apfloat_model.specs.bits.Layout.{Layout};
 ghost use Rattle.fast_bits.specs.lanes.Targets.{IsSingleFormat, IsTarget};
 ghost use Rattle.rustc_apfloat.specs.declared.Round.{Round as Mode};
 ghost use Rattle.rustc_apfloat.specs.Lawful.{Constants, format_with, layout_with};
 ghost use Rattle.rustc_apfloat.specs.FlaggedTypes.{constants_of, format_of, layout_of};
 ghost use Rattle.small_formats.specs.declared.saturation.saturation.Overflow.{Overflow};
-ghost use Rattle.apfloat_arrays.specs.Blocks.{value_at};
-ghost use Rattle.apfloat_arrays.specs.Rows.{AreFiniteHalves, AreTaken, number_from};
-ghost use Rattle.apfloat_arrays.specs.Singles.{outcome_of, saturates};
-ghost use Rattle.apfloat_arrays.specs.Values.{IsAnswerAt};
+ghost use Rattle.apfloat_arrays.specs.{Blocks.value_at, Rows.AreFiniteHalves, Rows.AreTaken, Rows.number_from};
+ghost use Rattle.apfloat_arrays.specs.{Singles.outcome_of, Singles.saturates, Values.IsAnswerAt};
 
 use fast_bits::lanes::Lane;
 use rustc_apfloat::Round;

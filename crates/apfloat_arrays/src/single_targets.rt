@@ -3,8 +3,7 @@
 ghost use Rattle.std.specs.Prelude.{◌≡◌, ◌<◌, ◌≤◌, pos, negsuc, ◌≤ℤ◌, false, IsTrue};
 ghost use Rattle.fast_bits.specs.lanes.At.{format_at, layout_at};
 ghost use Rattle.fast_bits.specs.lanes.Targets.{IsShortFormat, IsSingleFormat, IsTarget};
-ghost use Rattle.rustc_apfloat.specs.FlaggedTypes.{format_of, layout_of};
-ghost use Rattle.rustc_apfloat.specs.Standing.{reads_halves};
+ghost use Rattle.rustc_apfloat.specs.{FlaggedTypes.format_of, FlaggedTypes.layout_of, Standing.reads_halves};
 ghost use Rattle.apfloat_arrays.specs.Singles.{saturates};
 
 use fast_bits::lanes::Target;

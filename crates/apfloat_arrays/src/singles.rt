@@ -5,20 +5,16 @@ ghost use Rattle.std.specs.Prelude.{◌≡◌, ℕ, ⊤, ◌+◌, ◌*◌, ◌/�
 ghost use Rattle.std.specs.Prelude.{◌<◌, List, length, replicate, false, IsTrue};
 ghost use Rattle.std.proofs.Common.{ap};
 ghost use Rattle.apfloat_model.specs.bits.Layout.{Layout};
-ghost use Rattle.fast_bits.specs.lanes.FewCounts.{FewAreAtMost};
-ghost use Rattle.fast_bits.specs.lanes.Sides.{LeadsPast};
+ghost use Rattle.fast_bits.specs.lanes.{FewCounts.FewAreAtMost, Sides.LeadsPast};
 ghost use Rattle.fast_bits.specs.lanes.Targets.{IsSingleFormat, IsTarget};
 ghost use Rattle.rustc_apfloat.specs.declared.Round.{Round as Mode};
 ghost use Rattle.rustc_apfloat.specs.Lawful.{Constants, format_with, layout_with};
 ghost use Rattle.rustc_apfloat.specs.FlaggedTypes.{constants_of, format_of, layout_of};
 ghost use Rattle.small_formats.specs.declared.saturation.saturation.Overflow.{Overflow};
-ghost use Rattle.apfloat_arrays.specs.Blocks.{value_at};
-ghost use Rattle.apfloat_arrays.specs.Outcomes.{with_outcome};
-ghost use Rattle.apfloat_arrays.specs.Rows.{AreFiniteHalves, AreTaken, IsRow, number_from};
-ghost use Rattle.apfloat_arrays.specs.Singles.{AreHalves, IsPlanFor, counts_with, outcome_of};
-ghost use Rattle.apfloat_arrays.specs.Tasks.{AreConverted, AreSingles, HasConverted, HasSingles};
-ghost use Rattle.apfloat_arrays.specs.Values.{IsConvertedBy};
-ghost use Rattle.apfloat_arrays.specs.Widths.{bytes_of};
+ghost use Rattle.apfloat_arrays.specs.{Blocks.value_at, Outcomes.with_outcome, Rows.AreFiniteHalves, Rows.AreTaken};
+ghost use Rattle.apfloat_arrays.specs.{Rows.IsRow, Rows.number_from, Singles.AreHalves, Singles.IsPlanFor};
+ghost use Rattle.apfloat_arrays.specs.{Singles.counts_with, Singles.outcome_of, Tasks.AreConverted, Tasks.AreSingles};
+ghost use Rattle.apfloat_arrays.specs.{Tasks.HasConverted, Tasks.HasSingles, Values.IsConvertedBy, Widths.bytes_of};
 
 use crate::bytes::write_number;
 use crate::counts::Counts;

@@ -1,8 +1,7 @@
 //! Widths of values in bytes.
 
 ghost use Rattle.std.specs.Prelude.{◌≡◌, ◌≤◌};
-ghost use Rattle.apfloat_arrays.specs.Calls.{at_format};
-ghost use Rattle.apfloat_arrays.specs.Widths.{bytes_of, width_of, width_with};
+ghost use Rattle.apfloat_arrays.specs.{Calls.at_format, Widths.bytes_of, Widths.width_of, Widths.width_with};
 
 use formats_at_run_time::{BuiltInFormat, InFormat};
 use rustc_apfloat::ieee::Semantics;

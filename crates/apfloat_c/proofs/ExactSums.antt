@@ -2,17 +2,11 @@
 use Rattle.std.proofs.Common.{◌≡◌, ℕ, suc, ◌+◌, ◌-◌, ◌*◌, ◌/◌, ◌%◌, ◌<◌, ◌≤◌}
 use Rattle.std.proofs.Common.{lit≤, Bool, true, false, List, Option, Some, None, Ok, Err, Result, refl, sym, ap}
 use Rattle.std.proofs.Common.{◌∙◌, subst, arith}
-use Rattle.std.specs.Prelude.{◌==◌, if◌then◌else◌, ok_or}
 use Rattle.std.proofs.Math.Path.{subst₂}
-use Rattle.std.proofs.lemmas.Bool.{and_parts, eqb-true, false≢true}
-use Rattle.std.proofs.lemmas.Nat.{div-add-mod'}
-use Rattle.rustc_apfloat.specs.declared.Round.{Round}
-use Rattle.rustc_apfloat.specs.declared.StatusAnd.{StatusAnd}
-use Rattle.rustc_apfloat.specs.Datum.{Datum}
-use Rattle.rustc_apfloat.specs.Determined.{Determines}
-use Rattle.rustc_apfloat.specs.Flags.{Gives}
-use Rattle.rustc_apfloat.specs.Format.{Format}
-use Rattle.rustc_apfloat.specs.Lawful.{Constants, format_with}
+use Rattle.std.proofs.lemmas.{Bool.and_parts, Bool.eqb-true, Bool.false≢true, Nat.div-add-mod'}
+use Rattle.std.specs.Prelude.{◌==◌, if◌then◌else◌, ok_or}
+use Rattle.rustc_apfloat.specs.{declared.Round.Round, declared.StatusAnd.StatusAnd, Datum.Datum, Determined.Determines}
+use Rattle.rustc_apfloat.specs.{Flags.Gives, Format.Format, Lawful.Constants, Lawful.format_with}
 use Rattle.apfloat_model.specs.rounding.Outcome.{Outcome}
 use Rattle.exact_reductions.specs.Reductions.{IsReducible, IsTotal, Tally, joined, magnitude_of, magnitude_terms}
 use Rattle.exact_reductions.specs.Reductions.{no_terms, product_terms, tally, tally_of, value_terms}
@@ -21,25 +15,20 @@ use Rattle.exact_reductions.proofs.Tallies.{IsUnderWay, all_done, none_joined, o
 use Rattle.formats_at_run_time.specs.declared.BuiltInFormat.{BuiltInFormat, TheVariants.Quad}
 use Rattle.formats_at_run_time.specs.declared.FlaggedFormat.{FlaggedFormat}
 use Rattle.formats_at_run_time.specs.declared.FlaggedFormat.TheVariants.{BuiltIn, AfterRounding, BeforeRounding}
-use Rattle.formats_at_run_time.specs.declared.FlaggedKind.{FlaggedKind}
-use Rattle.formats_at_run_time.specs.declared.FlaggedKind.TheVariants.{OfFormat, Pairs}
-use Rattle.formats_at_run_time.specs.BuiltIns.{constants_in}
-use Rattle.formats_at_run_time.specs.FlaggedKinds.{flagged_constants, format_of_ieee}
-use Rattle.formats_at_run_time.specs.Relations.{in_format}
-use Rattle.formats_at_run_time.specs.ValueKinds.{value_of}
-use Rattle.apfloat_arrays.specs.Blocks.{value_at}
-use Rattle.apfloat_arrays.specs.Bytes.{number_of}
+use Rattle.formats_at_run_time.specs.declared.FlaggedKind.{FlaggedKind, TheVariants.OfFormat, TheVariants.Pairs}
+use Rattle.formats_at_run_time.specs.{BuiltIns.constants_in, FlaggedKinds.flagged_constants}
+use Rattle.formats_at_run_time.specs.{FlaggedKinds.format_of_ieee, Relations.in_format, ValueKinds.value_of}
 use Rattle.formats_at_run_time.proofs.FormatLaws.{HasLaw, format_law}
+use Rattle.apfloat_arrays.specs.{Blocks.value_at, Bytes.number_of}
 use Rattle.coded_calls.specs.declared.data.Answer.{Answer}
 use Rattle.coded_calls.specs.KnownCalls.{◌>>=◌, no_such_operation}
-use Rattle.apfloat_c.specs.declared.reductions.KnownReduction.{KnownReduction}
-use Rattle.apfloat_c.specs.declared.reductions.Reduction.{Reduction}
+use Rattle.coded_calls.proofs.ExportsOnce.{OnceAnswer, format_determined, unchanged, value_once}
+use Rattle.apfloat_c.specs.declared.reductions.{KnownReduction.KnownReduction, Reduction.Reduction}
 use Rattle.apfloat_c.specs.declared.reductions.Reduction.TheVariants.{Sum, Magnitudes, Products}
 use Rattle.apfloat_c.specs.ArrayCalls.{bytes_in}
 use Rattle.apfloat_c.specs.Reductions.{IsReducedArray, IsReducedCall, IsReducedCallOnce, IsReducedIn, IsReductionOf}
 use Rattle.apfloat_c.specs.Reductions.{fitting_sum, known_reduction, sums_fit, term_of, values_from}
 use Rattle.apfloat_c.proofs.ArrayCalls.{if_fitting_ok}
-use Rattle.coded_calls.proofs.ExportsOnce.{OnceAnswer, format_determined, unchanged, value_once}
 
 -- ---- the formats
 

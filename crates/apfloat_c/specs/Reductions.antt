@@ -2,30 +2,20 @@
 use Rattle.std.specs.Prelude.{◌≡◌, ℕ, zero, suc, ◌+◌, ◌/◌, ◌%◌, ◌==◌, Bool, true, false}
 use Rattle.std.specs.Prelude.{◌&&◌, if◌then◌else◌, List, [], ◌∷◌, length, Option, Some, None, ok_or}
 use Rattle.std.specs.Prelude.{Result, Ok, Err}
-use Rattle.rustc_apfloat.specs.declared.Round.{Round}
-use Rattle.rustc_apfloat.specs.Datum.{Datum}
-use Rattle.rustc_apfloat.specs.Flags.{Gives}
-use Rattle.rustc_apfloat.specs.Format.{Format}
+use Rattle.rustc_apfloat.specs.{declared.Round.Round, Datum.Datum, Flags.Gives, Format.Format}
 use Rattle.rustc_apfloat.specs.Lawful.{Constants, format_with}
-use Rattle.apfloat_model.specs.rounding.Outcome.{Outcome}
-use Rattle.apfloat_model.specs.arithmetic.Products.{product}
+use Rattle.apfloat_model.specs.{rounding.Outcome.Outcome, arithmetic.Products.product}
 use Rattle.exact_reductions.specs.Reductions.{IsDot, IsSumOf, IsSumOfMagnitudes, magnitude_of, value_term}
-use Rattle.formats_at_run_time.specs.declared.FlaggedFormat.{FlaggedFormat}
-use Rattle.formats_at_run_time.specs.declared.FlaggedKind.{FlaggedKind}
+use Rattle.formats_at_run_time.specs.declared.{FlaggedFormat.FlaggedFormat, FlaggedKind.FlaggedKind}
 use Rattle.formats_at_run_time.specs.declared.FlaggedKind.TheVariants.{OfFormat, Pairs}
-use Rattle.formats_at_run_time.specs.FlaggedKinds.{flagged_constants}
-use Rattle.formats_at_run_time.specs.Relations.{in_format}
-use Rattle.formats_at_run_time.specs.ValueKinds.{value_of}
-use Rattle.apfloat_arrays.specs.Blocks.{value_at}
-use Rattle.apfloat_arrays.specs.Bytes.{number_of}
-use Rattle.coded_calls.specs.declared.data.Answer.{Answer}
-use Rattle.coded_calls.specs.Answers.{IsValue}
+use Rattle.formats_at_run_time.specs.{FlaggedKinds.flagged_constants, Relations.in_format, ValueKinds.value_of}
+use Rattle.apfloat_arrays.specs.{Blocks.value_at, Bytes.number_of}
+use Rattle.coded_calls.specs.{declared.data.Answer.Answer, Answers.IsValue}
 use Rattle.coded_calls.specs.KnownCalls.{◌>>=◌, answered, no_such_operation, unknown_format, unknown_mode}
-use Rattle.apfloat_c.specs.declared.reductions.KnownReduction.{KnownReduction}
-use Rattle.apfloat_c.specs.declared.reductions.Reduction.{Reduction}
+use Rattle.coded_calls.specs.OneReply.{SameAnswer}
+use Rattle.apfloat_c.specs.declared.reductions.{KnownReduction.KnownReduction, Reduction.Reduction}
 use Rattle.apfloat_c.specs.declared.reductions.Reduction.TheVariants.{Sum, Magnitudes, Products}
 use Rattle.apfloat_c.specs.ArrayCalls.{bytes_in, if_fitting}
-use Rattle.coded_calls.specs.OneReply.{SameAnswer}
 
 -- ---- what a call asks for
 

@@ -2,17 +2,14 @@
 //! squares, and of products.
 
 ghost use Rattle.std.specs.Prelude.{◌≡◌, ◌+◌, ◌*◌, ◌^◌, ◌<◌, ◌≤◌, length, pos};
-ghost use Rattle.rustc_apfloat.specs.FlaggedTypes.{constants_of, format_of};
-ghost use Rattle.rustc_apfloat.specs.Lawful.{format_with};
+ghost use Rattle.rustc_apfloat.specs.{FlaggedTypes.constants_of, FlaggedTypes.format_of, Lawful.format_with};
 ghost use Rattle.exact_reductions.specs.Reductions.{IsReducible, IsSummable, joined, tally_of};
-ghost use Rattle.formats_at_run_time.specs.FlaggedKinds.{flagged_kind_coded};
-ghost use Rattle.formats_at_run_time.specs.FormatKinds.{IfFormat};
-ghost use Rattle.formats_at_run_time.specs.Modes.{mode_coded};
+ghost use Rattle.formats_at_run_time.specs.{FlaggedKinds.flagged_kind_coded, FormatKinds.IfFormat, Modes.mode_coded};
 ghost use Rattle.formats_at_run_time.specs.Relations.{in_format};
 ghost use Rattle.coded_calls.specs.Answers.{IsValueWritten};
 ghost use Rattle.apfloat_c.specs.declared.reductions.Reduction.TheVariants.{Sum, Magnitudes, Products};
-ghost use Rattle.apfloat_c.specs.Reductions.{IsReducedCall, IsReducedIn};
-ghost use Rattle.apfloat_c.specs.Reductions.{known_reduction, reducible_format, sums_fit, term_of, values_from};
+ghost use Rattle.apfloat_c.specs.Reductions.{IsReducedCall, IsReducedIn, known_reduction, reducible_format, sums_fit};
+ghost use Rattle.apfloat_c.specs.Reductions.{term_of, values_from};
 
 use crate::array_calls::bytes_in;
 use crate::elements::number_at;

@@ -1,34 +1,30 @@
 -- What `flushed` makes of the answer of an operation is what its definition says of the operation with flushing.
-use Rattle.std.proofs.Common.{◌≡◌, ℕ, ◌*◌, ◌^◌, ◌<◌, ◌≤◌, Bool, true, false, not, eqb, sym, refl, ◌∙◌, subst, if◌then◌else◌, lit<, arith}
-use Rattle.std.specs.Bool.{MatchBool}
+use Rattle.std.proofs.Common.{◌≡◌, ℕ, ◌*◌, ◌^◌, ◌<◌, ◌≤◌, Bool, true, false, not, eqb, sym}
+use Rattle.std.proofs.Common.{refl, ◌∙◌, subst, if◌then◌else◌, lit<, arith}
 use Rattle.std.proofs.lemmas.Nat.{pow_pos}
-use Rattle.apfloat_model.specs.declared.kinds.Round.{Round}
-use Rattle.apfloat_model.specs.declared.kinds.NonfiniteBehavior.{NonfiniteBehavior}
+use Rattle.std.specs.Bool.{MatchBool}
+use Rattle.apfloat_model.specs.declared.kinds.{Round.Round, NonfiniteBehavior.NonfiniteBehavior}
 use Rattle.apfloat_model.specs.declared.kinds.NonfiniteBehavior.TheVariants.{IEEE754, NanOnly, NanNegativeZero}
-use Rattle.apfloat_model.specs.declared.status.StatusAnd.{StatusAnd}
-use Rattle.apfloat_model.specs.rounding.Flags.{bits_of}
+use Rattle.apfloat_model.specs.{declared.status.StatusAnd.StatusAnd, rounding.Flags.bits_of}
+use Rattle.apfloat_model.specs.rounding.Rounding.{ok_bits, inexact_bit, past_largest, zero_sign}
+use Rattle.apfloat_model.specs.rounding.{Negation.negated, Answer.IsAnswer}
+use Rattle.apfloat_model.specs.rounding.Outcome.{Outcome, settled, rounded, totalled, rooted, Yields}
 use Rattle.apfloat_model.specs.formats.Format.{Format, smallest_normalized, largest, nan_base}
 use Rattle.apfloat_model.specs.formats.Datum.{Datum, finite, infinite, nan}
 use Rattle.apfloat_model.specs.formats.Nan.{invalid_if, is_signaling}
-use Rattle.apfloat_model.specs.rounding.Rounding.{ok_bits, inexact_bit, past_largest, zero_sign}
-use Rattle.apfloat_model.specs.rounding.Negation.{negated}
-use Rattle.apfloat_model.specs.rounding.Answer.{IsAnswer}
-use Rattle.apfloat_model.specs.rounding.Outcome.{Outcome, settled, rounded, totalled, rooted, Yields}
 use Rattle.apfloat_model.specs.arithmetic.Exact.{same_sign, product_sign, sign_of, magnitude, zero_sum_sign}
-use Rattle.apfloat_model.specs.arithmetic.Sums.{sum, difference}
-use Rattle.apfloat_model.specs.arithmetic.Products.{product}
-use Rattle.apfloat_model.specs.arithmetic.Quotients.{quotient, div_by_zero_bit}
-use Rattle.apfloat_model.specs.arithmetic.FusedSums.{on_product, with_product, fused_sum}
-use Rattle.apfloat_model.specs.arithmetic.Conversions.{has_infinities, loses_zero_sign, IsKept, IsConvertedNumber, IsConversion}
+use Rattle.apfloat_model.specs.arithmetic.{Sums.sum, Sums.difference, Products.product, Quotients.quotient}
+use Rattle.apfloat_model.specs.arithmetic.{Quotients.div_by_zero_bit, FusedSums.on_product, FusedSums.with_product}
+use Rattle.apfloat_model.specs.arithmetic.{FusedSums.fused_sum, Conversions.has_infinities}
+use Rattle.apfloat_model.specs.arithmetic.Conversions.{loses_zero_sign, IsKept, IsConvertedNumber, IsConversion}
 use Rattle.apfloat_model.proofs.Once.{Once, answer_once, delivered_root_once}
-use Rattle.apfloat_model.proofs.Determined.{gives_once}
-use Rattle.apfloat_model.proofs.formats.Ranges.{half_within}
+use Rattle.apfloat_model.proofs.{Determined.gives_once, formats.Ranges.half_within}
 use Rattle.apfloat_model.proofs.general.Choices.{match_case, if_case, above_zero}
 use Rattle.apfloat_machines.specs.declared.flushing.Flush.{Flush}
 use Rattle.apfloat_machines.specs.Flushing.{zero_like, is_flushed, flush_flags, IsFlushed, IsRoundedOrFlushed}
-use Rattle.apfloat_machines.specs.FlushedOperations.{YieldsFlushed, IsFlushedConversion, AreFlushed, FlushedHaveOneAnswer}
-use Rattle.apfloat_machines.proofs.Flushes.{rounded_or_flushed, rounded_or_flushed_once}
-use Rattle.apfloat_machines.proofs.Once.{converted_once}
+use Rattle.apfloat_machines.specs.FlushedOperations.{YieldsFlushed, IsFlushedConversion, AreFlushed}
+use Rattle.apfloat_machines.specs.FlushedOperations.{FlushedHaveOneAnswer}
+use Rattle.apfloat_machines.proofs.{Flushes.rounded_or_flushed, Flushes.rounded_or_flushed_once, Once.converted_once}
 
 -- ---- answers that are not flushed
 

@@ -1,29 +1,19 @@
 -- What a machine makes of a flushed answer is what its definition says of the operation with flushing.
 use Rattle.std.proofs.Common.{◌≡◌}
-use Rattle.apfloat_model.specs.declared.kinds.NonfiniteBehavior.TheVariants.{IEEE754}
-use Rattle.apfloat_model.specs.declared.status.StatusAnd.{StatusAnd}
-use Rattle.apfloat_model.specs.rounding.Flags.{bits_of}
-use Rattle.apfloat_model.specs.rounding.Answer.{IsAnswer}
-use Rattle.apfloat_model.specs.formats.Format.{Format}
-use Rattle.apfloat_model.specs.formats.Datum.{Datum}
-use Rattle.apfloat_model.specs.arithmetic.Sums.{sum, difference}
-use Rattle.apfloat_model.specs.arithmetic.Products.{product}
-use Rattle.apfloat_model.specs.arithmetic.Quotients.{quotient}
-use Rattle.apfloat_model.specs.arithmetic.FusedSums.{fused_sum}
-use Rattle.apfloat_model.proofs.Once.{Once, answer_once}
-use Rattle.apfloat_model.proofs.Determined.{gives_once}
-use Rattle.apfloat_model.proofs.general.Choices.{match_case}
-use Rattle.apfloat_machines.specs.declared.machine.Machine.{Machine}
-use Rattle.apfloat_machines.specs.declared.flushing.Flush.{Flush}
-use Rattle.apfloat_machines.specs.Nans.{settled}
-use Rattle.apfloat_machines.specs.Invalid.{is_invalid_sum, is_invalid_difference, is_invalid_product, is_invalid_quotient}
-use Rattle.apfloat_machines.specs.Operations.{settled_fused, settled_fused_flags}
-use Rattle.apfloat_machines.specs.Conversions.{is_lost_nan}
-use Rattle.apfloat_machines.specs.FlushedOperations.{IsFlushedSum, IsFlushedDifference, IsFlushedProduct, IsFlushedQuotient, IsFlushedFusedSum, IsFlushedConversion}
+use Rattle.apfloat_model.specs.declared.{kinds.NonfiniteBehavior.TheVariants.IEEE754, status.StatusAnd.StatusAnd}
+use Rattle.apfloat_model.specs.rounding.{Flags.bits_of, Answer.IsAnswer}
+use Rattle.apfloat_model.specs.{formats.Format.Format, formats.Datum.Datum, arithmetic.Sums.sum}
+use Rattle.apfloat_model.specs.arithmetic.{Sums.difference, Products.product, Quotients.quotient, FusedSums.fused_sum}
+use Rattle.apfloat_model.proofs.{Once.Once, Once.answer_once, Determined.gives_once, general.Choices.match_case}
+use Rattle.apfloat_machines.specs.declared.{machine.Machine.Machine, flushing.Flush.Flush}
+use Rattle.apfloat_machines.specs.{Nans.settled, Invalid.is_invalid_sum}
+use Rattle.apfloat_machines.specs.Invalid.{is_invalid_difference, is_invalid_product, is_invalid_quotient}
+use Rattle.apfloat_machines.specs.{Operations.settled_fused, Operations.settled_fused_flags, Conversions.is_lost_nan}
+use Rattle.apfloat_machines.specs.FlushedOperations.{IsFlushedSum, IsFlushedDifference, IsFlushedProduct}
+use Rattle.apfloat_machines.specs.FlushedOperations.{IsFlushedQuotient, IsFlushedFusedSum, IsFlushedConversion}
 use Rattle.apfloat_machines.specs.FlushedMachines.{AreFlushedAndSettled, IsFlushedAndSettledFused}
 use Rattle.apfloat_machines.specs.FlushedMachines.{FlushedMachinesHaveOneAnswer}
-use Rattle.apfloat_machines.proofs.Settling.{of_two, of_three}
-use Rattle.apfloat_machines.proofs.Once.{of_two_once, of_three_once}
+use Rattle.apfloat_machines.proofs.{Settling.of_two, Settling.of_three, Once.of_two_once, Once.of_three_once}
 use Rattle.apfloat_machines.proofs.Usual.{sum_usual, difference_usual, product_usual, quotient_usual, fused_usual}
 use Rattle.apfloat_machines.proofs.FlushedUsual.{flushed_settled_or_number}
 use Rattle.apfloat_machines.proofs.FlushedAnswers.{yields_flushed_once, conversion_with_flush}

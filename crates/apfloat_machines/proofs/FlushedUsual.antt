@@ -1,14 +1,10 @@
 -- What is rounded or flushed is no NaN: what is flushed is a zero.
 use Rattle.std.proofs.Common.{◌≡◌, ℕ, Bool, false, if◌then◌else◌}
-use Rattle.apfloat_model.specs.declared.kinds.Round.{Round}
-use Rattle.apfloat_model.specs.declared.kinds.NonfiniteBehavior.TheVariants.{IEEE754}
-use Rattle.apfloat_model.specs.formats.Format.{Format}
-use Rattle.apfloat_model.specs.formats.Datum.{Datum}
-use Rattle.apfloat_model.specs.order.Classes.{is_nan}
+use Rattle.apfloat_model.specs.declared.kinds.{Round.Round, NonfiniteBehavior.TheVariants.IEEE754}
+use Rattle.apfloat_model.specs.{formats.Format.Format, formats.Datum.Datum, order.Classes.is_nan}
 use Rattle.apfloat_model.specs.rounding.Outcome.{Outcome, settled, rounded, totalled, rooted}
 use Rattle.apfloat_model.specs.rounding.Rounding.{signed_quanta, delivered_value}
-use Rattle.apfloat_machines.specs.declared.flushing.Flush.{Flush}
-use Rattle.apfloat_machines.specs.Flushing.{flushes, IsRoundedOrFlushed}
+use Rattle.apfloat_machines.specs.{declared.flushing.Flush.Flush, Flushing.flushes, Flushing.IsRoundedOrFlushed}
 use Rattle.apfloat_machines.specs.FlushedOperations.{YieldsFlushed}
 use Rattle.apfloat_machines.proofs.Usual.{IsSettledOrNumber, number_if, quanta_number, value_number, is_of, root_number}
 

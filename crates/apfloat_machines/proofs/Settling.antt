@@ -1,30 +1,26 @@
 -- What a machine makes of an answer is what its definition says of the operation.
 use Rattle.std.proofs.Common.{◌≡◌, ℕ, Bool, true, false, not, ◌&&◌, ◌||◌, refl, if◌then◌else◌}
 use Rattle.std.specs.Bool.{MatchBool}
-use Rattle.apfloat_model.specs.declared.kinds.Round.{Round}
-use Rattle.apfloat_model.specs.declared.kinds.Round.TheVariants.{NearestTiesToEven}
-use Rattle.apfloat_model.specs.declared.kinds.NonfiniteBehavior.TheVariants.{IEEE754}
-use Rattle.apfloat_model.specs.formats.Format.{Format}
-use Rattle.apfloat_model.specs.formats.Datum.{Datum}
-use Rattle.apfloat_model.specs.formats.Nan.{invalid_bit, invalid_if}
-use Rattle.apfloat_model.specs.rounding.Answer.{IsAnswer}
-use Rattle.apfloat_model.specs.order.Classes.{is_nan}
-use Rattle.apfloat_model.specs.arithmetic.Sums.{sum, difference, IsSum, IsDifference}
-use Rattle.apfloat_model.specs.arithmetic.Products.{product, IsProduct}
-use Rattle.apfloat_model.specs.arithmetic.Quotients.{quotient, IsQuotient}
-use Rattle.apfloat_model.specs.arithmetic.Remainders.{remainder, IsTruncatedRemainder, IsNearestRemainder, truncated_quotient, nearest_quotient}
-use Rattle.apfloat_model.specs.arithmetic.Roots.{root, IsRoot}
-use Rattle.apfloat_model.specs.arithmetic.FusedSums.{fused_sum, IsFusedSum}
-use Rattle.apfloat_model.specs.whole_numbers.WholeNumbers.{IsRoundToIntegral}
-use Rattle.apfloat_model.specs.declared.status.StatusAnd.{StatusAnd}
-use Rattle.apfloat_model.specs.rounding.Flags.{bits_of, Gives}
-use Rattle.ieee_operations.specs.WholeNumbers.{IsRoundedToIntegral}
-use Rattle.ieee_operations.specs.Extrema.{quieted_datum}
-use Rattle.apfloat_machines.specs.declared.machine.Machine.{Machine}
-use Rattle.apfloat_machines.specs.Nans.{default_nan, nan_of, settled}
-use Rattle.apfloat_machines.specs.Invalid.{is_invalid_sum, is_invalid_difference, is_invalid_product, is_invalid_quotient, is_invalid_remainder, is_invalid_root, is_invalid_fused}
-use Rattle.apfloat_machines.specs.Operations.{is_signaling_of_two, is_nan_of_three, IsOfTwo, IsOfThree, AreSettled, AreSettledOfOne, IsMachineFusedSum, taken_in_order, fused_takes_none, is_invalid_of_nans, settled_fused, settled_fused_flags}
-use Rattle.apfloat_machines.proofs.Usual.{IsUsual, IsUsualNumber, IsUsualFused, settled_or_number, sum_usual, difference_usual, product_usual, quotient_usual, remainder_usual, root_usual, exact_usual, integral_usual, fused_usual}
+use Rattle.apfloat_model.specs.declared.kinds.Round.{Round, TheVariants.NearestTiesToEven}
+use Rattle.apfloat_model.specs.declared.{kinds.NonfiniteBehavior.TheVariants.IEEE754, status.StatusAnd.StatusAnd}
+use Rattle.apfloat_model.specs.formats.{Format.Format, Datum.Datum, Nan.invalid_bit, Nan.invalid_if}
+use Rattle.apfloat_model.specs.rounding.{Answer.IsAnswer, Flags.bits_of, Flags.Gives}
+use Rattle.apfloat_model.specs.{order.Classes.is_nan, arithmetic.Sums.sum, arithmetic.Sums.difference}
+use Rattle.apfloat_model.specs.arithmetic.{Sums.IsSum, Sums.IsDifference, Products.product, Products.IsProduct}
+use Rattle.apfloat_model.specs.arithmetic.{Quotients.quotient, Quotients.IsQuotient, Remainders.remainder}
+use Rattle.apfloat_model.specs.arithmetic.Remainders.{IsTruncatedRemainder, IsNearestRemainder, truncated_quotient}
+use Rattle.apfloat_model.specs.arithmetic.{Remainders.nearest_quotient, Roots.root, Roots.IsRoot, FusedSums.fused_sum}
+use Rattle.apfloat_model.specs.{arithmetic.FusedSums.IsFusedSum, whole_numbers.WholeNumbers.IsRoundToIntegral}
+use Rattle.ieee_operations.specs.{WholeNumbers.IsRoundedToIntegral, Extrema.quieted_datum}
+use Rattle.apfloat_machines.specs.{declared.machine.Machine.Machine, Nans.default_nan, Nans.nan_of, Nans.settled}
+use Rattle.apfloat_machines.specs.Invalid.{is_invalid_sum, is_invalid_difference, is_invalid_product}
+use Rattle.apfloat_machines.specs.Invalid.{is_invalid_quotient, is_invalid_remainder, is_invalid_root, is_invalid_fused}
+use Rattle.apfloat_machines.specs.Operations.{is_signaling_of_two, is_nan_of_three, IsOfTwo, IsOfThree, AreSettled}
+use Rattle.apfloat_machines.specs.Operations.{AreSettledOfOne, IsMachineFusedSum, taken_in_order, fused_takes_none}
+use Rattle.apfloat_machines.specs.Operations.{is_invalid_of_nans, settled_fused, settled_fused_flags}
+use Rattle.apfloat_machines.proofs.Usual.{IsUsual, IsUsualNumber, IsUsualFused, settled_or_number, sum_usual}
+use Rattle.apfloat_machines.proofs.Usual.{difference_usual, product_usual, quotient_usual, remainder_usual, root_usual}
+use Rattle.apfloat_machines.proofs.Usual.{exact_usual, integral_usual, fused_usual}
 
 -- ---- two operands
 

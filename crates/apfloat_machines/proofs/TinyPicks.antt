@@ -1,16 +1,15 @@
 -- Whether a magnitude is tiny, by its pick.
-use Rattle.std.proofs.Common.{◌≡◌, ℕ, ◌+◌, ◌-◌, ◌*◌, ◌%◌, ◌^◌, ◌<◌, ◌≤◌, Bool, true, false, not, ltb, eqb, refl, ap, ◌∙◌, inl, ⊎_elim, if◌then◌else◌, arith}
-use Rattle.std.proofs.lemmas.Nat.{pow_pos}
+use Rattle.std.proofs.Common.{◌≡◌, ℕ, ◌+◌, ◌-◌, ◌*◌, ◌%◌, ◌^◌, ◌<◌, ◌≤◌, Bool}
+use Rattle.std.proofs.Common.{true, false, not, ltb, eqb, refl, ap, ◌∙◌, inl, ⊎_elim, if◌then◌else◌}
+use Rattle.std.proofs.{Common.arith, lemmas.Nat.pow_pos}
 use Rattle.std.proofs.lemmas.Bool.{cases_lt, lt-ltb, le-ltb, lt-leb, le-leb}
-use Rattle.apfloat_model.specs.declared.kinds.Round.{Round}
-use Rattle.apfloat_model.specs.declared.kinds.Round.TheVariants.{NearestTiesToEven, TowardPositive, TowardNegative, TowardZero, NearestTiesToAway}
+use Rattle.apfloat_model.specs.declared.kinds.Round.{Round, TheVariants.NearestTiesToEven, TheVariants.TowardPositive}
+use Rattle.apfloat_model.specs.declared.kinds.Round.TheVariants.{TowardNegative, TowardZero, NearestTiesToAway}
 use Rattle.apfloat_model.specs.formats.Format.{Format, smallest_normalized}
-use Rattle.apfloat_model.specs.rounding.Grid.{IsOnGrid}
-use Rattle.apfloat_model.specs.rounding.Enclosure.{IsEnclosed}
+use Rattle.apfloat_model.specs.rounding.{Grid.IsOnGrid, Enclosure.IsEnclosed}
 use Rattle.apfloat_model.specs.rounding.Rounding.{takes_above, IsPick, is_tiny, rounds_below_normal}
 use Rattle.apfloat_model.proofs.general.Powers.{twice_half}
-use Rattle.apfloat_model.proofs.rounding.Picks.{takes_more, inexact_pick, pick_unique}
-use Rattle.apfloat_model.proofs.rounding.Laws.{pick_within}
+use Rattle.apfloat_model.proofs.rounding.{Picks.takes_more, Picks.inexact_pick, Picks.pick_unique, Laws.pick_within}
 
 -- ---- near the smallest normalized number, m + 1 quanta, over plain numbers
 

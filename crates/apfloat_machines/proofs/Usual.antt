@@ -1,29 +1,25 @@
 -- When the value of an operation is a NaN, in a format with infinities: if an operand is one, or it is invalid.
-use Rattle.std.proofs.Common.{◌≡◌, ℕ, ◌-◌, ◌*◌, ◌^◌, Bool, true, false, not, ◌&&◌, ◌||◌, eqb, ltb, refl, ap, ◌∙◌, if◌then◌else◌}
+use Rattle.std.proofs.Common.{◌≡◌, ℕ, ◌-◌, ◌*◌, ◌^◌, Bool, true, false, not, ◌&&◌, ◌||◌}
+use Rattle.std.proofs.Common.{eqb, ltb, refl, ap, ◌∙◌, if◌then◌else◌}
 use Rattle.std.specs.Bool.{MatchBool}
-use Rattle.apfloat_model.specs.declared.kinds.Round.{Round}
-use Rattle.apfloat_model.specs.declared.kinds.NonfiniteBehavior.{NonfiniteBehavior}
+use Rattle.apfloat_model.specs.declared.kinds.{Round.Round, NonfiniteBehavior.NonfiniteBehavior}
 use Rattle.apfloat_model.specs.declared.kinds.NonfiniteBehavior.TheVariants.{IEEE754, NanOnly, NanNegativeZero}
-use Rattle.apfloat_model.specs.formats.Constants.{infinity_of}
-use Rattle.apfloat_model.specs.formats.Format.{Format, largest, nan_base}
-use Rattle.apfloat_model.specs.formats.Datum.{Datum, finite, infinite, nan}
-use Rattle.apfloat_model.specs.formats.Nan.{invalid_bit, invalid_if, is_signaling}
-use Rattle.apfloat_model.specs.rounding.Answer.{IsAnswer}
-use Rattle.apfloat_model.specs.rounding.DeliveredRoots.{IsDeliveredRoot}
-use Rattle.apfloat_model.specs.rounding.Negation.{negated, negated_zero}
+use Rattle.apfloat_model.specs.formats.{Constants.infinity_of, Format.Format, Format.largest, Format.nan_base}
+use Rattle.apfloat_model.specs.formats.{Datum.Datum, Datum.finite, Datum.infinite, Datum.nan, Nan.invalid_bit}
+use Rattle.apfloat_model.specs.{formats.Nan.invalid_if, formats.Nan.is_signaling, rounding.Answer.IsAnswer}
+use Rattle.apfloat_model.specs.rounding.{DeliveredRoots.IsDeliveredRoot, Negation.negated, Negation.negated_zero}
 use Rattle.apfloat_model.specs.rounding.Outcome.{Outcome, settled, rounded, totalled, rooted, invalid, exactly, Yields}
-use Rattle.apfloat_model.specs.rounding.Rounding.{ok_bits, past_largest, signed_quanta, zero_sign, leads_out, delivered_value, IsDelivered}
+use Rattle.apfloat_model.specs.rounding.Rounding.{ok_bits, past_largest, signed_quanta, zero_sign, leads_out}
+use Rattle.apfloat_model.specs.rounding.Rounding.{delivered_value, IsDelivered}
 use Rattle.apfloat_model.specs.order.Classes.{is_nan, is_infinite, is_negative, is_finite}
-use Rattle.apfloat_model.specs.arithmetic.Exact.{same_sign, product_sign}
-use Rattle.apfloat_model.specs.arithmetic.Sums.{sum, difference}
-use Rattle.apfloat_model.specs.arithmetic.Products.{product}
-use Rattle.apfloat_model.specs.arithmetic.Quotients.{quotient, div_by_zero_bit}
+use Rattle.apfloat_model.specs.arithmetic.{Exact.same_sign, Exact.product_sign, Sums.sum, Sums.difference}
+use Rattle.apfloat_model.specs.arithmetic.{Products.product, Quotients.quotient, Quotients.div_by_zero_bit}
 use Rattle.apfloat_model.specs.arithmetic.Remainders.{remainder, rest_of}
-use Rattle.apfloat_model.specs.arithmetic.Roots.{root}
-use Rattle.apfloat_model.specs.arithmetic.FusedSums.{on_product, fused_sum}
+use Rattle.apfloat_model.specs.arithmetic.{Roots.root, FusedSums.on_product, FusedSums.fused_sum}
 use Rattle.apfloat_model.specs.whole_numbers.WholeNumbers.{IsRoundToIntegral, whole_quanta}
 use Rattle.ieee_operations.specs.WholeNumbers.{IsRoundedToIntegral}
-use Rattle.apfloat_machines.specs.Invalid.{is_invalid_sum, is_invalid_difference, is_invalid_product, is_invalid_quotient, is_invalid_remainder, is_invalid_root, is_invalid_fused}
+use Rattle.apfloat_machines.specs.Invalid.{is_invalid_sum, is_invalid_difference, is_invalid_product}
+use Rattle.apfloat_machines.specs.Invalid.{is_invalid_quotient, is_invalid_remainder, is_invalid_root, is_invalid_fused}
 use Rattle.apfloat_machines.specs.Operations.{is_signaling_of_two, is_nan_of_three}
 
 -- ---- what is to be shown

@@ -2,14 +2,9 @@
 use Rattle.std.specs.Prelude.{ℕ, Bool, ◌&&◌, if◌then◌else◌}
 use Rattle.std.specs.Bool.{MatchBool}
 use Rattle.apfloat_model.specs.declared.kinds.Round.{Round}
-use Rattle.apfloat_model.specs.formats.Format.{Format}
-use Rattle.apfloat_model.specs.formats.Datum.{Datum}
-use Rattle.apfloat_model.specs.formats.Nan.{invalid_if, is_signaling_nan}
-use Rattle.apfloat_model.specs.rounding.Answer.{IsAnswer}
-use Rattle.apfloat_model.specs.order.Classes.{is_nan}
-use Rattle.apfloat_model.specs.arithmetic.Conversions.{IsConversion}
-use Rattle.apfloat_machines.specs.declared.machine.Machine.{Machine}
-use Rattle.apfloat_machines.specs.Nans.{default_nan, takes_none}
+use Rattle.apfloat_model.specs.formats.{Format.Format, Datum.Datum, Nan.invalid_if, Nan.is_signaling_nan}
+use Rattle.apfloat_model.specs.{rounding.Answer.IsAnswer, order.Classes.is_nan, arithmetic.Conversions.IsConversion}
+use Rattle.apfloat_machines.specs.{declared.machine.Machine.Machine, Nans.default_nan, Nans.takes_none}
 
 -- whether the datum is a NaN that is not kept: the default of the target takes its place
 abbrev pub is_lost_nan : Format → Machine → Datum → Bool

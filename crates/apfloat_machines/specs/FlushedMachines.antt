@@ -3,22 +3,13 @@
 -- before (`without_denormal`).
 use Rattle.std.specs.Prelude.{◌≡◌, ℕ}
 use Rattle.std.specs.Bool.{MatchBool}
-use Rattle.apfloat_model.specs.declared.kinds.Round.{Round}
-use Rattle.apfloat_model.specs.declared.kinds.NonfiniteBehavior.TheVariants.{IEEE754}
-use Rattle.apfloat_model.specs.declared.status.StatusAnd.{StatusAnd}
-use Rattle.apfloat_model.specs.rounding.Flags.{Gives}
-use Rattle.apfloat_model.specs.formats.Format.{Format}
-use Rattle.apfloat_model.specs.formats.Datum.{Datum}
-use Rattle.apfloat_model.specs.formats.Nan.{invalid_if, is_signaling_nan}
-use Rattle.apfloat_model.specs.rounding.Answer.{IsAnswer}
-use Rattle.apfloat_machines.specs.declared.machine.Machine.{Machine}
-use Rattle.apfloat_machines.specs.declared.flushing.Flush.{Flush}
-use Rattle.apfloat_machines.specs.Nans.{default_nan}
-use Rattle.apfloat_machines.specs.Invalid.{is_invalid_sum, is_invalid_difference, is_invalid_product}
-use Rattle.apfloat_machines.specs.Invalid.{is_invalid_quotient}
-use Rattle.apfloat_machines.specs.Operations.{IsOfTwo, IsOfThree}
-use Rattle.apfloat_machines.specs.Conversions.{is_lost_nan}
-use Rattle.apfloat_machines.specs.Theorems.{IsOnce}
+use Rattle.apfloat_model.specs.declared.kinds.{Round.Round, NonfiniteBehavior.TheVariants.IEEE754}
+use Rattle.apfloat_model.specs.{declared.status.StatusAnd.StatusAnd, rounding.Flags.Gives, rounding.Answer.IsAnswer}
+use Rattle.apfloat_model.specs.formats.{Format.Format, Datum.Datum, Nan.invalid_if, Nan.is_signaling_nan}
+use Rattle.apfloat_machines.specs.declared.{machine.Machine.Machine, flushing.Flush.Flush}
+use Rattle.apfloat_machines.specs.{Nans.default_nan, Invalid.is_invalid_sum}
+use Rattle.apfloat_machines.specs.Invalid.{is_invalid_difference, is_invalid_product, is_invalid_quotient}
+use Rattle.apfloat_machines.specs.{Operations.IsOfTwo, Operations.IsOfThree, Conversions.is_lost_nan, Theorems.IsOnce}
 use Rattle.apfloat_machines.specs.FlushedOperations.{IsFlushedSum, IsFlushedDifference, IsFlushedProduct}
 use Rattle.apfloat_machines.specs.FlushedOperations.{IsFlushedQuotient, IsFlushedFusedSum, IsFlushedConversion}
 

@@ -2,24 +2,17 @@
 -- rounded once or is flushed. What is given outright is never tiny, and is as it is without flushing.
 use Rattle.std.specs.Prelude.{ℕ, ◌*◌, ◌^◌, Bool, eqb, if◌then◌else◌}
 use Rattle.std.specs.Bool.{MatchBool}
-use Rattle.apfloat_model.specs.declared.kinds.Round.{Round}
-use Rattle.apfloat_model.specs.declared.status.StatusAnd.{StatusAnd}
-use Rattle.apfloat_model.specs.rounding.Flags.{Gives, bits_of}
-use Rattle.apfloat_model.specs.formats.Format.{Format}
-use Rattle.apfloat_model.specs.formats.Datum.{Datum, finite}
-use Rattle.apfloat_model.specs.rounding.Rounding.{ok_bits, inexact_bit, zero_sign}
-use Rattle.apfloat_model.specs.rounding.Answer.{IsAnswer}
-use Rattle.apfloat_model.specs.rounding.DeliveredRoots.{IsDeliveredRoot}
+use Rattle.apfloat_model.specs.declared.{kinds.Round.Round, status.StatusAnd.StatusAnd}
+use Rattle.apfloat_model.specs.rounding.{Flags.Gives, Flags.bits_of, Rounding.ok_bits, Rounding.inexact_bit}
+use Rattle.apfloat_model.specs.rounding.{Rounding.zero_sign, Answer.IsAnswer, DeliveredRoots.IsDeliveredRoot}
 use Rattle.apfloat_model.specs.rounding.Outcome.{Outcome, settled, rounded, totalled, rooted}
+use Rattle.apfloat_model.specs.formats.{Format.Format, Datum.Datum, Datum.finite}
 use Rattle.apfloat_model.specs.arithmetic.Exact.{sign_of, magnitude, zero_sum_sign}
 use Rattle.apfloat_model.specs.arithmetic.Sums.{sum, difference, IsSum, IsDifference}
-use Rattle.apfloat_model.specs.arithmetic.Products.{product, IsProduct}
-use Rattle.apfloat_model.specs.arithmetic.Quotients.{quotient, IsQuotient}
-use Rattle.apfloat_model.specs.arithmetic.FusedSums.{fused_sum, IsFusedSum}
+use Rattle.apfloat_model.specs.arithmetic.{Products.product, Products.IsProduct, Quotients.quotient}
+use Rattle.apfloat_model.specs.arithmetic.{Quotients.IsQuotient, FusedSums.fused_sum, FusedSums.IsFusedSum}
 use Rattle.apfloat_model.specs.arithmetic.Conversions.{loses_zero_sign, IsConversion}
-use Rattle.apfloat_machines.specs.declared.flushing.Flush.{Flush}
-use Rattle.apfloat_machines.specs.Flushing.{IsRoundedOrFlushed}
-use Rattle.apfloat_machines.specs.Theorems.{IsOnce}
+use Rattle.apfloat_machines.specs.{declared.flushing.Flush.Flush, Flushing.IsRoundedOrFlushed, Theorems.IsOnce}
 
 -- what becomes of an outcome (`Yields`); no operation here has a root for its outcome
 abbrev pub YieldsFlushed : Format → Flush → Round → Outcome → Datum → ℕ → Type 0

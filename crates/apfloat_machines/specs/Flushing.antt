@@ -1,17 +1,12 @@
 -- Denormal operands and results that are flushed to zero, which IEEE 754 does not have.
 use Rattle.std.specs.Prelude.{◌≡◌, ℕ, ◌+◌, Bool, not, ◌&&◌, ◌||◌, ltb, if◌then◌else◌}
 use Rattle.apfloat_model.specs.declared.kinds.Round.{Round}
-use Rattle.apfloat_model.specs.formats.Format.{Format}
-use Rattle.apfloat_model.specs.formats.Datum.{Datum}
-use Rattle.apfloat_model.specs.formats.Constants.{zero_datum}
+use Rattle.apfloat_model.specs.formats.{Format.Format, Datum.Datum, Constants.zero_datum}
 use Rattle.apfloat_model.specs.rounding.Rounding.{underflow_bit, inexact_bit, signed_quanta, IsPick, is_tiny}
-use Rattle.apfloat_model.specs.rounding.Rounding.{delivered_value, delivered_status}
-use Rattle.apfloat_model.specs.rounding.Answer.{IsAnswer}
-use Rattle.apfloat_model.specs.order.Classes.{is_nan, is_denormal}
-use Rattle.apfloat_model.specs.arithmetic.Signs.{copy_sign}
+use Rattle.apfloat_model.specs.rounding.{Rounding.delivered_value, Rounding.delivered_status, Answer.IsAnswer}
+use Rattle.apfloat_model.specs.{order.Classes.is_nan, order.Classes.is_denormal, arithmetic.Signs.copy_sign}
 use Rattle.ieee_operations.specs.StatusFlags.{is_raised}
-use Rattle.apfloat_machines.specs.declared.flushing.Flush.{Flush}
-use Rattle.apfloat_machines.specs.declared.flushing.Flush.TheVariants.{X86, Arm}
+use Rattle.apfloat_machines.specs.declared.flushing.Flush.{Flush, TheVariants.X86, TheVariants.Arm}
 
 -- the zero with the sign of a datum
 abbrev pub zero_like : Format → Datum → Datum

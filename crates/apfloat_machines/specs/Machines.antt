@@ -1,13 +1,11 @@
 -- What each machine does where IEEE 754-2019 leaves a choice: the records of docs/MACHINES.md.
-use Rattle.std.specs.Prelude.{◌-◌, ◌^◌, Bool, true, false, not, ◌&&◌, if◌then◌else◌, Some, None, Result, Ok, Err}
-use Rattle.std.specs.Prelude.{List, [], ◌∷◌}
+use Rattle.std.specs.Prelude.{◌-◌, ◌^◌, Bool, true, false, not, ◌&&◌, if◌then◌else◌, Some, None}
+use Rattle.std.specs.Prelude.{Result, Ok, Err, List, [], ◌∷◌}
 use Rattle.apfloat_machines.specs.declared.flushing.Flush.TheVariants.{X86 as FlushX86, Arm as FlushArm}
-use Rattle.apfloat_machines.specs.declared.machine.Contradiction.{Contradiction}
-use Rattle.apfloat_machines.specs.declared.machine.Contradiction.TheVariants.{QuietAddendKept, SignalingAddendKept}
-use Rattle.apfloat_machines.specs.declared.machine.Machine.{Machine}
-use Rattle.apfloat_machines.specs.declared.machine.NanChoice.{NanChoice}
-use Rattle.apfloat_machines.specs.declared.machine.NanChoice.TheVariants.{First, SignalingFirst, SignalingLast}
-use Rattle.apfloat_machines.specs.declared.machine.NanChoice.TheVariants.{Greater, AlwaysDefault}
+use Rattle.apfloat_machines.specs.declared.machine.Contradiction.{Contradiction, TheVariants.QuietAddendKept}
+use Rattle.apfloat_machines.specs.declared.machine.{Contradiction.TheVariants.SignalingAddendKept, Machine.Machine}
+use Rattle.apfloat_machines.specs.declared.machine.NanChoice.{NanChoice, TheVariants.First, TheVariants.SignalingFirst}
+use Rattle.apfloat_machines.specs.declared.machine.NanChoice.TheVariants.{SignalingLast, Greater, AlwaysDefault}
 use Rattle.apfloat_machines.specs.declared.machine.FusedOrder.TheVariants.{FactorsFirst, AddendFirst, AddendSecond}
 use Rattle.apfloat_machines.specs.declared.machine.WholeOfNan.TheVariants.{Zero, Least, Greatest, BySign}
 

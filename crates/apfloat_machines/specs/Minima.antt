@@ -1,18 +1,12 @@
 -- Minima and maxima of machines: six rules (IEEE 754-2008 5.3.1, IEEE 754-2019 9.6, and three of none).
 use Rattle.std.specs.Prelude.{ℕ, Bool, ◌&&◌, ◌||◌, if◌then◌else◌}
-use Rattle.apfloat_model.specs.formats.Format.{Format}
-use Rattle.apfloat_model.specs.formats.Datum.{Datum}
-use Rattle.apfloat_model.specs.formats.Nan.{invalid_if}
-use Rattle.apfloat_model.specs.rounding.Answer.{IsAnswer}
-use Rattle.apfloat_model.specs.order.Classes.{is_nan}
-use Rattle.apfloat_model.specs.order.Order.{is_below}
+use Rattle.apfloat_model.specs.formats.{Format.Format, Datum.Datum, Nan.invalid_if}
+use Rattle.apfloat_model.specs.{rounding.Answer.IsAnswer, order.Classes.is_nan, order.Order.is_below}
 use Rattle.ieee_operations.specs.Extrema.{lesser, greater}
-use Rattle.apfloat_machines.specs.declared.machine.Machine.{Machine}
-use Rattle.apfloat_machines.specs.declared.minima.MinimumRule.{MinimumRule}
-use Rattle.apfloat_machines.specs.declared.minima.MinimumRule.TheVariants.{Second, SecondQuietly, FirstNan}
-use Rattle.apfloat_machines.specs.declared.minima.MinimumRule.TheVariants.{Number2008, Number2019, Propagated}
-use Rattle.apfloat_machines.specs.Nans.{default_nan, machine_nan}
-use Rattle.apfloat_machines.specs.Operations.{is_signaling_of_two}
+use Rattle.apfloat_machines.specs.declared.{machine.Machine.Machine, minima.MinimumRule.MinimumRule}
+use Rattle.apfloat_machines.specs.declared.minima.MinimumRule.TheVariants.{Second, SecondQuietly, FirstNan, Number2008}
+use Rattle.apfloat_machines.specs.declared.minima.MinimumRule.TheVariants.{Number2019, Propagated}
+use Rattle.apfloat_machines.specs.{Nans.default_nan, Nans.machine_nan, Operations.is_signaling_of_two}
 
 -- The extremum by a rule. `strictly` says that the first operand is strictly better, which is false of a NaN; `best` is
 -- the better of two data that are not NaNs, -0 below +0.

@@ -1,16 +1,12 @@
 -- The NaN that a machine delivers (IEEE 754-2019 6.2.3, 7.2).
 use Rattle.std.specs.Prelude.{Bool, true, false, not, ◌&&◌, ◌||◌, if◌then◌else◌}
-use Rattle.apfloat_model.specs.formats.Format.{Format}
-use Rattle.apfloat_model.specs.formats.Datum.{Datum, finite, infinite, nan}
+use Rattle.apfloat_model.specs.formats.{Format.Format, Datum.Datum, Datum.finite, Datum.infinite, Datum.nan}
 use Rattle.apfloat_model.specs.formats.Nan.{is_signaling, quieted, qnan, is_signaling_nan}
-use Rattle.apfloat_model.specs.rounding.Negation.{negated}
-use Rattle.apfloat_model.specs.order.Classes.{is_nan, is_negative}
-use Rattle.ieee_operations.specs.Extrema.{quieted_datum}
-use Rattle.ieee_operations.specs.TotalOrder.{total_order_mag}
-use Rattle.apfloat_machines.specs.declared.machine.Machine.{Machine}
-use Rattle.apfloat_machines.specs.declared.machine.NanChoice.{NanChoice}
-use Rattle.apfloat_machines.specs.declared.machine.NanChoice.TheVariants.{First, SignalingFirst, SignalingLast}
-use Rattle.apfloat_machines.specs.declared.machine.NanChoice.TheVariants.{Greater, AlwaysDefault}
+use Rattle.apfloat_model.specs.{rounding.Negation.negated, order.Classes.is_nan, order.Classes.is_negative}
+use Rattle.ieee_operations.specs.{Extrema.quieted_datum, TotalOrder.total_order_mag}
+use Rattle.apfloat_machines.specs.declared.machine.{Machine.Machine, NanChoice.NanChoice}
+use Rattle.apfloat_machines.specs.declared.machine.NanChoice.TheVariants.{First, SignalingFirst, SignalingLast, Greater}
+use Rattle.apfloat_machines.specs.declared.machine.NanChoice.TheVariants.{AlwaysDefault}
 
 -- the quiet NaN with the machine's sign and payload
 abbrev pub default_nan : Format → Machine → Datum

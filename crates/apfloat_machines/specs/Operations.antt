@@ -1,26 +1,17 @@
 -- The operations of machines: value and flags (IEEE 754-2019 5.4.1, 6.2.3, 7.2).
-use Rattle.std.specs.Prelude.{◌≡◌, ℕ, Bool, true, false, not, ◌&&◌, ◌||◌, Option, Some, None, if◌then◌else◌}
+use Rattle.std.specs.Prelude.{◌≡◌, ℕ, Bool, true, false, not, ◌&&◌, ◌||◌, Option, Some, None}
+use Rattle.std.specs.Prelude.{if◌then◌else◌}
 use Rattle.std.specs.Bool.{MatchBool}
-use Rattle.apfloat_model.specs.declared.kinds.Round.{Round}
-use Rattle.apfloat_model.specs.declared.kinds.NonfiniteBehavior.TheVariants.{IEEE754}
+use Rattle.apfloat_model.specs.declared.kinds.{Round.Round, NonfiniteBehavior.TheVariants.IEEE754}
 use Rattle.apfloat_model.specs.declared.status.StatusAnd.{StatusAnd}
-use Rattle.apfloat_model.specs.rounding.Flags.{Gives, bits_of}
-use Rattle.apfloat_model.specs.formats.Format.{Format}
-use Rattle.apfloat_model.specs.formats.Datum.{Datum}
-use Rattle.apfloat_model.specs.formats.Nan.{invalid_bit, invalid_if, is_signaling_nan}
-use Rattle.apfloat_model.specs.rounding.Answer.{IsAnswer}
-use Rattle.apfloat_model.specs.order.Classes.{is_nan}
-use Rattle.apfloat_model.specs.arithmetic.Sums.{IsSum, IsDifference}
-use Rattle.apfloat_model.specs.arithmetic.Products.{IsProduct}
-use Rattle.apfloat_model.specs.arithmetic.Quotients.{IsQuotient}
-use Rattle.apfloat_model.specs.arithmetic.Remainders.{IsTruncatedRemainder, IsNearestRemainder}
-use Rattle.apfloat_model.specs.arithmetic.Roots.{IsRoot}
-use Rattle.apfloat_model.specs.arithmetic.FusedSums.{IsFusedSum}
-use Rattle.apfloat_model.specs.whole_numbers.WholeNumbers.{IsRoundToIntegral}
-use Rattle.ieee_operations.specs.WholeNumbers.{IsRoundedToIntegral}
-use Rattle.ieee_operations.specs.Extrema.{quieted_datum}
-use Rattle.apfloat_machines.specs.declared.machine.Machine.{Machine}
-use Rattle.apfloat_machines.specs.declared.machine.FusedOrder.{FusedOrder}
+use Rattle.apfloat_model.specs.rounding.{Flags.Gives, Flags.bits_of, Answer.IsAnswer}
+use Rattle.apfloat_model.specs.formats.{Format.Format, Datum.Datum, Nan.invalid_bit, Nan.invalid_if}
+use Rattle.apfloat_model.specs.{formats.Nan.is_signaling_nan, order.Classes.is_nan}
+use Rattle.apfloat_model.specs.arithmetic.{Sums.IsSum, Sums.IsDifference, Products.IsProduct, Quotients.IsQuotient}
+use Rattle.apfloat_model.specs.arithmetic.{Remainders.IsTruncatedRemainder, Remainders.IsNearestRemainder, Roots.IsRoot}
+use Rattle.apfloat_model.specs.{arithmetic.FusedSums.IsFusedSum, whole_numbers.WholeNumbers.IsRoundToIntegral}
+use Rattle.ieee_operations.specs.{WholeNumbers.IsRoundedToIntegral, Extrema.quieted_datum}
+use Rattle.apfloat_machines.specs.declared.machine.{Machine.Machine, FusedOrder.FusedOrder}
 use Rattle.apfloat_machines.specs.declared.machine.FusedOrder.TheVariants.{FactorsFirst, AddendFirst, AddendSecond}
 use Rattle.apfloat_machines.specs.declared.machine.NanChoice.{NanChoice}
 use Rattle.apfloat_machines.specs.Nans.{default_nan, taken, takes_none, machine_nan}

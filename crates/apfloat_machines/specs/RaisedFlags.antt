@@ -1,19 +1,13 @@
 -- OVERFLOW and UNDERFLOW are raised only together with INEXACT, by each operation of a machine, and by each one that
 -- flushes tiny results as x86 does. (`Flush.Arm` raises UNDERFLOW alone.)
 use Rattle.std.specs.Prelude.{ℕ}
-use Rattle.apfloat_model.specs.declared.kinds.Round.{Round}
-use Rattle.apfloat_model.specs.formats.Format.{Format}
-use Rattle.apfloat_model.specs.formats.Datum.{Datum}
+use Rattle.apfloat_model.specs.{declared.kinds.Round.Round, formats.Format.Format, formats.Datum.Datum}
 use Rattle.ieee_operations.specs.RaisedFlags.{RaisesTogether}
-use Rattle.apfloat_machines.specs.declared.machine.Machine.{Machine}
-use Rattle.apfloat_machines.specs.declared.minima.MinimumRule.{MinimumRule}
-use Rattle.apfloat_machines.specs.declared.flushing.Flush.TheVariants.{X86}
-use Rattle.apfloat_machines.specs.Operations.{IsMachineFusedSum}
-use Rattle.apfloat_machines.specs.Conversions.{IsMachineConversion}
-use Rattle.apfloat_machines.specs.Minima.{IsLeast, IsGreatest}
+use Rattle.apfloat_machines.specs.declared.{machine.Machine.Machine, minima.MinimumRule.MinimumRule}
+use Rattle.apfloat_machines.specs.{declared.flushing.Flush.TheVariants.X86, Operations.IsMachineFusedSum}
+use Rattle.apfloat_machines.specs.{Conversions.IsMachineConversion, Minima.IsLeast, Minima.IsGreatest}
 use Rattle.apfloat_machines.specs.WholeNumbers.{IsMachineSigned, IsMachineUnsigned}
-use Rattle.apfloat_machines.specs.Theorems.{OfEachOperation}
-use Rattle.apfloat_machines.specs.FlushedMachines.{OfEachFlushed}
+use Rattle.apfloat_machines.specs.{Theorems.OfEachOperation, FlushedMachines.OfEachFlushed}
 
 pub record MachineFlagsGoTogether (f : Format) (machine : Machine) : Type 0 where
   pub operations : OfEachOperation RaisesTogether f machine

@@ -1,19 +1,13 @@
 -- That each operation of a machine has one answer.
 use Rattle.std.specs.Prelude.{ℕ, ℤ}
-use Rattle.apfloat_model.specs.Determined.{Determines}
-use Rattle.apfloat_model.specs.declared.kinds.Round.{Round}
-use Rattle.apfloat_model.specs.declared.status.StatusAnd.{StatusAnd}
-use Rattle.apfloat_model.specs.rounding.Flags.{Gives}
-use Rattle.apfloat_model.specs.formats.Format.{Format}
-use Rattle.apfloat_model.specs.formats.Datum.{Datum}
+use Rattle.apfloat_model.specs.{Determined.Determines, declared.kinds.Round.Round, declared.status.StatusAnd.StatusAnd}
+use Rattle.apfloat_model.specs.{rounding.Flags.Gives, formats.Format.Format, formats.Datum.Datum}
 use Rattle.apfloat_model.specs.whole_numbers.WholeNumbersOut.{Whole}
 use Rattle.apfloat_machines.specs.declared.machine.Machine.{Machine}
 use Rattle.apfloat_machines.specs.Operations.{IsMachineSum, IsMachineDifference, IsMachineProduct, IsMachineQuotient}
 use Rattle.apfloat_machines.specs.Operations.{IsMachineTruncatedRemainder, IsMachineNearestRemainder, IsMachineRoot}
-use Rattle.apfloat_machines.specs.Operations.{IsMachineIntegralExact, IsMachineIntegral}
-use Rattle.apfloat_machines.specs.Operations.{IsMachineFusedSum}
-use Rattle.apfloat_machines.specs.Conversions.{IsMachineConversion}
-use Rattle.apfloat_machines.specs.WholeNumbers.{IsMachineWhole}
+use Rattle.apfloat_machines.specs.Operations.{IsMachineIntegralExact, IsMachineIntegral, IsMachineFusedSum}
+use Rattle.apfloat_machines.specs.{Conversions.IsMachineConversion, WholeNumbers.IsMachineWhole}
 
 -- at most one value, with its flags, satisfies the relation
 abbrev pub IsOnce : (Datum → ℕ → Type 0) → Type 0

@@ -1,16 +1,12 @@
 -- The integers that machines deliver for invalid conversions (IEEE 754-2019 5.8, 7.2).
-use Rattle.std.specs.Prelude.{◌≡◌, ℕ, ◌+◌, ◌-◌, ◌^◌, not, ◌&&◌, ◌||◌, eqb, ℤ, pos, neg_ℤ, if◌then◌else◌, Bool}
-use Rattle.apfloat_model.specs.declared.kinds.Round.{Round}
-use Rattle.apfloat_model.specs.declared.status.StatusAnd.{StatusAnd}
-use Rattle.apfloat_model.specs.rounding.Flags.{Gives, bits_of}
-use Rattle.apfloat_model.specs.formats.Format.{Format}
-use Rattle.apfloat_model.specs.formats.Datum.{Datum}
-use Rattle.apfloat_model.specs.formats.Nan.{invalid_bit}
-use Rattle.apfloat_model.specs.rounding.Rounding.{inexact_bit}
+use Rattle.std.specs.Prelude.{◌≡◌, ℕ, ◌+◌, ◌-◌, ◌^◌, not, ◌&&◌, ◌||◌, eqb, ℤ, pos}
+use Rattle.std.specs.Prelude.{neg_ℤ, if◌then◌else◌, Bool}
+use Rattle.apfloat_model.specs.declared.{kinds.Round.Round, status.StatusAnd.StatusAnd}
+use Rattle.apfloat_model.specs.rounding.{Flags.Gives, Flags.bits_of, Rounding.inexact_bit}
+use Rattle.apfloat_model.specs.formats.{Format.Format, Datum.Datum, Nan.invalid_bit}
 use Rattle.apfloat_model.specs.order.Classes.{is_nan, is_negative}
 use Rattle.apfloat_model.specs.whole_numbers.WholeNumbersOut.{Whole, to_unsigned, to_signed, IsToUnsigned}
-use Rattle.apfloat_machines.specs.declared.machine.Machine.{Machine}
-use Rattle.apfloat_machines.specs.declared.machine.WholeOfNan.{WholeOfNan}
+use Rattle.apfloat_machines.specs.declared.machine.{Machine.Machine, WholeOfNan.WholeOfNan}
 use Rattle.apfloat_machines.specs.declared.machine.WholeOfNan.TheVariants.{Zero, Least, Greatest, BySign}
 
 abbrev pub least_signed : ℕ → ℤ

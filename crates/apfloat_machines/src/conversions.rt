@@ -1,15 +1,12 @@
 //! Conversions of NaNs between formats (IEEE 754-2019 5.4.2, 6.2.3).
 
 ghost use Rattle.std.specs.Prelude.{◌≡◌, Bool};
-ghost use Rattle.apfloat_model.specs.declared.kinds.Round.{Round};
-ghost use Rattle.apfloat_model.specs.rounding.Flags.{Gives, bits_of};
+ghost use Rattle.apfloat_model.specs.{declared.kinds.Round.Round, rounding.Flags.Gives, rounding.Flags.bits_of};
 ghost use Rattle.apfloat_model.specs.arithmetic.Conversions.{IsConversion};
 ghost use Rattle.apfloat_ieee.specs.FlaggedTypes.{format_of};
-ghost use Rattle.apfloat_machines.specs.declared.flushing.Flush.{Flush};
-ghost use Rattle.apfloat_machines.specs.FlushedMachines.{IsFlushedMachineConversion};
+ghost use Rattle.apfloat_machines.specs.{declared.flushing.Flush.Flush, FlushedMachines.IsFlushedMachineConversion};
 ghost use Rattle.apfloat_machines.specs.FlushedOperations.{IsFlushedConversion};
-ghost use Rattle.apfloat_machines.specs.Conversions.{IsMachineConversion, is_lost_nan};
-ghost use Rattle.apfloat_machines.specs.Conversions.{settled_conversion};
+ghost use Rattle.apfloat_machines.specs.Conversions.{IsMachineConversion, is_lost_nan, settled_conversion};
 
 use crate::machine::Machine;
 use crate::nans::{default_nan, takes_none};

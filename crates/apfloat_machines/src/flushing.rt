@@ -3,8 +3,7 @@
 ghost use Rattle.std.specs.Prelude.{◌≡◌};
 ghost use Rattle.apfloat_model.specs.rounding.Flags.{Gives, bits_of};
 ghost use Rattle.apfloat_ieee.specs.FlaggedTypes.{format_of};
-ghost use Rattle.apfloat_machines.specs.Flushing.{IsFlushed, flush_flags, has_denormal};
-ghost use Rattle.apfloat_machines.specs.Flushing.{without_denormal, zero_like};
+ghost use Rattle.apfloat_machines.specs.Flushing.{IsFlushed, flush_flags, has_denormal, without_denormal, zero_like};
 ghost use Rattle.apfloat_machines.specs.FlushedOperations.{AreFlushed};
 
 use apfloat_base::{Float, Status, StatusAnd};

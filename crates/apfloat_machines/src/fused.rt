@@ -1,15 +1,12 @@
 //! Fused sums of machines (IEEE 754-2019 5.4.1, 7.2).
 
 ghost use Rattle.std.specs.Prelude.{◌≡◌, ◌<◌, if◌then◌else◌};
-ghost use Rattle.apfloat_model.specs.rounding.Flags.{bits_of};
-ghost use Rattle.apfloat_model.specs.formats.Nan.{invalid_if};
+ghost use Rattle.apfloat_model.specs.{rounding.Flags.bits_of, formats.Nan.invalid_if};
 ghost use Rattle.apfloat_ieee.specs.FlaggedTypes.{format_of};
 ghost use Rattle.apfloat_machines.specs.Invalid.{is_invalid_product};
-ghost use Rattle.apfloat_machines.specs.Operations.{IsOffered, IsSettledFused, drops_addend};
-ghost use Rattle.apfloat_machines.specs.Operations.{fused_nan, fused_takes_none};
-ghost use Rattle.apfloat_machines.specs.Operations.{is_invalid_of_nans, taken_in_order};
-ghost use Rattle.apfloat_machines.specs.Operations.{is_nan_of_three, settled_fused};
-ghost use Rattle.apfloat_machines.specs.Operations.{settled_fused_flags};
+ghost use Rattle.apfloat_machines.specs.Operations.{IsOffered, IsSettledFused, drops_addend, fused_nan};
+ghost use Rattle.apfloat_machines.specs.Operations.{fused_takes_none, is_invalid_of_nans, taken_in_order};
+ghost use Rattle.apfloat_machines.specs.Operations.{is_nan_of_three, settled_fused, settled_fused_flags};
 
 use crate::machine::{FusedOrder, Machine, NanChoice};
 use crate::nans::{default_nan, quieted, taken, takes_none};

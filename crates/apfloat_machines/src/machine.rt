@@ -1,8 +1,7 @@
 //! Machines, as records of their choices.
 
 ghost use Rattle.std.specs.Prelude.{◌≡◌, true, [], ◌∷◌};
-ghost use Rattle.std.specs.List.{list_all};
-ghost use Rattle.std.specs.Result.{is_ok};
+ghost use Rattle.std.specs.{List.list_all, Result.is_ok};
 ghost use Rattle.apfloat_machines.specs.Machines.{checked, machines};
 
 use crate::flushing::Flush;

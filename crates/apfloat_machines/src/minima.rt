@@ -1,8 +1,7 @@
 //! Minima and maxima of machines, by six rules.
 
 ghost use Rattle.std.specs.Prelude.{◌≡◌, ◌<◌, if◌then◌else◌};
-ghost use Rattle.apfloat_model.specs.order.Classes.{is_nan};
-ghost use Rattle.apfloat_model.specs.rounding.Flags.{Gives, bits_of};
+ghost use Rattle.apfloat_model.specs.{order.Classes.is_nan, rounding.Flags.Gives, rounding.Flags.bits_of};
 ghost use Rattle.apfloat_model.specs.formats.Nan.{invalid_if};
 ghost use Rattle.apfloat_ieee.specs.FlaggedTypes.{format_of};
 ghost use Rattle.apfloat_machines.specs.Minima.{IsLeast, IsGreatest, extreme, is_invalid_extreme};

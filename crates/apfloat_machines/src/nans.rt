@@ -1,15 +1,13 @@
 //! The NaN that a machine delivers (IEEE 754-2019 6.2.3, 7.2).
 
 ghost use Rattle.std.specs.Prelude.{◌≡◌, ◌<◌, if◌then◌else◌};
-ghost use Rattle.apfloat_model.specs.declared.kinds.NonfiniteBehavior.TheVariants.{IEEE754};
-ghost use Rattle.apfloat_model.specs.order.Classes.{is_nan};
+ghost use Rattle.apfloat_model.specs.{declared.kinds.NonfiniteBehavior.TheVariants.IEEE754, order.Classes.is_nan};
 ghost use Rattle.apfloat_model.specs.rounding.Negation.{negated};
 ghost use Rattle.apfloat_ieee.specs.FlaggedTypes.{format_of};
 ghost use Rattle.ieee_operations.specs.Extrema.{quieted_datum};
-ghost use Rattle.apfloat_machines.specs.declared.flushing.Flush.{Flush};
-ghost use Rattle.apfloat_machines.specs.FlushedMachines.{AreFlushedAndSettled};
-ghost use Rattle.apfloat_machines.specs.Nans.{default_nan, machine_nan, nan_of, settled, signaling_first};
-ghost use Rattle.apfloat_machines.specs.Nans.{is_greater, is_unsupported, taken, takes_none};
+ghost use Rattle.apfloat_machines.specs.{declared.flushing.Flush.Flush, FlushedMachines.AreFlushedAndSettled};
+ghost use Rattle.apfloat_machines.specs.Nans.{default_nan, machine_nan, nan_of, settled, signaling_first, is_greater};
+ghost use Rattle.apfloat_machines.specs.Nans.{is_unsupported, taken, takes_none};
 ghost use Rattle.apfloat_machines.specs.Operations.{AreSettled, AreSettledOfOne};
 
 use crate::machine::{Machine, NanChoice};

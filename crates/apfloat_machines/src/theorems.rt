@@ -1,16 +1,12 @@
 //! Theorems about the definitions that the calls cite, as contracts of functions with empty bodies.
 
-ghost use Rattle.apfloat_model.specs.formats.Format.{Format};
-ghost use Rattle.apfloat_machines.specs.declared.flushing.Flush.{Flush};
-ghost use Rattle.apfloat_machines.specs.declared.machine.Machine.{Machine};
-ghost use Rattle.apfloat_model.specs.declared.status.StatusAnd.{StatusAnd};
-ghost use Rattle.apfloat_model.specs.formats.Datum.{Datum};
+ghost use Rattle.apfloat_model.specs.{formats.Format.Format, formats.Datum.Datum, declared.status.StatusAnd.StatusAnd};
+ghost use Rattle.apfloat_machines.specs.declared.{flushing.Flush.Flush, machine.Machine.Machine};
 ghost use Rattle.apfloat_machines.specs.FlushedMachines.{FlushedMachinesHaveOneAnswer, IsFlushedAndSettledFused};
-ghost use Rattle.apfloat_machines.specs.FlushedOperations.{FlushedHaveOneAnswer};
-ghost use Rattle.apfloat_machines.specs.Operations.{IsSettledFused};
+ghost use Rattle.apfloat_machines.specs.{FlushedOperations.FlushedHaveOneAnswer, Operations.IsSettledFused};
 ghost use Rattle.apfloat_machines.specs.RaisedFlags.{MachineFlagsGoTogether, FlushedFlagsGoTogether};
-ghost use Rattle.apfloat_machines.specs.Theorems.{HaveOneAnswer, FusedSumsHaveOneAnswer};
-ghost use Rattle.apfloat_machines.specs.Theorems.{ConversionsHaveOneAnswer, WholeNumbersHaveOneAnswer};
+ghost use Rattle.apfloat_machines.specs.Theorems.{HaveOneAnswer, FusedSumsHaveOneAnswer, ConversionsHaveOneAnswer};
+ghost use Rattle.apfloat_machines.specs.Theorems.{WholeNumbersHaveOneAnswer};
 
 /// A sum, a difference, a product, a quotient, a remainder, a root and a rounding to an integral value of a machine
 /// have one value and one status.

@@ -1,15 +1,13 @@
 //! The integers that machines give for invalid conversions (IEEE 754-2019 5.8, 7.2).
 
 ghost use Rattle.std.specs.Prelude.{◌≡◌, ◌^◌, ◌-◌, ◌<◌, ◌≤◌, Bool, ℤ, pos, neg_ℤ};
-ghost use Rattle.apfloat_model.specs.declared.kinds.Round.{Round};
-ghost use Rattle.apfloat_model.specs.rounding.Flags.{Gives, bits_of};
+ghost use Rattle.apfloat_model.specs.{declared.kinds.Round.Round, rounding.Flags.Gives, rounding.Flags.bits_of};
 ghost use Rattle.apfloat_model.specs.whole_numbers.WholeNumbersOut.{IsToSigned, IsToUnsigned};
 ghost use Rattle.apfloat_ieee.specs.FlaggedTypes.{format_of};
 ghost use Rattle.apfloat_machines.specs.Operations.{IsOffered};
 ghost use Rattle.apfloat_machines.specs.WholeNumbers.{IsMachineSigned, IsMachineUnsigned, invalid_integer};
-ghost use Rattle.apfloat_machines.specs.WholeNumbers.{invalid_flags, signed_nan, unsigned_nan};
-ghost use Rattle.apfloat_machines.specs.WholeNumbers.{IsSettledUnsigned, settled_number, settled_flags};
-ghost use Rattle.apfloat_machines.specs.WholeNumbers.{greatest_signed, least_signed};
+ghost use Rattle.apfloat_machines.specs.WholeNumbers.{invalid_flags, signed_nan, unsigned_nan, IsSettledUnsigned};
+ghost use Rattle.apfloat_machines.specs.WholeNumbers.{settled_number, settled_flags, greatest_signed, least_signed};
 
 use crate::machine::{Machine, WholeOfNan};
 use apfloat_base::{Float, Status, StatusAnd};

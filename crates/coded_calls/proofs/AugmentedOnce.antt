@@ -1,23 +1,16 @@
 -- An augmented operation and an operation on payloads have one answer each.
 use Rattle.std.proofs.Common.{◌≡◌, ℕ, Ok, Err, Result, refl, sym, ap, ◌∙◌, subst}
-use Rattle.rustc_apfloat.specs.declared.Round.TheVariants.{NearestTiesToEven}
-use Rattle.rustc_apfloat.specs.Datum.{Datum}
-use Rattle.rustc_apfloat.specs.Layout.{IsEncodedBy}
+use Rattle.rustc_apfloat.specs.{declared.Round.TheVariants.NearestTiesToEven, Datum.Datum, Layout.IsEncodedBy}
 use Rattle.rustc_apfloat.specs.Lawful.{format_with, layout_with}
 use Rattle.ieee_operations.specs.augmented.Augmented.{HasOneAugmented, IsAugmentedDifference, IsAugmentedProduct}
 use Rattle.ieee_operations.specs.augmented.Augmented.{IsAugmentedSum}
-use Rattle.formats_at_run_time.specs.declared.BuiltInFormat.{BuiltInFormat}
-use Rattle.formats_at_run_time.specs.BuiltIns.{constants_in}
-use Rattle.formats_at_run_time.specs.ValueKinds.{value_of}
+use Rattle.formats_at_run_time.specs.{declared.BuiltInFormat.BuiltInFormat, BuiltIns.constants_in, ValueKinds.value_of}
 use Rattle.formats_at_run_time.proofs.FormatLaws.{built_in_law}
-use Rattle.coded_calls.specs.declared.data.Answer.{Answer}
-use Rattle.coded_calls.specs.declared.data.Halves.{Halves}
-use Rattle.coded_calls.specs.Answers.{whole}
-use Rattle.coded_calls.specs.declared.augmented.Augmentation.{Augmentation}
+use Rattle.coded_calls.specs.declared.{data.Answer.Answer, data.Halves.Halves, augmented.Augmentation.Augmentation}
 use Rattle.coded_calls.specs.declared.augmented.Augmentation.TheVariants.{Sum, Difference, Product}
+use Rattle.coded_calls.specs.Answers.{whole}
 use Rattle.coded_calls.specs.Augmented.{IsAugmentedBy, IsAugmentedCall, IsPayloadCall, KnownAugmentation, KnownPayload}
-use Rattle.coded_calls.specs.OneReply.{AreAugmentedCallsOnce}
-use Rattle.coded_calls.specs.OneReply.{SameAnswer}
+use Rattle.coded_calls.specs.OneReply.{AreAugmentedCallsOnce, SameAnswer}
 use Rattle.coded_calls.proofs.ExportsOnce.{format_determined, unchanged}
 
 -- a datum has one encoding

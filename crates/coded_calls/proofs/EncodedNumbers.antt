@@ -1,22 +1,14 @@
 -- Decimals, rounded to odd and encoded.
-use Rattle.std.proofs.Common.{ℕ, ◌+◌, ◌*◌, ◌^◌, ◌≤◌, ℤ, pos, ◌+ℤ◌, Bool, inl, subst, arith, List, Option, Some, None}
+use Rattle.std.proofs.Common.{ℕ, ◌+◌, ◌*◌, ◌^◌, ◌≤◌, ℤ, pos, ◌+ℤ◌, Bool, inl, subst, arith}
+use Rattle.std.proofs.{Common.List, Common.Option, Common.Some, Common.None, Math.Nat.pow-le-pow_right}
 use Rattle.std.specs.Prelude.{IfSome}
-use Rattle.std.proofs.Math.Nat.{pow-le-pow_right}
-use Rattle.apfloat_model.specs.declared.kinds.Round.{Round}
-use Rattle.apfloat_model.specs.formats.Datum.{finite}
-use Rattle.apfloat_model.specs.formats.Lawful.{Constants, format_with}
-use Rattle.apfloat_model.specs.rounding.Flags.{bits_of}
-use Rattle.apfloat_model.specs.rounding.Rounding.{IsDelivered}
-use Rattle.apfloat_model.specs.rounding.RoundingToOdd.{IsRoundedToOdd}
-use Rattle.apfloat_model.specs.rounding.Standing.{up, down}
-use Rattle.apfloat_model.proofs.general.Powers.{two_pos}
-use Rattle.apfloat_model.proofs.rounding.OddRoundings.{to_odd_least}
-use Rattle.apfloat_decimals.specs.DecimalTexts.{IsDecimalReading}
-use Rattle.apfloat_decimals.specs.OddDecimals.{IsOddDecimal}
-use Rattle.apfloat_decimals.specs.Parsing.{Spells}
+use Rattle.apfloat_model.specs.{declared.kinds.Round.Round, formats.Datum.finite, formats.Lawful.Constants}
+use Rattle.apfloat_model.specs.{formats.Lawful.format_with, rounding.Flags.bits_of}
+use Rattle.apfloat_model.specs.rounding.{Rounding.IsDelivered, RoundingToOdd.IsRoundedToOdd, Standing.up, Standing.down}
+use Rattle.apfloat_model.proofs.{general.Powers.two_pos, rounding.OddRoundings.to_odd_least}
+use Rattle.apfloat_decimals.specs.{DecimalTexts.IsDecimalReading, OddDecimals.IsOddDecimal, Parsing.Spells}
 use Rattle.apfloat_decimals.proofs.cuts.OddProducts.{quanta_odd}
-use Rattle.fast_bits.specs.declared.encoded.Encoded.{Encoded}
-use Rattle.fast_bits.specs.Encoded.{IsEncodedAnswer, IsEncodedNumber}
+use Rattle.fast_bits.specs.{declared.encoded.Encoded.Encoded, Encoded.IsEncodedAnswer, Encoded.IsEncodedNumber}
 
 -- a decimal rounded to odd is so in quanta, with two digits more than a format of at most 59 digits keeps
 pub decimal_odd : (precision digits s scale : ℕ) (exponent place : ℤ) → precision ≤ 59

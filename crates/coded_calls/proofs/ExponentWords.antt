@@ -1,17 +1,12 @@
 -- The exponent of a fraction is a number of 32 bits.
 use Rattle.std.proofs.Common.{◌≡◌, ℕ, zero, suc, ◌<◌, ◌≤◌, Bool, true, false, eqb, refl, sym, subst}
 use Rattle.std.proofs.Common.{FitsSigned, w32, arith, lit<}
-use Rattle.std.specs.Prelude.{ℤ, pos}
-use Rattle.std.specs.Bool.{MatchBool}
-use Rattle.std.proofs.lemmas.Bool.{false≢true}
-use Rattle.std.proofs.lemmas.Int.{ints, fits_signed_from_abs}
-use Rattle.rustc_apfloat.specs.Format.{largest}
-use Rattle.rustc_apfloat.specs.Datum.{Datum, finite, infinite, nan}
+use Rattle.std.proofs.lemmas.{Bool.false≢true, Int.ints, Int.fits_signed_from_abs}
+use Rattle.std.specs.{Prelude.ℤ, Prelude.pos, Bool.MatchBool}
+use Rattle.rustc_apfloat.specs.{Format.largest, Datum.Datum, Datum.finite, Datum.infinite, Datum.nan}
 use Rattle.rustc_apfloat.specs.Exponents.{IsFraction, IsFrexp}
-use Rattle.rustc_apfloat.specs.Lawful.{Constants, IsLawful, format_with}
-use Rattle.rustc_apfloat.specs.Members.{IsMember}
-use Rattle.apfloat_model.proofs.arithmetic.FractionExponents.{exponent_within}
-use Rattle.apfloat_model.proofs.formats.LawfulRanges.{ranges_of}
+use Rattle.rustc_apfloat.specs.{Lawful.Constants, Lawful.IsLawful, Lawful.format_with, Members.IsMember}
+use Rattle.apfloat_model.proofs.{arithmetic.FractionExponents.exponent_within, formats.LawfulRanges.ranges_of}
 
 -- the exponent of the fraction of a finite value fits in 32 bits
 number_fits : (constants : Constants) → IsLawful constants

@@ -1,49 +1,34 @@
 -- What an export leaves is determined by its arguments: one code, and one result.
-use Rattle.std.proofs.Common.{◌≡◌, ℕ, ◌^◌, ◌<◌, ◌≤◌, Bool, Option, Some, None, Ok, refl, sym, ap, ◌∙◌, subst, ⊎_elim}
-use Rattle.std.proofs.Common.{arith, lit<}
-use Rattle.std.specs.Int.{w128, cast_unsigned}
-use Rattle.std.specs.Prelude.{ℤ, ⊤}
+use Rattle.std.proofs.Common.{◌≡◌, ℕ, ◌^◌, ◌<◌, ◌≤◌, Bool, Option, Some, None, Ok, refl, sym, ap}
+use Rattle.std.proofs.Common.{◌∙◌, subst, ⊎_elim, arith, lit<}
 use Rattle.std.proofs.lemmas.Bool.{cases_lt}
-use Rattle.rustc_apfloat.specs.declared.Round.{Round}
-use Rattle.rustc_apfloat.specs.declared.StatusAnd.{StatusAnd}
-use Rattle.rustc_apfloat.specs.Datum.{Datum}
-use Rattle.rustc_apfloat.specs.Flags.{bits_of}
+use Rattle.std.specs.{Int.w128, Int.cast_unsigned, Prelude.ℤ, Prelude.⊤}
+use Rattle.rustc_apfloat.specs.{declared.Round.Round, declared.StatusAnd.StatusAnd, Datum.Datum, Flags.bits_of}
 use Rattle.rustc_apfloat.specs.Lawful.{Constants, format_with, layout_with}
-use Rattle.rustc_apfloat.specs.Meaning.{AreDetermined}
-use Rattle.rustc_apfloat.specs.Determined.{Determines, DeterminesBoth}
-use Rattle.rustc_apfloat.specs.Roots.{IsRoot}
-use Rattle.rustc_apfloat.specs.PairFormats.{wide}
-use Rattle.rustc_apfloat.specs.Pairs.{Pair}
-use Rattle.rustc_apfloat.specs.PairAnswers.{OncePair}
-use Rattle.rustc_apfloat.specs.PairRoots.{IsPairRoot}
+use Rattle.rustc_apfloat.specs.{Meaning.AreDetermined, Determined.Determines, Determined.DeterminesBoth, Roots.IsRoot}
+use Rattle.rustc_apfloat.specs.{PairFormats.wide, Pairs.Pair, PairAnswers.OncePair, PairRoots.IsPairRoot}
 use Rattle.apfloat_model.proofs.Determined.{determined, gives_once, same_answer, scale_some}
 use Rattle.apfloat_model.proofs.bits.Encodings.{lawful_interchange}
 use Rattle.apfloat_model.proofs.Once.{OnceWith, conversion_once, fused_sum_once, root_once}
-use Rattle.apfloat_pair_theory.proofs.calls.PairsDetermined.{pairs_determined}
-use Rattle.apfloat_pair_theory.proofs.calls.PairsOnce.{wide_answer_once}
-use Rattle.coded_calls.specs.declared.data.Answer.{Answer}
-use Rattle.coded_calls.specs.declared.data.Halves.{Halves}
-use Rattle.formats_at_run_time.specs.declared.BuiltInKind.{BuiltInKind}
-use Rattle.formats_at_run_time.specs.declared.BuiltInKind.TheVariants.{OfFormat as OfBuiltIn, Pairs as PairsOfDoubles}
-use Rattle.formats_at_run_time.specs.declared.FlaggedKind.{FlaggedKind}
-use Rattle.formats_at_run_time.specs.declared.FlaggedKind.TheVariants.{OfFormat, Pairs}
-use Rattle.formats_at_run_time.specs.BuiltIns.{kind_of}
-use Rattle.formats_at_run_time.specs.FlaggedKinds.{flagged_kind_of}
-use Rattle.formats_at_run_time.specs.Relations.{Relations, in_format, in_pairs}
-use Rattle.formats_at_run_time.specs.ValueKinds.{Kind, of_format, of_pairs, value_of}
-use Rattle.formats_at_run_time.proofs.OfTwoOnce.{of_two_once}
-use Rattle.formats_at_run_time.proofs.FormatLaws.{HasLaw, built_in_law, format_law}
-use Rattle.coded_calls.specs.declared.exported_call.ExportedCall.{ExportedCall}
+use Rattle.apfloat_pair_theory.proofs.calls.{PairsDetermined.pairs_determined, PairsOnce.wide_answer_once}
+use Rattle.coded_calls.specs.declared.{data.Answer.Answer, data.Halves.Halves, exported_call.ExportedCall.ExportedCall}
 use Rattle.coded_calls.specs.declared.exported_call.ExportedCall.TheVariants.{OfTwo, FusedSum, SquareRoot, FromUnsigned}
 use Rattle.coded_calls.specs.declared.exported_call.ExportedCall.TheVariants.{FromSigned, ToUnsigned, ToSigned}
 use Rattle.coded_calls.specs.declared.exported_call.ExportedCall.TheVariants.{RoundToIntegral, Scaling, Fraction}
 use Rattle.coded_calls.specs.declared.exported_call.ExportedCall.TheVariants.{Exponent, NextUp, NextDown, Comparison}
 use Rattle.coded_calls.specs.declared.exported_call.ExportedCall.TheVariants.{Class, Conversion, Text}
-use Rattle.coded_calls.specs.OneReply.{SameAnswer}
-use Rattle.coded_calls.specs.KnownCalls.{fault_in, known_call, without}
+use Rattle.coded_calls.specs.{OneReply.SameAnswer, KnownCalls.fault_in, KnownCalls.known_call, KnownCalls.without}
 use Rattle.coded_calls.specs.Answers.{IsKindAnswer, IsConverted, IsConvertedInto, IsAnswerConverted, IsFractionOf}
 use Rattle.coded_calls.specs.Answers.{IsNumberAlone, IsReturned, IsSignedAnswer, IsTypeAnswer, IsUnsigned, IsUntold}
 use Rattle.coded_calls.specs.Answers.{IsValue, IsValueWritten, one_if, whole}
+use Rattle.formats_at_run_time.specs.declared.BuiltInKind.{BuiltInKind}
+use Rattle.formats_at_run_time.specs.declared.BuiltInKind.TheVariants.{OfFormat as OfBuiltIn, Pairs as PairsOfDoubles}
+use Rattle.formats_at_run_time.specs.declared.FlaggedKind.{FlaggedKind, TheVariants.OfFormat, TheVariants.Pairs}
+use Rattle.formats_at_run_time.specs.{BuiltIns.kind_of, FlaggedKinds.flagged_kind_of}
+use Rattle.formats_at_run_time.specs.Relations.{Relations, in_format, in_pairs}
+use Rattle.formats_at_run_time.specs.ValueKinds.{Kind, of_format, of_pairs, value_of}
+use Rattle.formats_at_run_time.proofs.OfTwoOnce.{of_two_once}
+use Rattle.formats_at_run_time.proofs.FormatLaws.{HasLaw, built_in_law, format_law}
 
 -- at most one result
 abbrev pub OnceAnswer : (Answer → Type 0) → Type 0

@@ -1,15 +1,10 @@
 -- A format has one description.
-use Rattle.std.proofs.Common.{◌≡◌, ℕ, ◌-◌, ◌^◌, ◌<◌, ◌≤◌, refl, sym, ◌∙◌, arith, lit<, ⊎_elim}
-use Rattle.std.proofs.Math.Nat.{pow-le-pow_right}
-use Rattle.std.proofs.lemmas.Bool.{cases_lt}
-use Rattle.rustc_apfloat.specs.declared.Round.TheVariants.{NearestTiesToEven}
-use Rattle.rustc_apfloat.specs.Datum.{Datum}
-use Rattle.formats_at_run_time.specs.declared.BuiltInFormat.{BuiltInFormat}
-use Rattle.formats_at_run_time.specs.BuiltIns.{constants_in}
+use Rattle.std.proofs.Common.{◌≡◌, ℕ, ◌-◌, ◌^◌, ◌<◌, ◌≤◌, refl, sym, ◌∙◌, arith, lit<}
+use Rattle.std.proofs.{Common.⊎_elim, Math.Nat.pow-le-pow_right, lemmas.Bool.cases_lt}
+use Rattle.rustc_apfloat.specs.{declared.Round.TheVariants.NearestTiesToEven, Datum.Datum}
+use Rattle.formats_at_run_time.specs.{declared.BuiltInFormat.BuiltInFormat, BuiltIns.constants_in}
 use Rattle.formats_at_run_time.proofs.FormatLaws.{built_in_law}
-use Rattle.coded_calls.specs.declared.data.Halves.{Halves}
-use Rattle.coded_calls.specs.declared.facts.Facts.{Facts}
-use Rattle.coded_calls.specs.Answers.{whole}
+use Rattle.coded_calls.specs.{declared.data.Halves.Halves, declared.facts.Facts.Facts, Answers.whole}
 use Rattle.coded_calls.specs.Facts.{AreFacts, IsDigitCountToReadBack, IsEncoding, SameFacts}
 use Rattle.coded_calls.proofs.ExportsOnce.{format_determined}
 

@@ -1,12 +1,9 @@
 -- A call that raises no flag leaves one code and one result.
 use Rattle.std.proofs.Common.{Option, None, Some, sym, ◌∙◌, lit<}
 use Rattle.std.specs.declared.cmp.Ordering.{Ordering}
-use Rattle.rustc_apfloat.specs.declared.Round.TheVariants.{NearestTiesToEven}
-use Rattle.rustc_apfloat.specs.Determined.{Determines}
-use Rattle.rustc_apfloat.specs.Meaning.{Meaning}
+use Rattle.rustc_apfloat.specs.{declared.Round.TheVariants.NearestTiesToEven, Determined.Determines, Meaning.Meaning}
 use Rattle.apfloat_pair_theory.proofs.calls.PairsDetermined.{pairs_determined}
-use Rattle.formats_at_run_time.specs.BuiltIns.{kind_of}
-use Rattle.formats_at_run_time.specs.Relations.{in_format, in_pairs}
+use Rattle.formats_at_run_time.specs.{BuiltIns.kind_of, Relations.in_format, Relations.in_pairs}
 use Rattle.formats_at_run_time.specs.ValueKinds.{Kind, of_format, of_pairs}
 use Rattle.coded_calls.specs.declared.flagless_call.FlaglessCall.{FlaglessCall}
 use Rattle.coded_calls.specs.declared.flagless_call.FlaglessCall.TheVariants.{Negation, AbsoluteValue, SignCopy}
@@ -15,7 +12,8 @@ use Rattle.coded_calls.specs.declared.flagless_call.FlaglessCall.TheVariants.{Ma
 use Rattle.coded_calls.specs.Answers.{whole}
 use Rattle.coded_calls.specs.FlaglessCalls.{IsFlagless, IsFlaglessAnswer, IsFlaglessKindAnswer, kind_without_rule}
 use Rattle.coded_calls.specs.OneReply.{IsFlaglessReplyOnce}
-use Rattle.coded_calls.proofs.ExportsOnce.{KindHasLaw, OnceAnswer, built_in_kind_law, format_determined, given_once, unchanged}
+use Rattle.coded_calls.proofs.ExportsOnce.{KindHasLaw, OnceAnswer, built_in_kind_law, format_determined, given_once}
+use Rattle.coded_calls.proofs.ExportsOnce.{unchanged}
 
 -- no value of a type is written as two numbers
 module _ {A : Type 0} (meaning : Meaning A) (order : A → A → Option Ordering)

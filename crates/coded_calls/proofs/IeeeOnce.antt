@@ -1,38 +1,28 @@
 -- An operation of IEEE 754-2019 leaves one code and one result.
 use Rattle.std.proofs.Common.{ℕ, Bool, true, false, Some, None, sym, ap, ◌∙◌}
-use Rattle.rustc_apfloat.specs.declared.Round.{Round}
-use Rattle.rustc_apfloat.specs.declared.StatusAnd.{StatusAnd}
-use Rattle.rustc_apfloat.specs.Datum.{Datum}
-use Rattle.rustc_apfloat.specs.Determined.{Determines}
+use Rattle.rustc_apfloat.specs.{declared.Round.Round, declared.StatusAnd.StatusAnd, Datum.Datum, Determined.Determines}
+use Rattle.rustc_apfloat.specs.{Flags.Gives, Flags.bits_of, Format.Format, Lawful.Constants, Lawful.format_with}
 use Rattle.apfloat_model.specs.Determined.{DeterminesBoth}
-use Rattle.rustc_apfloat.specs.Flags.{Gives, bits_of}
-use Rattle.rustc_apfloat.specs.Format.{Format}
-use Rattle.rustc_apfloat.specs.Lawful.{Constants, format_with}
 use Rattle.apfloat_model.proofs.Determined.{gives_once, same_answer}
 use Rattle.ieee_operations.specs.declared.extrema.Extremum.{Extremum}
-use Rattle.ieee_operations.proofs.OneAnswer.{compared_once}
-use Rattle.ieee_operations.proofs.IntegralOnce.{rounded_to_integral_once}
+use Rattle.ieee_operations.proofs.{OneAnswer.compared_once, IntegralOnce.rounded_to_integral_once}
 use Rattle.ieee_operations.proofs.Logarithms.{log_b_once, scaled_once}
 use Rattle.apfloat_arithmetic.specs.other_formats.FormatOf.{IsSumTo, IsDifferenceTo, IsProductTo, IsQuotientTo}
 use Rattle.apfloat_arithmetic.specs.other_formats.Theorems.{HasOneSum, HasOneDifference, HasOneProduct, HasOneQuotient}
 use Rattle.apfloat_arithmetic.specs.other_formats.Theorems.{HasOneFusedSum, HasOneRoot}
 use Rattle.formats_at_run_time.specs.declared.FlaggedKind.TheVariants.{OfFormat, Pairs}
-use Rattle.formats_at_run_time.specs.BuiltIns.{constants_in}
-use Rattle.formats_at_run_time.specs.FlaggedKinds.{flagged_constants, format_without_rule}
-use Rattle.formats_at_run_time.specs.Relations.{in_format}
-use Rattle.formats_at_run_time.specs.ValueKinds.{value_of}
-use Rattle.coded_calls.specs.declared.ieee_call.IeeeCall.{IeeeCall}
-use Rattle.coded_calls.specs.declared.ieee_call.IeeeCall.TheVariants.{Predicated, TotalOrder, ExtremumOf}
-use Rattle.coded_calls.specs.declared.ieee_call.IeeeCall.TheVariants.{LogB, ScaleB, Integral}
+use Rattle.formats_at_run_time.specs.{BuiltIns.constants_in, FlaggedKinds.flagged_constants}
+use Rattle.formats_at_run_time.specs.{FlaggedKinds.format_without_rule, Relations.in_format, ValueKinds.value_of}
+use Rattle.formats_at_run_time.proofs.FormatLaws.{HasLaw, format_law}
+use Rattle.coded_calls.specs.declared.ieee_call.IeeeCall.{IeeeCall, TheVariants.Predicated}
+use Rattle.coded_calls.specs.declared.ieee_call.IeeeCall.TheVariants.{TotalOrder, ExtremumOf, LogB, ScaleB, Integral}
 use Rattle.coded_calls.specs.declared.ieee_call.InAnotherCall.{InAnotherCall}
-use Rattle.coded_calls.specs.declared.ieee_call.InAnotherCall.TheVariants.{SumTo, DifferenceTo, ProductTo}
-use Rattle.coded_calls.specs.declared.ieee_call.InAnotherCall.TheVariants.{QuotientTo, FusedSumTo, RootTo}
+use Rattle.coded_calls.specs.declared.ieee_call.InAnotherCall.TheVariants.{SumTo, DifferenceTo, ProductTo, QuotientTo}
+use Rattle.coded_calls.specs.declared.ieee_call.InAnotherCall.TheVariants.{FusedSumTo, RootTo}
 use Rattle.coded_calls.specs.Answers.{IsValue, one_if}
 use Rattle.coded_calls.specs.IeeeCalls.{IsExtremumBy, IsIeeeAnswer, IsInAnotherFormat, IsTruth}
 use Rattle.coded_calls.specs.OneReply.{IsIeeeReplyOnce, IsInAnotherReplyOnce}
-use Rattle.coded_calls.proofs.ExportsOnce.{OnceAnswer, format_determined, given_once, unchanged}
-use Rattle.formats_at_run_time.proofs.FormatLaws.{HasLaw, format_law}
-use Rattle.coded_calls.proofs.ExportsOnce.{value_once}
+use Rattle.coded_calls.proofs.ExportsOnce.{OnceAnswer, format_determined, given_once, unchanged, value_once}
 
 -- if a relation has one truth value with one status, it leaves one result
 truth_once : (Holds : StatusAnd Bool → Type 0) → Determines Holds → OnceAnswer (IsTruth Holds)

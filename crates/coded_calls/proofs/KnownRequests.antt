@@ -2,20 +2,15 @@
 use Rattle.std.proofs.Common.{◌≡◌, ℕ, subst, Option, None, Some, Ok, refl}
 use Rattle.std.specs.Prelude.{option_and_then}
 use Rattle.rustc_apfloat.specs.declared.Round.{Round}
-use Rattle.formats_at_run_time.specs.declared.FlaggedKind.{FlaggedKind}
-use Rattle.formats_at_run_time.specs.FlaggedKinds.{flagged_constants}
+use Rattle.formats_at_run_time.specs.{declared.FlaggedKind.FlaggedKind, FlaggedKinds.flagged_constants}
 use Rattle.formats_at_run_time.specs.ValueKinds.{of_format}
-use Rattle.coded_calls.specs.declared.machine_call.CodedMachine.{CodedMachine}
-use Rattle.coded_calls.specs.declared.data.Answer.{Answer}
-use Rattle.coded_calls.specs.declared.machine_call.MachineCall.TheVariants.{Operation, Conversion}
-use Rattle.coded_calls.specs.declared.machine_call.MachineFormat.{MachineFormat}
-use Rattle.coded_calls.specs.declared.machine_call.MachineOperation.{MachineOperation}
-use Rattle.coded_calls.specs.Answers.{IsLeftBy}
-use Rattle.coded_calls.specs.MachineCalls.{IsFilledIn, IsMachineAnswer, IsMachineCallAnswer, IsMachineConversionLeft}
-use Rattle.coded_calls.specs.MachineCalls.{IsMachineLeftIn, IsMachineReply, conversion_call, kind_on}
-use Rattle.coded_calls.specs.MachineCalls.{kind_without_rule}
-use Rattle.coded_calls.specs.MachineCalls.{format_on, known_machine_call, machine_fault, machine_format}
-use Rattle.coded_calls.specs.MachineCalls.{operation_fault_in}
+use Rattle.coded_calls.specs.declared.machine_call.{CodedMachine.CodedMachine, MachineCall.TheVariants.Operation}
+use Rattle.coded_calls.specs.declared.machine_call.{MachineCall.TheVariants.Conversion, MachineFormat.MachineFormat}
+use Rattle.coded_calls.specs.declared.{machine_call.MachineOperation.MachineOperation, data.Answer.Answer}
+use Rattle.coded_calls.specs.{Answers.IsLeftBy, MachineCalls.IsFilledIn, MachineCalls.IsMachineAnswer}
+use Rattle.coded_calls.specs.MachineCalls.{IsMachineCallAnswer, IsMachineConversionLeft, IsMachineLeftIn}
+use Rattle.coded_calls.specs.MachineCalls.{IsMachineReply, conversion_call, kind_on, kind_without_rule, format_on}
+use Rattle.coded_calls.specs.MachineCalls.{known_machine_call, machine_fault, machine_format, operation_fault_in}
 use Rattle.coded_calls.proofs.MachineFormats.{has_infinities_on, has_width_on}
 use Rattle.coded_calls.proofs.UsualAnswers.{conversion_known, replied}
 

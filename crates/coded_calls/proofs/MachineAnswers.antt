@@ -1,28 +1,18 @@
 -- From the answers of the library to those of a machine.
-use Rattle.std.proofs.Common.{◌≡◌, ℕ, Bool, true, false, not, eqb, Option, Some, None, refl, sym, subst, pos, arith}
-use Rattle.std.proofs.lemmas.Bool.{false≢true, ne_eqb}
-use Rattle.fast_bits.specs.declared.Encoded.{Encoded}
-use Rattle.fast_bits.specs.Encoded.{IsEncodedConversion}
-use Rattle.rustc_apfloat.specs.declared.Round.{Round}
-use Rattle.rustc_apfloat.specs.declared.StatusAnd.{StatusAnd}
-use Rattle.rustc_apfloat.specs.Classes.{is_finite}
+use Rattle.std.proofs.Common.{◌≡◌, ℕ, Bool, true, false, not, eqb, Option, Some, None, refl, sym, subst, pos}
+use Rattle.std.proofs.{Common.arith, lemmas.Bool.false≢true, lemmas.Bool.ne_eqb}
+use Rattle.fast_bits.specs.{declared.Encoded.Encoded, Encoded.IsEncodedConversion}
+use Rattle.rustc_apfloat.specs.{declared.Round.Round, declared.StatusAnd.StatusAnd, Classes.is_finite}
 use Rattle.rustc_apfloat.specs.Datum.{Datum, finite, infinite, nan}
-use Rattle.rustc_apfloat.specs.Flags.{Gives, bits_of}
-use Rattle.rustc_apfloat.specs.Format.{Format}
-use Rattle.rustc_apfloat.specs.Lawful.{Constants, format_with, layout_with}
-use Rattle.rustc_apfloat.specs.Layout.{IsEncodedBy}
-use Rattle.rustc_apfloat.specs.Rounding.{ok_bits}
+use Rattle.rustc_apfloat.specs.{Flags.Gives, Flags.bits_of, Format.Format, Lawful.Constants, Lawful.format_with}
+use Rattle.rustc_apfloat.specs.{Lawful.layout_with, Layout.IsEncodedBy, Rounding.ok_bits}
 use Rattle.apfloat_model.specs.arithmetic.Conversions.{IsConversion}
-use Rattle.apfloat_machines.specs.Conversions.{IsMachineConversion}
-use Rattle.apfloat_machines.specs.Operations.{AreSettled, IsOffered}
+use Rattle.apfloat_machines.specs.{Conversions.IsMachineConversion, Operations.AreSettled, Operations.IsOffered}
 use Rattle.formats_at_run_time.specs.declared.Arithmetic.{Arithmetic}
 use Rattle.formats_at_run_time.specs.declared.Arithmetic.TheVariants.{Sum, Difference, Product, Quotient}
 use Rattle.formats_at_run_time.specs.declared.Arithmetic.TheVariants.{NearestRemainder, TruncatedRemainder}
-use Rattle.formats_at_run_time.specs.OfTwo.{IsOfTwo}
-use Rattle.formats_at_run_time.specs.Relations.{in_format}
-use Rattle.formats_at_run_time.specs.ValueKinds.{of_format, value_of}
-use Rattle.coded_calls.specs.declared.machine_call.CodedMachine.{CodedMachine}
-use Rattle.coded_calls.specs.declared.data.Answer.{Answer}
+use Rattle.formats_at_run_time.specs.{OfTwo.IsOfTwo, Relations.in_format, ValueKinds.of_format, ValueKinds.value_of}
+use Rattle.coded_calls.specs.declared.{machine_call.CodedMachine.CodedMachine, data.Answer.Answer}
 use Rattle.coded_calls.specs.Answers.{whole}
 use Rattle.coded_calls.specs.MachineCalls.{IsMachineConverted, IsMachineOfTwo, choices}
 

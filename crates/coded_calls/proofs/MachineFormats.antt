@@ -2,14 +2,12 @@
 use Rattle.std.proofs.Common.{◌≡◌, Bool, true, false, if◌then◌else◌, refl}
 use Rattle.apfloat_model.specs.declared.kinds.NonfiniteBehavior.TheVariants.{IEEE754}
 use Rattle.rustc_apfloat.specs.Lawful.{format_with}
-use Rattle.formats_at_run_time.specs.declared.FlaggedFormat.{FlaggedFormat}
-use Rattle.formats_at_run_time.specs.declared.FlaggedFormat.TheVariants.{AfterRounding, BeforeRounding}
-use Rattle.formats_at_run_time.specs.declared.IeeeFormat.{IeeeFormat}
+use Rattle.formats_at_run_time.specs.declared.FlaggedFormat.{FlaggedFormat, TheVariants.AfterRounding}
+use Rattle.formats_at_run_time.specs.declared.{FlaggedFormat.TheVariants.BeforeRounding, IeeeFormat.IeeeFormat}
 use Rattle.formats_at_run_time.specs.declared.IeeeFormat.TheVariants.{Half, Single, Double, Quad, BFloat, E5M2, X87}
 use Rattle.formats_at_run_time.specs.BuiltIns.{constants_in}
 use Rattle.formats_at_run_time.specs.FlaggedKinds.{flagged_constants, format_of_ieee}
-use Rattle.coded_calls.specs.declared.machine_call.CodedMachine.{CodedMachine}
-use Rattle.coded_calls.specs.declared.machine_call.MachineFormat.{MachineFormat}
+use Rattle.coded_calls.specs.declared.machine_call.{CodedMachine.CodedMachine, MachineFormat.MachineFormat}
 use Rattle.coded_calls.specs.MachineCalls.{format_on, is_tiny_before, width_of}
 
 abbrev HasInfinities : FlaggedFormat → Type 0

@@ -1,39 +1,25 @@
 -- An operation of a machine leaves one code and one result.
 use Rattle.std.proofs.Common.{ℕ, Ok, Err, sym, ap, ◌∙◌}
-use Rattle.std.specs.Prelude.{unsigned_abs}
-use Rattle.std.specs.Int.{w128, cast_unsigned}
-use Rattle.rustc_apfloat.specs.declared.Round.{Round}
-use Rattle.rustc_apfloat.specs.declared.StatusAnd.{StatusAnd}
-use Rattle.rustc_apfloat.specs.Datum.{Datum}
-use Rattle.rustc_apfloat.specs.Determined.{Determines}
-use Rattle.rustc_apfloat.specs.Flags.{Gives, bits_of}
-use Rattle.rustc_apfloat.specs.Format.{Format}
-use Rattle.rustc_apfloat.specs.Lawful.{Constants, format_with}
-use Rattle.apfloat_model.proofs.Determined.{gives_once, same_answer}
-use Rattle.apfloat_model.proofs.Once.{answer_once}
-use Rattle.apfloat_machines.specs.declared.machine.Machine.{Machine}
-use Rattle.apfloat_machines.specs.WholeNumbers.{IsMachineUnsigned}
+use Rattle.std.specs.{Prelude.unsigned_abs, Int.w128, Int.cast_unsigned}
+use Rattle.rustc_apfloat.specs.{declared.Round.Round, declared.StatusAnd.StatusAnd, Datum.Datum, Determined.Determines}
+use Rattle.rustc_apfloat.specs.{Flags.Gives, Flags.bits_of, Format.Format, Lawful.Constants, Lawful.format_with}
+use Rattle.apfloat_model.proofs.{Determined.gives_once, Determined.same_answer, Once.answer_once}
+use Rattle.apfloat_machines.specs.{declared.machine.Machine.Machine, WholeNumbers.IsMachineUnsigned}
 use Rattle.apfloat_machines.proofs.Once.{operations_once, fused_sums_once, conversions_once, whole_numbers_once}
-use Rattle.formats_at_run_time.specs.declared.Arithmetic.{Arithmetic}
-use Rattle.formats_at_run_time.specs.declared.Arithmetic.TheVariants.{Sum, Difference, Product, Quotient}
-use Rattle.formats_at_run_time.specs.declared.Arithmetic.TheVariants.{NearestRemainder, TruncatedRemainder}
-use Rattle.formats_at_run_time.specs.BuiltIns.{constants_in}
-use Rattle.formats_at_run_time.specs.FlaggedKinds.{flagged_constants, format_of_ieee}
-use Rattle.formats_at_run_time.specs.ValueKinds.{value_of}
-use Rattle.coded_calls.specs.declared.machine_call.CodedMachine.{CodedMachine}
-use Rattle.coded_calls.specs.declared.machine_call.MachineCall.{MachineCall}
+use Rattle.formats_at_run_time.specs.declared.Arithmetic.{Arithmetic, TheVariants.Sum}
+use Rattle.formats_at_run_time.specs.declared.Arithmetic.TheVariants.{Difference, Product, Quotient, NearestRemainder}
+use Rattle.formats_at_run_time.specs.{declared.Arithmetic.TheVariants.TruncatedRemainder, BuiltIns.constants_in}
+use Rattle.formats_at_run_time.specs.{FlaggedKinds.flagged_constants, FlaggedKinds.format_of_ieee, ValueKinds.value_of}
+use Rattle.formats_at_run_time.proofs.FormatLaws.{HasLaw, format_law}
+use Rattle.coded_calls.specs.declared.machine_call.{CodedMachine.CodedMachine, MachineCall.MachineCall}
 use Rattle.coded_calls.specs.declared.machine_call.MachineCall.TheVariants.{Operation, Conversion}
-use Rattle.coded_calls.specs.declared.machine_call.MachineFormat.{MachineFormat}
-use Rattle.coded_calls.specs.declared.machine_call.MachineOperation.{MachineOperation}
+use Rattle.coded_calls.specs.declared.machine_call.{MachineFormat.MachineFormat, MachineOperation.MachineOperation}
 use Rattle.coded_calls.specs.declared.machine_call.MachineOperation.TheVariants.{OfTwo, FusedSum, SquareRoot}
 use Rattle.coded_calls.specs.declared.machine_call.MachineOperation.TheVariants.{IntegralExact, Integral, ToUnsigned}
 use Rattle.coded_calls.specs.declared.machine_call.MachineOperation.TheVariants.{ToSigned, Least, Greatest}
 use Rattle.coded_calls.specs.MachineCalls.{IsInteger, IsMachineAnswer, IsMachineCallAnswer, IsMachineOfTwo, choices}
-use Rattle.coded_calls.specs.MachineCalls.{format_on}
-use Rattle.coded_calls.specs.OneReply.{IsMachineReplyOnce}
-use Rattle.coded_calls.proofs.ExportsOnce.{OnceAnswer, unchanged}
-use Rattle.formats_at_run_time.proofs.FormatLaws.{HasLaw, format_law}
-use Rattle.coded_calls.proofs.IeeeOnce.{in_format_once}
+use Rattle.coded_calls.specs.{MachineCalls.format_on, OneReply.IsMachineReplyOnce}
+use Rattle.coded_calls.proofs.{ExportsOnce.OnceAnswer, ExportsOnce.unchanged, IeeeOnce.in_format_once}
 
 -- an operation on two values has one value and one status
 of_two_once : (f : Format) (machine : CodedMachine) (arithmetic : Arithmetic) (mode : Round) (x y : Datum)

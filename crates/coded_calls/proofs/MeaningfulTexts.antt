@@ -1,10 +1,10 @@
 -- A text that has a meaning, or is a decimal, is ASCII.
 use mathlib.Core.Bool.{Bool}
-use Rattle.std.proofs.Common.{◌≡◌, ◌⊎◌, inl, inr, ℕ, ◌<◌, ◌≤◌, ◌^◌, ℤ, not, true, false, ◌&&◌, ◌||◌, cond, refl, ap}
-use Rattle.std.proofs.Common.{subst, ⊎_elim, arith, List, [], ◌∷◌, ◌++◌, take, drop, take-append-drop, codes, eqb, leb}
-use Rattle.std.proofs.Common.{ltb, Option, Some, None, is_some}
-use Rattle.std.specs.Char.{is_ascii}
+use Rattle.std.proofs.Common.{◌≡◌, ◌⊎◌, inl, inr, ℕ, ◌<◌, ◌≤◌, ◌^◌, ℤ, not, true, false}
+use Rattle.std.proofs.Common.{◌&&◌, ◌||◌, cond, refl, ap, subst, ⊎_elim, arith, List, [], ◌∷◌, ◌++◌}
+use Rattle.std.proofs.Common.{take, drop, take-append-drop, codes, eqb, leb, ltb, Option, Some, None, is_some}
 use Rattle.std.proofs.lemmas.Bool.{and_parts, and_from, or_cases, cond_both, eqb-true, leb-true, lt-ltb, false≢true}
+use Rattle.std.specs.Char.{is_ascii}
 use Rattle.apfloat_model.specs.texts.Digits.{every, same, begins, is_empty, is_decimal, is_hexadecimal, number}
 use Rattle.apfloat_model.specs.texts.Specials.{TextMeaning, infinity, not_a_number, hexadecimal, mark_of, after_mark}
 use Rattle.apfloat_model.specs.texts.Specials.{is_minus, is_infinity, is_x, radix_of, after_prefix, after_plus}
@@ -12,15 +12,11 @@ use Rattle.apfloat_model.specs.texts.Specials.{is_digit_of, base_of, number_of_d
 use Rattle.apfloat_model.specs.texts.Specials.{in_parentheses, payload_of, with_payload, is_nan_name, named_nan, is_s}
 use Rattle.apfloat_model.specs.texts.Specials.{nan_meaning, special_meaning, special_of}
 use Rattle.apfloat_model.specs.texts.Texts.{IsHexadecimal, Means}
-use Rattle.apfloat_model.specs.declared.marks.Mark.{Mark}
-use Rattle.apfloat_model.specs.declared.marks.Mark.TheVariants.{Unmarked, Plus, Minus}
-use Rattle.apfloat_model.specs.declared.marks.Radix.{Radix}
-use Rattle.apfloat_model.specs.declared.marks.Radix.TheVariants.{Sixteen, Eight, Ten}
-use Rattle.apfloat_model.specs.declared.kinds.Round.{Round}
-use Rattle.apfloat_model.specs.formats.Datum.{Datum}
-use Rattle.apfloat_model.specs.formats.Format.{Format}
-use Rattle.apfloat_decimals.specs.DecimalTexts.{IsWrittenExponent, IsDecimalText, IsDecimalReading}
+use Rattle.apfloat_model.specs.declared.marks.Mark.{Mark, TheVariants.Unmarked, TheVariants.Plus, TheVariants.Minus}
+use Rattle.apfloat_model.specs.declared.marks.Radix.{Radix, TheVariants.Sixteen, TheVariants.Eight, TheVariants.Ten}
+use Rattle.apfloat_model.specs.{declared.kinds.Round.Round, formats.Datum.Datum, formats.Format.Format}
 use Rattle.apfloat_model.proofs.general.ListLaws.{every-append, append-every, every_weaker}
+use Rattle.apfloat_decimals.specs.DecimalTexts.{IsWrittenExponent, IsDecimalText, IsDecimalReading}
 
 abbrev IsAllAscii : List ℕ → Type 0
 IsAllAscii text = every is_ascii text ≡ true

@@ -1,28 +1,18 @@
 -- Results that were computed from bits to bits.
-use Rattle.std.proofs.Common.{◌≡◌, ℕ, pos, Bool, true, false, not, ◌&&◌, eqb, sym, refl, ap, ◌∙◌, subst, arith}
-use Rattle.std.proofs.lemmas.Bool.{true≢false, ne_eqb}
-use Rattle.rustc_apfloat.specs.Classes.{is_nan}
-use Rattle.rustc_apfloat.specs.Conversions.{IsConversion}
-use Rattle.rustc_apfloat.specs.Datum.{Datum, finite, infinite, nan}
-use Rattle.rustc_apfloat.specs.Flags.{Gives, bits_of}
-use Rattle.rustc_apfloat.specs.Format.{Format}
-use Rattle.rustc_apfloat.specs.Lawful.{Constants, format_with, layout_with}
-use Rattle.rustc_apfloat.specs.Layout.{IsEncodedBy}
-use Rattle.rustc_apfloat.specs.Rounding.{ok_bits}
-use Rattle.rustc_apfloat.specs.Sums.{IsSum, IsDifference}
-use Rattle.rustc_apfloat.specs.declared.Round.{Round}
+use Rattle.std.proofs.Common.{◌≡◌, ℕ, pos, Bool, true, false, not, ◌&&◌, eqb, sym, refl, ap, ◌∙◌}
+use Rattle.std.proofs.{Common.subst, Common.arith, lemmas.Bool.true≢false, lemmas.Bool.ne_eqb}
+use Rattle.rustc_apfloat.specs.{Classes.is_nan, Conversions.IsConversion, Datum.Datum, Datum.finite, Datum.infinite}
+use Rattle.rustc_apfloat.specs.{Datum.nan, Flags.Gives, Flags.bits_of, Format.Format, Lawful.Constants}
+use Rattle.rustc_apfloat.specs.{Lawful.format_with, Lawful.layout_with, Layout.IsEncodedBy, Rounding.ok_bits}
+use Rattle.rustc_apfloat.specs.{Sums.IsSum, Sums.IsDifference, declared.Round.Round}
 use Rattle.apfloat_machines.specs.Operations.{IsMachineSum, IsMachineDifference}
-use Rattle.formats_at_run_time.specs.declared.Arithmetic.{Arithmetic}
-use Rattle.formats_at_run_time.specs.declared.Arithmetic.TheVariants.{Sum, Difference}
-use Rattle.formats_at_run_time.specs.Relations.{in_format}
-use Rattle.formats_at_run_time.specs.ValueKinds.{of_format, value_of}
+use Rattle.formats_at_run_time.specs.declared.Arithmetic.{Arithmetic, TheVariants.Sum, TheVariants.Difference}
+use Rattle.formats_at_run_time.specs.{Relations.in_format, ValueKinds.of_format, ValueKinds.value_of}
 use Rattle.fast_bits.specs.declared.encoded.Encoded.{Encoded}
 use Rattle.fast_bits.specs.Encoded.{IsEncodedConversion, IsEncodedAnswer, IsNumberAnswer}
-use Rattle.coded_calls.specs.declared.machine_call.CodedMachine.{CodedMachine}
-use Rattle.coded_calls.specs.declared.data.Answer.{Answer}
-use Rattle.coded_calls.specs.declared.machine_call.MachineOperation.TheVariants.{OfTwo}
-use Rattle.coded_calls.specs.Answers.{IsConvertedInto, IsLeftBy, IsValue, one_if, whole}
-use Rattle.coded_calls.specs.KnownCalls.{answered}
+use Rattle.coded_calls.specs.declared.machine_call.{CodedMachine.CodedMachine, MachineOperation.TheVariants.OfTwo}
+use Rattle.coded_calls.specs.{declared.data.Answer.Answer, Answers.IsConvertedInto, Answers.IsLeftBy, Answers.IsValue}
+use Rattle.coded_calls.specs.{Answers.one_if, Answers.whole, KnownCalls.answered}
 use Rattle.coded_calls.specs.MachineCalls.{IsMachineAnswer, IsMachineOfTwo, choices, fits, operation_fault_in}
 use Rattle.coded_calls.proofs.UsualAnswers.{fitting}
 

@@ -2,17 +2,11 @@
 use Rattle.std.proofs.Common.{◌%◌, ◌^◌, Ok, Err, sym, ap, ◌∙◌}
 use Rattle.rustc_apfloat.specs.Lawful.{format_with}
 use Rattle.apfloat_model.proofs.Once.{conversion_once}
-use Rattle.formats_at_run_time.specs.BuiltIns.{constants_in}
-use Rattle.formats_at_run_time.specs.FlaggedKinds.{flagged_constants}
-use Rattle.formats_at_run_time.specs.ValueKinds.{value_of}
+use Rattle.formats_at_run_time.specs.{BuiltIns.constants_in, FlaggedKinds.flagged_constants, ValueKinds.value_of}
 use Rattle.formats_at_run_time.proofs.FormatLaws.{format_law}
-use Rattle.p3109_formats.specs.ModeLaws.{IsProjectedByOnce}
-use Rattle.p3109_formats.specs.Projections.{projected_datum, projected_format}
-use Rattle.coded_calls.specs.declared.p3109.P3109Call.{P3109Call}
-use Rattle.coded_calls.specs.declared.p3109.P3109Call.TheVariants.{Into, OutOf}
-use Rattle.coded_calls.specs.Answers.{one_if}
-use Rattle.coded_calls.specs.P3109.{IsP3109Answer}
-use Rattle.coded_calls.specs.OneReply.{IsP3109ReplyOnce}
+use Rattle.p3109_formats.specs.{ModeLaws.IsProjectedByOnce, Projections.projected_datum, Projections.projected_format}
+use Rattle.coded_calls.specs.declared.p3109.P3109Call.{P3109Call, TheVariants.Into, TheVariants.OutOf}
+use Rattle.coded_calls.specs.{Answers.one_if, P3109.IsP3109Answer, OneReply.IsP3109ReplyOnce}
 use Rattle.coded_calls.proofs.ExportsOnce.{OnceAnswer, converted_once, unchanged}
 
 answer_once : IsProjectedByOnce → (call : P3109Call) → OnceAnswer (IsP3109Answer call)

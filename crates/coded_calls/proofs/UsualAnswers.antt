@@ -1,51 +1,39 @@
 -- The plain answer of usual operands is that of every machine.
-use Rattle.std.proofs.Common.{◌≡◌, ℕ, ◌+◌, ◌-◌, ◌*◌, ◌/◌, ◌%◌, ◌^◌, ◌<◌, ◌≤◌, ap, sym, subst, ◌∙◌, arith, Bool, true, false, not, ◌&&◌, eqb, leb, Option, Some, None, Result, Ok, refl, pos, if◌then◌else◌}
-use Rattle.std.specs.Prelude.{option_and_then}
-use Rattle.std.specs.Bool.{MatchBool}
+use Rattle.std.proofs.Common.{◌≡◌, ℕ, ◌+◌, ◌-◌, ◌*◌, ◌/◌, ◌%◌, ◌^◌, ◌<◌, ◌≤◌}
+use Rattle.std.proofs.Common.{ap, sym, subst, ◌∙◌, arith, Bool, true, false, not, ◌&&◌, eqb, leb, Option}
+use Rattle.std.proofs.Common.{Some, None, Result, Ok, refl, pos, if◌then◌else◌}
 use Rattle.std.proofs.lemmas.Bool.{false≢true, true≢false, and_left, and_right, cond-true, le-leb, ne_eqb}
 use Rattle.std.proofs.lemmas.Nat.{mul-lt, pow_pos}
-use Rattle.rustc_apfloat.specs.Classes.{is_finite, is_negative, is_zero}
-use Rattle.rustc_apfloat.specs.Datum.{Datum, finite, infinite, nan}
-use Rattle.rustc_apfloat.specs.FusedSums.{IsFusedSum}
-use Rattle.rustc_apfloat.specs.Flags.{Gives}
-use Rattle.rustc_apfloat.specs.Lawful.{Constants, format_with, layout_with}
-use Rattle.rustc_apfloat.specs.Layout.{Layout, all_ones, fields_of, trailing_bits, written_datum}
-use Rattle.rustc_apfloat.specs.Format.{Format, smallest_normalized}
+use Rattle.std.specs.{Prelude.option_and_then, Bool.MatchBool}
+use Rattle.rustc_apfloat.specs.{Classes.is_finite, Classes.is_negative, Classes.is_zero, Datum.Datum, Datum.finite}
+use Rattle.rustc_apfloat.specs.{Datum.infinite, Datum.nan, FusedSums.IsFusedSum, Flags.Gives, Lawful.Constants}
+use Rattle.rustc_apfloat.specs.{Lawful.format_with, Lawful.layout_with, Layout.Layout, Layout.all_ones}
+use Rattle.rustc_apfloat.specs.{Layout.fields_of, Layout.trailing_bits, Layout.written_datum, Format.Format}
+use Rattle.rustc_apfloat.specs.{Format.smallest_normalized, declared.Round.Round, declared.StatusAnd.StatusAnd}
 use Rattle.apfloat_model.proofs.bits.EncodedOnce.{fields_with}
-use Rattle.rustc_apfloat.specs.declared.Round.{Round}
-use Rattle.rustc_apfloat.specs.declared.StatusAnd.{StatusAnd}
-use Rattle.apfloat_model.specs.arithmetic.Roots.{IsRoot}
-use Rattle.apfloat_model.specs.formats.Nan.{invalid_bit}
+use Rattle.apfloat_model.specs.{arithmetic.Roots.IsRoot, formats.Nan.invalid_bit}
 use Rattle.apfloat_model.specs.rounding.Answer.{IsAnswer as IsGivenDatum}
 use Rattle.apfloat_model.specs.whole_numbers.WholeNumbers.{IsRoundToIntegral}
-use Rattle.apfloat_machines.specs.declared.machine.Machine.{Machine}
-use Rattle.apfloat_machines.specs.Nans.{default_nan}
+use Rattle.apfloat_machines.specs.{declared.machine.Machine.Machine, Nans.default_nan}
 use Rattle.apfloat_machines.specs.Operations.{IsMachineFusedSum, IsMachineIntegralExact, IsMachineRoot}
-use Rattle.formats_at_run_time.specs.declared.Arithmetic.{Arithmetic}
-use Rattle.formats_at_run_time.specs.declared.Arithmetic.TheVariants.{Sum, Difference, Product, Quotient}
-use Rattle.formats_at_run_time.specs.declared.Arithmetic.TheVariants.{NearestRemainder, TruncatedRemainder}
-use Rattle.formats_at_run_time.specs.declared.FlaggedKind.{FlaggedKind}
-use Rattle.formats_at_run_time.specs.OfTwo.{IsOfTwo}
-use Rattle.formats_at_run_time.specs.Relations.{in_format}
-use Rattle.formats_at_run_time.specs.ValueKinds.{of_format, value_of}
-use Rattle.coded_calls.specs.declared.machine_call.CodedMachine.{CodedMachine}
+use Rattle.formats_at_run_time.specs.declared.Arithmetic.{Arithmetic, TheVariants.Sum}
+use Rattle.formats_at_run_time.specs.declared.Arithmetic.TheVariants.{Difference, Product, Quotient, NearestRemainder}
+use Rattle.formats_at_run_time.specs.declared.{Arithmetic.TheVariants.TruncatedRemainder, FlaggedKind.FlaggedKind}
+use Rattle.formats_at_run_time.specs.{OfTwo.IsOfTwo, Relations.in_format, ValueKinds.of_format, ValueKinds.value_of}
+use Rattle.coded_calls.specs.declared.machine_call.{CodedMachine.CodedMachine, MachineCall.MachineCall}
+use Rattle.coded_calls.specs.declared.machine_call.{MachineCall.TheVariants.Conversion, MachineFormat.MachineFormat}
+use Rattle.coded_calls.specs.declared.machine_call.MachineOperation.{MachineOperation, TheVariants.OfTwo}
+use Rattle.coded_calls.specs.declared.machine_call.MachineOperation.TheVariants.{FusedSum, SquareRoot, IntegralExact}
 use Rattle.coded_calls.specs.declared.data.Answer.{Answer}
 use Rattle.coded_calls.specs.declared.exported_call.ExportedCall.TheVariants.{OfTwo as PlainOfTwo}
 use Rattle.coded_calls.specs.declared.exported_call.ExportedCall.TheVariants.{FusedSum as PlainFusedSum}
 use Rattle.coded_calls.specs.declared.exported_call.ExportedCall.TheVariants.{SquareRoot as PlainRoot, RoundToIntegral}
-use Rattle.coded_calls.specs.declared.machine_call.MachineCall.{MachineCall}
-use Rattle.coded_calls.specs.declared.machine_call.MachineCall.TheVariants.{Conversion}
-use Rattle.coded_calls.specs.declared.machine_call.MachineFormat.{MachineFormat}
-use Rattle.coded_calls.specs.declared.machine_call.MachineOperation.{MachineOperation}
-use Rattle.coded_calls.specs.declared.machine_call.MachineOperation.TheVariants.{OfTwo, FusedSum, SquareRoot}
-use Rattle.coded_calls.specs.declared.machine_call.MachineOperation.TheVariants.{IntegralExact}
-use Rattle.coded_calls.specs.Answers.{IsKindAnswer, IsLeftBy, IsValueWritten}
-use Rattle.coded_calls.specs.KnownCalls.{answered, without}
-use Rattle.coded_calls.specs.MachineCalls.{IsMachineAnswer, IsMachineCallAnswer, IsMachineOfTwo, IsMachineReply}
-use Rattle.coded_calls.specs.MachineCalls.{MachineRequest, are_usual, are_usual_of_three, choices, conversion_call}
-use Rattle.coded_calls.specs.MachineCalls.{divides, fits, is_divisor, is_number, is_root_of, known_machine_call}
-use Rattle.coded_calls.specs.MachineCalls.{lacking_operation, machine_fault, machine_format, operands_fit}
-use Rattle.coded_calls.specs.MachineCalls.{operation_fault, operation_fault_in}
+use Rattle.coded_calls.specs.{Answers.IsKindAnswer, Answers.IsLeftBy, Answers.IsValueWritten, KnownCalls.answered}
+use Rattle.coded_calls.specs.{KnownCalls.without, MachineCalls.IsMachineAnswer, MachineCalls.IsMachineCallAnswer}
+use Rattle.coded_calls.specs.MachineCalls.{IsMachineOfTwo, IsMachineReply, MachineRequest, are_usual}
+use Rattle.coded_calls.specs.MachineCalls.{are_usual_of_three, choices, conversion_call, divides, fits, is_divisor}
+use Rattle.coded_calls.specs.MachineCalls.{is_number, is_root_of, known_machine_call, lacking_operation, machine_fault}
+use Rattle.coded_calls.specs.MachineCalls.{machine_format, operands_fit, operation_fault, operation_fault_in}
 use Rattle.coded_calls.proofs.WrittenAnswers.{answered_if}
 
 -- ---- tests

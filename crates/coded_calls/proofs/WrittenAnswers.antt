@@ -1,29 +1,20 @@
 -- What calls leave, and the exponents of fractions.
 use Rattle.std.proofs.Common.{◌≡◌, ℕ, Bool, true, false, List, None, Option, Some, refl, subst}
-use Rattle.std.proofs.Math.Path.{subst₂}
-use Rattle.std.proofs.lemmas.Bool.{and_right, false≢true, true≢false}
+use Rattle.std.proofs.{Math.Path.subst₂, lemmas.Bool.and_right, lemmas.Bool.false≢true, lemmas.Bool.true≢false}
 use Rattle.std.specs.Char.{is_ascii}
 use Rattle.apfloat_model.specs.declared.parse_error.Fault.{Fault}
-use Rattle.rustc_apfloat.specs.declared.Round.{Round}
-use Rattle.rustc_apfloat.specs.Digits.{every}
-use Rattle.rustc_apfloat.specs.Faults.{fault_of}
-use Rattle.rustc_apfloat.specs.Datum.{Datum}
-use Rattle.rustc_apfloat.specs.Formats.{double_constants}
-use Rattle.rustc_apfloat.specs.Lawful.{Constants, IsLawful, format_with}
-use Rattle.rustc_apfloat.specs.Members.{IsMember}
-use Rattle.rustc_apfloat.specs.PairFormats.{double}
-use Rattle.rustc_apfloat.specs.Pairs.{Pair, pair_of}
-use Rattle.apfloat_pair_theory.proofs.pairs.PairBits.{double_is_lawful}
 use Rattle.apfloat_model.proofs.texts.EachText.{no_fault_meaning}
-use Rattle.coded_calls.proofs.ExponentWords.{frexp_fits}
-use Rattle.coded_calls.proofs.MeaningfulTexts.{meaningful_ascii}
-use Rattle.formats_at_run_time.specs.Relations.{in_format, in_pairs}
-use Rattle.formats_at_run_time.specs.ValueKinds.{Kind, of_format, of_pairs, value_of}
-use Rattle.coded_calls.specs.declared.data.Answer.{Answer}
-use Rattle.coded_calls.specs.declared.exported_call.ExportedCall.{ExportedCall}
+use Rattle.rustc_apfloat.specs.{declared.Round.Round, Digits.every, Faults.fault_of, Datum.Datum}
+use Rattle.rustc_apfloat.specs.{Formats.double_constants, Lawful.Constants, Lawful.IsLawful, Lawful.format_with}
+use Rattle.rustc_apfloat.specs.{Members.IsMember, PairFormats.double, Pairs.Pair, Pairs.pair_of}
+use Rattle.apfloat_pair_theory.proofs.pairs.PairBits.{double_is_lawful}
+use Rattle.coded_calls.proofs.{ExponentWords.frexp_fits, MeaningfulTexts.meaningful_ascii}
+use Rattle.coded_calls.specs.declared.{data.Answer.Answer, exported_call.ExportedCall.ExportedCall}
 use Rattle.coded_calls.specs.declared.exported_call.ExportedCall.TheVariants.{Conversion, Fraction, FusedSum}
 use Rattle.coded_calls.specs.KnownCalls.{answered, is_text, unless, without}
 use Rattle.coded_calls.specs.Answers.{FractionFits, IsKindAnswer, IsLeft, IsLeftBy, IsReturned, IsTypeLeft}
+use Rattle.formats_at_run_time.specs.Relations.{in_format, in_pairs}
+use Rattle.formats_at_run_time.specs.ValueKinds.{Kind, of_format, of_pairs, value_of}
 
 -- if the test holds, a call leaves the result
 pub answered_if : (holds : Bool) (error : ℕ) (Holds : Answer → Type 0) (old answer : Answer)

@@ -1,32 +1,22 @@
 -- What a call returns.
-use Rattle.std.specs.Prelude.{⊤, FitsSigned, ◌≡◌, ℕ, ◌+◌, ◌*◌, ◌^◌, ℤ, pos, neg_ℤ, Bool, if◌then◌else◌, Option, Some}
-use Rattle.std.specs.Prelude.{None, Result, Ok, Err}
+use Rattle.std.specs.Prelude.{⊤, FitsSigned, ◌≡◌, ℕ, ◌+◌, ◌*◌, ◌^◌, ℤ, pos, neg_ℤ, Bool}
+use Rattle.std.specs.Prelude.{if◌then◌else◌, Option, Some, None, Result, Ok, Err}
 use Rattle.std.specs.Int.{w32, w128, cast_unsigned}
-use Rattle.std.specs.declared.cmp.Ordering.{Ordering}
-use Rattle.std.specs.declared.cmp.Ordering.TheVariants.{Less, Equal, Greater}
-use Rattle.rustc_apfloat.specs.declared.Category.{Category}
-use Rattle.rustc_apfloat.specs.declared.Category.TheVariants.{Infinity, NaN, Normal, Zero}
-use Rattle.rustc_apfloat.specs.declared.Round.{Round}
-use Rattle.rustc_apfloat.specs.declared.StatusAnd.{StatusAnd}
-use Rattle.rustc_apfloat.specs.Flags.{Gives, bits_of}
-use Rattle.rustc_apfloat.specs.Datum.{Datum}
-use Rattle.rustc_apfloat.specs.FusedSums.{IsFusedSum}
-use Rattle.rustc_apfloat.specs.Conversions.{IsConversion}
+use Rattle.std.specs.declared.cmp.Ordering.{Ordering, TheVariants.Less, TheVariants.Equal, TheVariants.Greater}
+use Rattle.rustc_apfloat.specs.declared.Category.{Category, TheVariants.Infinity, TheVariants.NaN, TheVariants.Normal}
+use Rattle.rustc_apfloat.specs.declared.{Category.TheVariants.Zero, Round.Round, StatusAnd.StatusAnd}
+use Rattle.rustc_apfloat.specs.{Flags.Gives, Flags.bits_of, Datum.Datum, FusedSums.IsFusedSum, Conversions.IsConversion}
 use Rattle.rustc_apfloat.specs.Lawful.{Constants, format_with}
-use Rattle.coded_calls.specs.declared.data.Halves.{Halves}
-use Rattle.coded_calls.specs.declared.data.Answer.{Answer}
-use Rattle.formats_at_run_time.specs.declared.FlaggedKind.{FlaggedKind}
-use Rattle.formats_at_run_time.specs.FlaggedKinds.{flagged_kind_of}
-use Rattle.formats_at_run_time.specs.ValueKinds.{Kind, of_format, of_pairs, value_of}
-use Rattle.formats_at_run_time.specs.OfTwo.{IsOfTwo}
-use Rattle.formats_at_run_time.specs.Relations.{Relations, in_format, in_pairs}
-use Rattle.coded_calls.specs.declared.exported_call.ExportedCall.{ExportedCall}
+use Rattle.coded_calls.specs.declared.{data.Halves.Halves, data.Answer.Answer, exported_call.ExportedCall.ExportedCall}
 use Rattle.coded_calls.specs.declared.exported_call.ExportedCall.TheVariants.{OfTwo, FusedSum, SquareRoot, FromUnsigned}
 use Rattle.coded_calls.specs.declared.exported_call.ExportedCall.TheVariants.{FromSigned, ToUnsigned, ToSigned}
 use Rattle.coded_calls.specs.declared.exported_call.ExportedCall.TheVariants.{RoundToIntegral, Scaling, Fraction}
 use Rattle.coded_calls.specs.declared.exported_call.ExportedCall.TheVariants.{Exponent, NextUp, NextDown, Comparison}
 use Rattle.coded_calls.specs.declared.exported_call.ExportedCall.TheVariants.{Class, Conversion, Text}
 use Rattle.coded_calls.specs.KnownCalls.{KnownCall, answered, fault_in, type_fault}
+use Rattle.formats_at_run_time.specs.{declared.FlaggedKind.FlaggedKind, FlaggedKinds.flagged_kind_of}
+use Rattle.formats_at_run_time.specs.ValueKinds.{Kind, of_format, of_pairs, value_of}
+use Rattle.formats_at_run_time.specs.{OfTwo.IsOfTwo, Relations.Relations, Relations.in_format, Relations.in_pairs}
 
 -- the number that two halves represent
 abbrev pub whole : Halves → ℕ

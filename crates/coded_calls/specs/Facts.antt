@@ -3,12 +3,9 @@ use Rattle.std.specs.Prelude.{◌≡◌, ℕ, ◌-◌, ◌^◌, ◌<◌, ◌≤�
 use Rattle.apfloat_model.specs.declared.kinds.NonfiniteBehavior.{NonfiniteBehavior}
 use Rattle.apfloat_model.specs.declared.kinds.NonfiniteBehavior.TheVariants.{IEEE754, NanOnly, NanNegativeZero}
 use Rattle.rustc_apfloat.specs.Constants.{largest_datum, smallest_datum, smallest_normalized_datum}
-use Rattle.rustc_apfloat.specs.Layout.{IsEncodedBy}
-use Rattle.rustc_apfloat.specs.Datum.{Datum}
+use Rattle.rustc_apfloat.specs.{Layout.IsEncodedBy, Datum.Datum}
 use Rattle.rustc_apfloat.specs.Lawful.{Constants, format_with, layout_with}
-use Rattle.coded_calls.specs.declared.data.Halves.{Halves}
-use Rattle.coded_calls.specs.declared.facts.Facts.{Facts}
-use Rattle.coded_calls.specs.Answers.{whole}
+use Rattle.coded_calls.specs.{declared.data.Halves.Halves, declared.facts.Facts.Facts, Answers.whole}
 
 abbrev pub has_infinities_code : NonfiniteBehavior → ℕ
 has_infinities_code IEEE754 = 1

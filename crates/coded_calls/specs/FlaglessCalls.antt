@@ -5,14 +5,10 @@ use Rattle.rustc_apfloat.specs.Meaning.{Meaning}
 use Rattle.rustc_apfloat.specs.Predicates.{max_by, maximum_by, min_by, minimum_by, signed_like}
 use Rattle.formats_at_run_time.specs.declared.BuiltInKind.{BuiltInKind}
 use Rattle.formats_at_run_time.specs.declared.BuiltInKind.TheVariants.{OfFormat as OfBuiltIn, Pairs as PairsOfDoubles}
-use Rattle.formats_at_run_time.specs.declared.FlaggedKind.{FlaggedKind}
-use Rattle.formats_at_run_time.specs.declared.FlaggedKind.TheVariants.{OfFormat, Pairs}
-use Rattle.formats_at_run_time.specs.BuiltIns.{kind_of}
-use Rattle.formats_at_run_time.specs.FlaggedKinds.{format_without_rule}
-use Rattle.formats_at_run_time.specs.Relations.{in_format, in_pairs}
-use Rattle.formats_at_run_time.specs.ValueKinds.{Kind, of_format, of_pairs}
-use Rattle.coded_calls.specs.declared.data.Answer.{Answer}
-use Rattle.coded_calls.specs.declared.flagless_call.FlaglessCall.{FlaglessCall}
+use Rattle.formats_at_run_time.specs.declared.FlaggedKind.{FlaggedKind, TheVariants.OfFormat, TheVariants.Pairs}
+use Rattle.formats_at_run_time.specs.{BuiltIns.kind_of, FlaggedKinds.format_without_rule, Relations.in_format}
+use Rattle.formats_at_run_time.specs.{Relations.in_pairs, ValueKinds.Kind, ValueKinds.of_format, ValueKinds.of_pairs}
+use Rattle.coded_calls.specs.declared.{data.Answer.Answer, flagless_call.FlaglessCall.FlaglessCall}
 use Rattle.coded_calls.specs.declared.flagless_call.FlaglessCall.TheVariants.{Negation, AbsoluteValue, SignCopy}
 use Rattle.coded_calls.specs.declared.flagless_call.FlaglessCall.TheVariants.{LesserNumber, GreaterNumber, Minimum}
 use Rattle.coded_calls.specs.declared.flagless_call.FlaglessCall.TheVariants.{Maximum, QuietNan, SignalingNan, SignTest}

@@ -1,44 +1,30 @@
 -- The operations of IEEE 754-2019 that `Float` lacks, as the exports make them.
 use Rattle.std.specs.Prelude.{◌≡◌, ℕ, Bool, true, false, Option, Some, None, [], ◌∷◌}
-use Rattle.rustc_apfloat.specs.declared.Round.{Round}
-use Rattle.rustc_apfloat.specs.declared.StatusAnd.{StatusAnd}
-use Rattle.rustc_apfloat.specs.Datum.{Datum}
-use Rattle.rustc_apfloat.specs.Flags.{Gives, bits_of}
-use Rattle.rustc_apfloat.specs.Format.{Format}
-use Rattle.rustc_apfloat.specs.Lawful.{Constants, format_with}
+use Rattle.rustc_apfloat.specs.{declared.Round.Round, declared.StatusAnd.StatusAnd, Datum.Datum, Flags.Gives}
+use Rattle.rustc_apfloat.specs.{Flags.bits_of, Format.Format, Lawful.Constants, Lawful.format_with}
 use Rattle.apfloat_conversions.specs.Scalings.{IsScaled}
-use Rattle.apfloat_arithmetic.specs.other_formats.FormatOf.{IsSumTo, IsDifferenceTo, IsProductTo, IsQuotientTo, IsFusedSumTo}
-use Rattle.apfloat_arithmetic.specs.other_formats.RootsOf.{IsRootTo}
-use Rattle.ieee_operations.specs.declared.extrema.Extremum.{Extremum}
-use Rattle.ieee_operations.specs.declared.extrema.Extremum.TheVariants.{Minimum, Maximum}
-use Rattle.ieee_operations.specs.declared.extrema.Extremum.TheVariants.{MinimumMagnitude, MaximumMagnitude}
-use Rattle.ieee_operations.specs.declared.predicates.OnNan.{OnNan}
-use Rattle.ieee_operations.specs.declared.predicates.OnNan.TheVariants.{Quiet, Signaling}
-use Rattle.ieee_operations.specs.declared.predicates.Predicate.{Predicate}
-use Rattle.ieee_operations.specs.declared.predicates.Predicate.TheVariants.{Equal, NotEqual, Unordered}
-use Rattle.ieee_operations.specs.declared.predicates.Predicate.TheVariants.{Ordered, Greater, GreaterEqual}
-use Rattle.ieee_operations.specs.declared.predicates.Predicate.TheVariants.{NotGreater}
-use Rattle.ieee_operations.specs.declared.predicates.Predicate.TheVariants.{Less, LessEqual, NotLess}
-use Rattle.ieee_operations.specs.declared.predicates.Predicate.TheVariants.{LessUnordered, GreaterUnordered}
-use Rattle.ieee_operations.specs.Comparisons.{IsComparison}
-use Rattle.ieee_operations.specs.Exponents.{IsLogB}
-use Rattle.ieee_operations.specs.Extrema.{IsExtremum, IsExtremumNumber}
-use Rattle.ieee_operations.specs.TotalOrder.{total_cmp}
-use Rattle.ieee_operations.specs.WholeNumbers.{IsRoundedToIntegral}
-use Rattle.formats_at_run_time.specs.declared.FlaggedFormat.{FlaggedFormat}
-use Rattle.formats_at_run_time.specs.declared.FlaggedKind.{FlaggedKind}
+use Rattle.apfloat_arithmetic.specs.other_formats.FormatOf.{IsSumTo, IsDifferenceTo, IsProductTo, IsQuotientTo}
+use Rattle.apfloat_arithmetic.specs.other_formats.{FormatOf.IsFusedSumTo, RootsOf.IsRootTo}
+use Rattle.ieee_operations.specs.declared.extrema.Extremum.{Extremum, TheVariants.Minimum}
+use Rattle.ieee_operations.specs.declared.extrema.Extremum.TheVariants.{Maximum, MinimumMagnitude, MaximumMagnitude}
+use Rattle.ieee_operations.specs.declared.predicates.OnNan.{OnNan, TheVariants.Quiet, TheVariants.Signaling}
+use Rattle.ieee_operations.specs.declared.predicates.Predicate.{Predicate, TheVariants.Equal}
+use Rattle.ieee_operations.specs.declared.predicates.Predicate.TheVariants.{NotEqual, Unordered, Ordered, Greater}
+use Rattle.ieee_operations.specs.declared.predicates.Predicate.TheVariants.{GreaterEqual, NotGreater, Less, LessEqual}
+use Rattle.ieee_operations.specs.declared.predicates.Predicate.TheVariants.{NotLess, LessUnordered, GreaterUnordered}
+use Rattle.ieee_operations.specs.{Comparisons.IsComparison, Exponents.IsLogB, Extrema.IsExtremum}
+use Rattle.ieee_operations.specs.{Extrema.IsExtremumNumber, TotalOrder.total_cmp, WholeNumbers.IsRoundedToIntegral}
+use Rattle.formats_at_run_time.specs.declared.{FlaggedFormat.FlaggedFormat, FlaggedKind.FlaggedKind}
 use Rattle.formats_at_run_time.specs.declared.FlaggedKind.TheVariants.{OfFormat, Pairs}
 use Rattle.formats_at_run_time.specs.BuiltIns.{constants_in}
 use Rattle.formats_at_run_time.specs.FlaggedKinds.{flagged_constants, flagged_kind_of, format_without_rule}
 use Rattle.formats_at_run_time.specs.Relations.{in_format}
 use Rattle.formats_at_run_time.specs.ValueKinds.{Kind, of_format, of_pairs, value_of}
-use Rattle.coded_calls.specs.declared.data.Answer.{Answer}
-use Rattle.coded_calls.specs.declared.ieee_call.IeeeCall.{IeeeCall}
-use Rattle.coded_calls.specs.declared.ieee_call.IeeeCall.TheVariants.{Predicated, TotalOrder, ExtremumOf}
-use Rattle.coded_calls.specs.declared.ieee_call.IeeeCall.TheVariants.{LogB, ScaleB, Integral}
-use Rattle.coded_calls.specs.declared.ieee_call.InAnotherCall.{InAnotherCall}
-use Rattle.coded_calls.specs.declared.ieee_call.InAnotherCall.TheVariants.{SumTo, DifferenceTo, ProductTo}
-use Rattle.coded_calls.specs.declared.ieee_call.InAnotherCall.TheVariants.{QuotientTo, FusedSumTo, RootTo}
+use Rattle.coded_calls.specs.declared.{data.Answer.Answer, ieee_call.IeeeCall.IeeeCall}
+use Rattle.coded_calls.specs.declared.ieee_call.IeeeCall.TheVariants.{Predicated, TotalOrder, ExtremumOf, LogB, ScaleB}
+use Rattle.coded_calls.specs.declared.ieee_call.{IeeeCall.TheVariants.Integral, InAnotherCall.InAnotherCall}
+use Rattle.coded_calls.specs.declared.ieee_call.InAnotherCall.TheVariants.{SumTo, DifferenceTo, ProductTo, QuotientTo}
+use Rattle.coded_calls.specs.declared.ieee_call.InAnotherCall.TheVariants.{FusedSumTo, RootTo}
 use Rattle.coded_calls.specs.Answers.{IsNumberAlone, IsValue, one_if, order_code, whole}
 use Rattle.coded_calls.specs.KnownCalls.{counted, answered, unknown_format, unknown_mode, no_such_operation}
 

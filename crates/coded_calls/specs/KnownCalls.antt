@@ -1,18 +1,14 @@
 -- What a call asks for, or its error.
-use Rattle.std.specs.Prelude.{ℕ, ◌+◌, ◌==◌, Bool, ◌&&◌, nat_le, if◌then◌else◌, List, [], ◌∷◌, Option, is_none}
-use Rattle.std.specs.Prelude.{Some, None, ok_or, Result, Ok, Err}
-use Rattle.rustc_apfloat.specs.declared.Round.{Round}
+use Rattle.std.specs.Prelude.{ℕ, ◌+◌, ◌==◌, Bool, ◌&&◌, nat_le, if◌then◌else◌, List, [], ◌∷◌}
+use Rattle.std.specs.Prelude.{Option, is_none, Some, None, ok_or, Result, Ok, Err}
 use Rattle.std.specs.Char.{is_ascii}
-use Rattle.rustc_apfloat.specs.Digits.{every}
-use Rattle.rustc_apfloat.specs.Faults.{fault_of}
-use Rattle.formats_at_run_time.specs.declared.BuiltInFormat.{BuiltInFormat}
-use Rattle.formats_at_run_time.specs.declared.FlaggedKind.{FlaggedKind}
+use Rattle.rustc_apfloat.specs.{declared.Round.Round, Digits.every, Faults.fault_of}
+use Rattle.formats_at_run_time.specs.declared.{BuiltInFormat.BuiltInFormat, FlaggedKind.FlaggedKind}
 use Rattle.formats_at_run_time.specs.declared.FlaggedKind.TheVariants.{OfFormat, Pairs}
 use Rattle.formats_at_run_time.specs.FlaggedKinds.{flagged_kind_of, format_without_rule}
 use Rattle.formats_at_run_time.specs.ValueKinds.{Kind, of_format, of_pairs}
-use Rattle.coded_calls.specs.declared.exported_call.ExportedCall.{ExportedCall}
-use Rattle.coded_calls.specs.declared.exported_call.ExportedCall.TheVariants.{FusedSum, ToUnsigned, ToSigned}
-use Rattle.coded_calls.specs.declared.exported_call.ExportedCall.TheVariants.{Conversion, Text}
+use Rattle.coded_calls.specs.declared.exported_call.ExportedCall.{ExportedCall, TheVariants.FusedSum}
+use Rattle.coded_calls.specs.declared.exported_call.ExportedCall.TheVariants.{ToUnsigned, ToSigned, Conversion, Text}
 
 -- ---- codes
 

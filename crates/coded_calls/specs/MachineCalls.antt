@@ -1,23 +1,18 @@
 -- The operations of machines, as their export makes them.
-use Rattle.std.specs.Prelude.{◌≡◌, ℕ, ◌^◌, ◌==◌, ltb, pos, Bool, true, false, not, ◌&&◌, if◌then◌else◌}
-use Rattle.std.specs.Prelude.{Option, Some, None, ok_or, option_and_then, option_map, Result, Ok, Err, [], ◌∷◌}
+use Rattle.std.specs.Prelude.{◌≡◌, ℕ, ◌^◌, ◌==◌, ltb, pos, Bool, true, false, not, ◌&&◌}
+use Rattle.std.specs.Prelude.{if◌then◌else◌, Option, Some, None, ok_or, option_and_then, option_map, Result, Ok}
+use Rattle.std.specs.Prelude.{Err, [], ◌∷◌}
 use Rattle.std.specs.Int.{w128, cast_unsigned}
 use Rattle.apfloat_model.specs.declared.kinds.NonfiniteBehavior.TheVariants.{IEEE754}
-use Rattle.rustc_apfloat.specs.declared.Round.{Round}
-use Rattle.rustc_apfloat.specs.declared.StatusAnd.{StatusAnd}
-use Rattle.rustc_apfloat.specs.Classes.{is_finite, is_negative, is_zero}
-use Rattle.rustc_apfloat.specs.Datum.{Datum}
-use Rattle.rustc_apfloat.specs.Flags.{Gives, bits_of}
-use Rattle.rustc_apfloat.specs.Format.{Format}
-use Rattle.rustc_apfloat.specs.Lawful.{Constants, format_with}
-use Rattle.apfloat_machines.specs.declared.machine.Machine.{Machine}
-use Rattle.apfloat_machines.specs.declared.minima.MinimumRule.{MinimumRule}
-use Rattle.apfloat_machines.specs.declared.minima.MinimumRule.TheVariants.{Second, SecondQuietly, FirstNan}
-use Rattle.apfloat_machines.specs.declared.minima.MinimumRule.TheVariants.{Number2008, Number2019, Propagated}
+use Rattle.rustc_apfloat.specs.declared.{Round.Round, StatusAnd.StatusAnd}
+use Rattle.rustc_apfloat.specs.{Classes.is_finite, Classes.is_negative, Classes.is_zero, Datum.Datum, Flags.Gives}
+use Rattle.rustc_apfloat.specs.{Flags.bits_of, Format.Format, Lawful.Constants, Lawful.format_with}
+use Rattle.apfloat_machines.specs.declared.{machine.Machine.Machine, minima.MinimumRule.MinimumRule}
+use Rattle.apfloat_machines.specs.declared.minima.MinimumRule.TheVariants.{Second, SecondQuietly, FirstNan, Number2008}
+use Rattle.apfloat_machines.specs.declared.minima.MinimumRule.TheVariants.{Number2019, Propagated}
 use Rattle.apfloat_machines.specs.Conversions.{IsMachineConversion}
-use Rattle.apfloat_machines.specs.Machines.{x86, x87, arm, arm_default_nan, arm_alternate}
-use Rattle.apfloat_machines.specs.Machines.{arm_alternate_default_nan, risc_v, power, s390x, webassembly, ptx}
-use Rattle.apfloat_machines.specs.Machines.{mips_2008, loongarch, sparc, m68k}
+use Rattle.apfloat_machines.specs.Machines.{x86, x87, arm, arm_default_nan, arm_alternate, arm_alternate_default_nan}
+use Rattle.apfloat_machines.specs.Machines.{risc_v, power, s390x, webassembly, ptx, mips_2008, loongarch, sparc, m68k}
 use Rattle.apfloat_machines.specs.Minima.{IsLeast, IsGreatest}
 use Rattle.apfloat_machines.specs.Operations.{IsMachineSum, IsMachineDifference, IsMachineProduct, IsMachineQuotient}
 use Rattle.apfloat_machines.specs.Operations.{IsMachineTruncatedRemainder, IsMachineNearestRemainder, IsMachineRoot}
@@ -29,28 +24,22 @@ use Rattle.formats_at_run_time.specs.declared.Arithmetic.TheVariants.{NearestRem
 use Rattle.formats_at_run_time.specs.declared.BuiltInKind.TheVariants.{OfFormat as OfBuiltIn}
 use Rattle.formats_at_run_time.specs.declared.FlaggedFormat.{FlaggedFormat}
 use Rattle.formats_at_run_time.specs.declared.FlaggedFormat.TheVariants.{BuiltIn, AfterRounding, BeforeRounding}
-use Rattle.formats_at_run_time.specs.declared.FlaggedKind.{FlaggedKind}
-use Rattle.formats_at_run_time.specs.declared.FlaggedKind.TheVariants.{OfFormat, Pairs}
-use Rattle.formats_at_run_time.specs.declared.IeeeFormat.{IeeeFormat}
-use Rattle.formats_at_run_time.specs.BuiltIns.{constants_in, kind_coded}
+use Rattle.formats_at_run_time.specs.declared.FlaggedKind.{FlaggedKind, TheVariants.OfFormat, TheVariants.Pairs}
+use Rattle.formats_at_run_time.specs.{declared.IeeeFormat.IeeeFormat, BuiltIns.constants_in, BuiltIns.kind_coded}
 use Rattle.formats_at_run_time.specs.FlaggedKinds.{flagged_constants, flagged_kind_coded, format_of_ieee}
-use Rattle.formats_at_run_time.specs.FlaggedKinds.{ieee_format_in}
-use Rattle.formats_at_run_time.specs.Relations.{in_format}
+use Rattle.formats_at_run_time.specs.{FlaggedKinds.ieee_format_in, Relations.in_format}
 use Rattle.formats_at_run_time.specs.ValueKinds.{Kind, of_format, of_pairs, value_of}
-use Rattle.coded_calls.specs.declared.data.Answer.{Answer}
-use Rattle.coded_calls.specs.declared.machine_call.CodedMachine.{CodedMachine}
+use Rattle.coded_calls.specs.declared.{data.Answer.Answer, machine_call.CodedMachine.CodedMachine}
 use Rattle.coded_calls.specs.declared.machine_call.CodedMachine.TheVariants.{X86, X87, Arm, ArmDefaultNan, ArmAlternate}
 use Rattle.coded_calls.specs.declared.machine_call.CodedMachine.TheVariants.{RiscV, Power, S390x}
 use Rattle.coded_calls.specs.declared.machine_call.CodedMachine.TheVariants.{ArmAlternateDefaultNan, Webassembly, Ptx}
 use Rattle.coded_calls.specs.declared.machine_call.CodedMachine.TheVariants.{Mips2008, Loongarch, Sparc, M68k}
-use Rattle.coded_calls.specs.declared.machine_call.MachineCall.{MachineCall}
-use Rattle.coded_calls.specs.declared.machine_call.MachineCall.TheVariants.{Operation, Conversion}
-use Rattle.coded_calls.specs.declared.machine_call.MachineFormat.{MachineFormat}
-use Rattle.coded_calls.specs.declared.machine_call.MachineOperation.{MachineOperation}
-use Rattle.coded_calls.specs.declared.machine_call.MachineOperation.TheVariants.{OfTwo, FusedSum, SquareRoot}
-use Rattle.coded_calls.specs.declared.machine_call.MachineOperation.TheVariants.{IntegralExact, Integral, ToUnsigned}
-use Rattle.coded_calls.specs.declared.machine_call.MachineOperation.TheVariants.{ToSigned, Least, Greatest}
-use Rattle.coded_calls.specs.declared.machine_call.OneOperation.{OneOperation}
+use Rattle.coded_calls.specs.declared.machine_call.MachineCall.{MachineCall, TheVariants.Operation}
+use Rattle.coded_calls.specs.declared.machine_call.{MachineCall.TheVariants.Conversion, MachineFormat.MachineFormat}
+use Rattle.coded_calls.specs.declared.machine_call.MachineOperation.{MachineOperation, TheVariants.OfTwo}
+use Rattle.coded_calls.specs.declared.machine_call.MachineOperation.TheVariants.{FusedSum, SquareRoot, IntegralExact}
+use Rattle.coded_calls.specs.declared.machine_call.MachineOperation.TheVariants.{Integral, ToUnsigned, ToSigned, Least}
+use Rattle.coded_calls.specs.declared.machine_call.{MachineOperation.TheVariants.Greatest, OneOperation.OneOperation}
 use Rattle.coded_calls.specs.declared.machine_call.OneOperation.TheVariants.{SquareRoot as SquareRootOf}
 use Rattle.coded_calls.specs.declared.machine_call.OneOperation.TheVariants.{IntegralExact as IntegralExactOf}
 use Rattle.coded_calls.specs.declared.machine_call.OneOperation.TheVariants.{Integral as IntegralOf}

@@ -2,20 +2,13 @@
 use Rattle.std.specs.Prelude.{◌≡◌, ℕ, Option, Result}
 use Rattle.rustc_apfloat.specs.declared.Round.{Round}
 use Rattle.formats_at_run_time.specs.declared.FlaggedKind.{FlaggedKind}
-use Rattle.coded_calls.specs.declared.data.Answer.{Answer}
-use Rattle.coded_calls.specs.declared.data.Halves.{Halves}
-use Rattle.coded_calls.specs.declared.exported_call.ExportedCall.{ExportedCall}
-use Rattle.coded_calls.specs.declared.flagless_call.FlaglessCall.{FlaglessCall}
-use Rattle.coded_calls.specs.declared.ieee_call.IeeeCall.{IeeeCall}
-use Rattle.coded_calls.specs.declared.ieee_call.InAnotherCall.{InAnotherCall}
-use Rattle.coded_calls.specs.declared.p3109.P3109Call.{P3109Call}
-use Rattle.coded_calls.specs.Answers.{IsReturned, whole}
-use Rattle.coded_calls.specs.Augmented.{IsAugmentedCall, IsPayloadCall, KnownAugmentation, KnownPayload}
-use Rattle.coded_calls.specs.FlaglessCalls.{IsFlaglessReply}
-use Rattle.coded_calls.specs.IeeeCalls.{IsIeeeReply, IsInAnotherReply}
-use Rattle.coded_calls.specs.KnownCalls.{known_call}
-use Rattle.coded_calls.specs.MachineCalls.{IsMachineReply, MachineRequest}
-use Rattle.coded_calls.specs.P3109.{IsP3109Reply}
+use Rattle.coded_calls.specs.declared.{data.Answer.Answer, data.Halves.Halves, exported_call.ExportedCall.ExportedCall}
+use Rattle.coded_calls.specs.declared.{flagless_call.FlaglessCall.FlaglessCall, ieee_call.IeeeCall.IeeeCall}
+use Rattle.coded_calls.specs.declared.{ieee_call.InAnotherCall.InAnotherCall, p3109.P3109Call.P3109Call}
+use Rattle.coded_calls.specs.{Answers.IsReturned, Answers.whole, Augmented.IsAugmentedCall, Augmented.IsPayloadCall}
+use Rattle.coded_calls.specs.{Augmented.KnownAugmentation, Augmented.KnownPayload, FlaglessCalls.IsFlaglessReply}
+use Rattle.coded_calls.specs.{IeeeCalls.IsIeeeReply, IeeeCalls.IsInAnotherReply, KnownCalls.known_call}
+use Rattle.coded_calls.specs.{MachineCalls.IsMachineReply, MachineCalls.MachineRequest, P3109.IsP3109Reply}
 
 -- two results with the same number of 128 bits, the same flags, and the same extra number
 pub record SameAnswer (first second : Answer) : Type 0 where

@@ -2,17 +2,15 @@
 //! argument, so that the operands stay in the registers in which C passes them.
 
 ghost use Rattle.std.specs.Prelude.{◌≡◌, ◌<◌, eqb, not, pos};
-ghost use Rattle.rustc_apfloat.specs.Flags.{bits_of};
-ghost use Rattle.rustc_apfloat.specs.FlaggedTypes.{constants_of};
+ghost use Rattle.rustc_apfloat.specs.{Flags.bits_of, FlaggedTypes.constants_of};
 ghost use Rattle.formats_at_run_time.specs.declared.Arithmetic.TheVariants.{Sum, Difference, Product, Quotient};
 ghost use Rattle.formats_at_run_time.specs.declared.Arithmetic.TheVariants.{NearestRemainder, TruncatedRemainder};
-ghost use Rattle.formats_at_run_time.specs.Relations.{relations_of};
-ghost use Rattle.formats_at_run_time.specs.ValueKinds.{of_format, value_of};
+ghost use Rattle.formats_at_run_time.specs.{Relations.relations_of, ValueKinds.of_format, ValueKinds.value_of};
 ghost use Rattle.coded_calls.specs.declared.exported_call.ExportedCall.TheVariants.{OfTwo, FusedSum, SquareRoot};
 ghost use Rattle.coded_calls.specs.declared.exported_call.ExportedCall.TheVariants.{FromUnsigned, FromSigned};
 ghost use Rattle.coded_calls.specs.declared.exported_call.ExportedCall.TheVariants.{ToUnsigned, ToSigned};
-ghost use Rattle.coded_calls.specs.declared.exported_call.ExportedCall.TheVariants.{RoundToIntegral, Scaling};
-ghost use Rattle.coded_calls.specs.declared.exported_call.ExportedCall.TheVariants.{Fraction, Conversion, Text};
+ghost use Rattle.coded_calls.specs.declared.exported_call.ExportedCall.TheVariants.{RoundToIntegral, Scaling, Fraction};
+ghost use Rattle.coded_calls.specs.declared.exported_call.ExportedCall.TheVariants.{Conversion, Text};
 ghost use Rattle.coded_calls.specs.Answers.{FractionFits, IsConvertedInto, IsKindAnswer, IsLeft, IsNumberAlone};
 ghost use Rattle.coded_calls.specs.Answers.{IsTypeAnswer, IsTypeLeft, IsValue, IsValueWritten, class_of, one_if};
 ghost use Rattle.coded_calls.specs.Answers.{order_code, whole};

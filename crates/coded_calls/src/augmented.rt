@@ -1,8 +1,7 @@
 //! Augmented operations, whose two results are together the exact one, and payloads of NaNs.
 
 ghost use Rattle.std.specs.Prelude.{◌≡◌, ◌<◌};
-ghost use Rattle.formats_at_run_time.specs.FlaggedKinds.{flagged_kind_coded};
-ghost use Rattle.formats_at_run_time.specs.FormatKinds.{IfFormat};
+ghost use Rattle.formats_at_run_time.specs.{FlaggedKinds.flagged_kind_coded, FormatKinds.IfFormat};
 ghost use Rattle.rustc_apfloat.specs.Types.{constants_of};
 ghost use Rattle.coded_calls.specs.Answers.{whole};
 ghost use Rattle.coded_calls.specs.Augmented.{AreParts, IsAugmentedCall, IsPayloadCall, IsPayloadIn};

@@ -1,9 +1,7 @@
 //! Makes a call in the kind of values that a code names.
 
-ghost use Rattle.formats_at_run_time.specs.FlaggedKinds.{flagged_kind_coded};
-ghost use Rattle.formats_at_run_time.specs.Modes.{mode_coded};
-ghost use Rattle.coded_calls.specs.KnownCalls.{known_call};
-ghost use Rattle.coded_calls.specs.Answers.{IsReturned};
+ghost use Rattle.formats_at_run_time.specs.{FlaggedKinds.flagged_kind_coded, Modes.mode_coded};
+ghost use Rattle.coded_calls.specs.{KnownCalls.known_call, Answers.IsReturned};
 
 use crate::codes::UNKNOWN_FORMAT;
 use crate::data::Answer;

@@ -5,8 +5,7 @@ ghost use Rattle.std.specs.Prelude.{◌≡◌, ◌/◌, ◌%◌, option_map, Som
 ghost use Rattle.rustc_apfloat.specs.Lawful.{Constants};
 ghost use Rattle.formats_at_run_time.specs.declared.flagged.IeeeFormat.{IeeeFormat};
 ghost use Rattle.formats_at_run_time.specs.FlaggedKinds.{after_rounding, before_rounding, format_of_ieee};
-ghost use Rattle.formats_at_run_time.specs.BuiltIns.{constants_in};
-ghost use Rattle.formats_at_run_time.specs.ValueKinds.{of_format};
+ghost use Rattle.formats_at_run_time.specs.{BuiltIns.constants_in, ValueKinds.of_format};
 ghost use Rattle.coded_calls.specs.MachineCalls.{IsFilledIn, ieee_format_coded, kind_on, kind_without_rule};
 ghost use Rattle.coded_calls.specs.MachineCalls.{machine_format_coded, tiny_before_coded};
 

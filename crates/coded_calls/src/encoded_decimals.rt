@@ -1,13 +1,11 @@
 //! Decimal texts, read into encodings.
 
 ghost use Rattle.std.specs.Prelude.{◌≡◌, ◌*◌, ◌^◌, ◌<◌, pos, ◌+ℤ◌, IfSome, MatchResult};
-ghost use Rattle.apfloat_model.specs.rounding.Bounds.{IsWithin, unit_bound};
-ghost use Rattle.apfloat_model.specs.rounding.Standing.{up, down};
+ghost use Rattle.apfloat_model.specs.rounding.{Bounds.IsWithin, Bounds.unit_bound, Standing.up, Standing.down};
 ghost use Rattle.rustc_apfloat.specs.FlaggedTypes.{constants_of, format_of};
 ghost use Rattle.apfloat_decimals.specs.Decimals.{HasQuadExponents};
 ghost use Rattle.apfloat_decimals.specs.DecimalTexts.{IsDecimalReading, IsDecimalRefusal};
-ghost use Rattle.fast_bits.specs.Encoded.{IsEncodedAnswer, IsEncodedNumber};
-ghost use Rattle.fast_bits.specs.Numbers.{FitsWord};
+ghost use Rattle.fast_bits.specs.{Encoded.IsEncodedAnswer, Encoded.IsEncodedNumber, Numbers.FitsWord};
 
 use apfloat_decimals::{ShortNumeral, read_decimal_ascii, rounded_to_odd, short_numeral};
 use fast_bits::{Encoded, encode_odd, fits_word};

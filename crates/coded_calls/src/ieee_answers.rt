@@ -1,12 +1,10 @@
 //! The results of the operations of IEEE 754-2019 that `Float` lacks, in a format.
 
 ghost use Rattle.std.specs.Prelude.{◌≡◌, ◌<◌, pos};
-ghost use Rattle.rustc_apfloat.specs.Flags.{bits_of};
-ghost use Rattle.rustc_apfloat.specs.FlaggedTypes.{constants_of};
-ghost use Rattle.formats_at_run_time.specs.Relations.{in_format};
-ghost use Rattle.formats_at_run_time.specs.ValueKinds.{value_of};
-ghost use Rattle.coded_calls.specs.declared.ieee_call.IeeeCall.TheVariants.{Predicated, TotalOrder, ExtremumOf};
-ghost use Rattle.coded_calls.specs.declared.ieee_call.IeeeCall.TheVariants.{LogB, ScaleB, Integral};
+ghost use Rattle.rustc_apfloat.specs.{Flags.bits_of, FlaggedTypes.constants_of};
+ghost use Rattle.formats_at_run_time.specs.{Relations.in_format, ValueKinds.value_of};
+ghost use Rattle.coded_calls.specs.declared.ieee_call.IeeeCall.TheVariants.{Predicated, TotalOrder, ExtremumOf, LogB};
+ghost use Rattle.coded_calls.specs.declared.ieee_call.IeeeCall.TheVariants.{ScaleB, Integral};
 ghost use Rattle.coded_calls.specs.declared.ieee_call.InAnotherCall.TheVariants.{SumTo, DifferenceTo, ProductTo};
 ghost use Rattle.coded_calls.specs.declared.ieee_call.InAnotherCall.TheVariants.{QuotientTo, FusedSumTo, RootTo};
 ghost use Rattle.coded_calls.specs.Answers.{IsValueWritten, one_if, whole};

@@ -3,10 +3,8 @@
 
 ghost use Rattle.std.specs.Prelude.{◌≡◌, ℕ, IfSome, Some, Ok};
 ghost use Rattle.formats_at_run_time.specs.FlaggedKinds.{flagged_constants, flagged_kind_coded};
-ghost use Rattle.formats_at_run_time.specs.Modes.{mode_coded};
-ghost use Rattle.formats_at_run_time.specs.ValueKinds.{of_format};
-ghost use Rattle.coded_calls.specs.Answers.{whole};
-ghost use Rattle.coded_calls.specs.declared.machine_call.MachineCall.TheVariants.{Operation};
+ghost use Rattle.formats_at_run_time.specs.{Modes.mode_coded, ValueKinds.of_format};
+ghost use Rattle.coded_calls.specs.{Answers.whole, declared.machine_call.MachineCall.TheVariants.Operation};
 ghost use Rattle.coded_calls.specs.declared.machine_call.MachineOperation.TheVariants.{OfTwo};
 ghost use Rattle.coded_calls.specs.MachineCalls.{choices, conversion_call, format_on, is_tiny_before, machine_call};
 ghost use Rattle.coded_calls.specs.MachineCalls.{machine_coded, machine_format, machine_operation, of_one};

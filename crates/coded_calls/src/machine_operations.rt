@@ -2,32 +2,28 @@
 
 ghost use Rattle.std.specs.Prelude.{◌≡◌, ◌<◌, ◌≤◌, true, Ok};
 ghost use Rattle.apfloat_model.specs.declared.kinds.NonfiniteBehavior.TheVariants.{IEEE754};
-ghost use Rattle.rustc_apfloat.specs.Flags.{Gives};
-ghost use Rattle.rustc_apfloat.specs.FlaggedTypes.{constants_of, format_of};
+ghost use Rattle.rustc_apfloat.specs.{Flags.Gives, FlaggedTypes.constants_of, FlaggedTypes.format_of};
 ghost use Rattle.rustc_apfloat.specs.Lawful.{format_with};
 ghost use Rattle.apfloat_machines.specs.Operations.{IsOffered};
 ghost use Rattle.apfloat_machines.specs.WholeNumbers.{IsMachineSigned, IsMachineUnsigned};
 ghost use Rattle.formats_at_run_time.specs.declared.Arithmetic.{Arithmetic};
 ghost use Rattle.formats_at_run_time.specs.declared.Arithmetic.TheVariants.{Sum, Difference, Product, Quotient};
-ghost use Rattle.formats_at_run_time.specs.FlaggedKinds.{flagged_constants, flagged_kind_coded};
-ghost use Rattle.formats_at_run_time.specs.Modes.{mode_coded};
+ghost use Rattle.formats_at_run_time.specs.FlaggedKinds.{flagged_constants, flagged_kind_coded, after_rounding};
+ghost use Rattle.formats_at_run_time.specs.{FlaggedKinds.before_rounding, Modes.mode_coded};
 ghost use Rattle.formats_at_run_time.specs.ValueKinds.{of_format, value_of};
 ghost use Rattle.coded_calls.specs.declared.machine_call.MachineCall.TheVariants.{Operation};
 ghost use Rattle.coded_calls.specs.declared.machine_call.MachineOperation.TheVariants.{OfTwo, FusedSum, SquareRoot};
 ghost use Rattle.coded_calls.specs.declared.machine_call.MachineOperation.TheVariants.{IntegralExact, Integral};
-ghost use Rattle.coded_calls.specs.declared.machine_call.MachineOperation.TheVariants.{ToUnsigned, ToSigned};
-ghost use Rattle.coded_calls.specs.declared.machine_call.MachineOperation.TheVariants.{Least, Greatest};
+ghost use Rattle.coded_calls.specs.declared.machine_call.MachineOperation.TheVariants.{ToUnsigned, ToSigned, Least};
+ghost use Rattle.coded_calls.specs.declared.machine_call.MachineOperation.TheVariants.{Greatest};
 ghost use Rattle.coded_calls.specs.declared.exported_call.ExportedCall.TheVariants.{OfTwo as PlainOfTwo};
 ghost use Rattle.coded_calls.specs.declared.exported_call.ExportedCall.TheVariants.{RoundToIntegral as PlainIntegral};
 ghost use Rattle.coded_calls.specs.Answers.{IsKindAnswer, IsLeftBy, whole};
-ghost use Rattle.coded_calls.specs.MachineCalls.{IsMachineAnswer, IsMachineCallAnswer, IsMachineConverted};
-ghost use Rattle.coded_calls.specs.MachineCalls.{IsFilledIn, IsMachineConversionLeft, IsMachineLeft};
-ghost use Rattle.coded_calls.specs.MachineCalls.{ieee_format_coded};
-ghost use Rattle.formats_at_run_time.specs.FlaggedKinds.{after_rounding, before_rounding};
+ghost use Rattle.coded_calls.specs.MachineCalls.{IsMachineAnswer, IsMachineCallAnswer, IsMachineConverted, IsFilledIn};
+ghost use Rattle.coded_calls.specs.MachineCalls.{IsMachineConversionLeft, IsMachineLeft, ieee_format_coded};
 ghost use Rattle.coded_calls.specs.MachineCalls.{IsMachineLeftIn, is_number, kind_on, machine_format_coded};
-ghost use Rattle.coded_calls.specs.MachineCalls.{conversion_call, machine_fault};
-ghost use Rattle.coded_calls.specs.MachineCalls.{IsMachineReply, choices, format_on, known_machine_call};
-ghost use Rattle.coded_calls.specs.MachineCalls.{machine_call, machine_coded, of_one};
+ghost use Rattle.coded_calls.specs.MachineCalls.{conversion_call, machine_fault, IsMachineReply, choices, format_on};
+ghost use Rattle.coded_calls.specs.MachineCalls.{known_machine_call, machine_call, machine_coded, of_one};
 
 use crate::answers;
 use crate::coded_formats::{

@@ -2,22 +2,18 @@
 
 ghost use Rattle.std.specs.Prelude.{◌<◌};
 ghost use Rattle.rustc_apfloat.specs.FlaggedTypes.{constants_of};
-ghost use Rattle.formats_at_run_time.specs.FlaggedKinds.{flagged_kind_coded};
-ghost use Rattle.formats_at_run_time.specs.Modes.{mode_coded};
-ghost use Rattle.formats_at_run_time.specs.Relations.{relations_of};
+ghost use Rattle.formats_at_run_time.specs.{FlaggedKinds.flagged_kind_coded, Modes.mode_coded, Relations.relations_of};
 ghost use Rattle.formats_at_run_time.specs.ValueKinds.{of_format, of_pairs};
 ghost use Rattle.formats_at_run_time.specs.declared.Arithmetic.TheVariants.{Sum, Difference, Product, Quotient};
 ghost use Rattle.formats_at_run_time.specs.declared.Arithmetic.TheVariants.{NearestRemainder, TruncatedRemainder};
-ghost use Rattle.coded_calls.specs.declared.exported_call.ExportedCall.{ExportedCall};
-ghost use Rattle.coded_calls.specs.declared.exported_call.ExportedCall.TheVariants.{OfTwo, FusedSum, SquareRoot};
-ghost use Rattle.coded_calls.specs.declared.exported_call.ExportedCall.TheVariants.{FromUnsigned, FromSigned};
-ghost use Rattle.coded_calls.specs.declared.exported_call.ExportedCall.TheVariants.{ToUnsigned, ToSigned};
-ghost use Rattle.coded_calls.specs.declared.exported_call.ExportedCall.TheVariants.{RoundToIntegral, Scaling};
-ghost use Rattle.coded_calls.specs.declared.exported_call.ExportedCall.TheVariants.{Fraction, Exponent, NextUp};
-ghost use Rattle.coded_calls.specs.declared.exported_call.ExportedCall.TheVariants.{NextDown, Comparison, Class};
-ghost use Rattle.coded_calls.specs.declared.exported_call.ExportedCall.TheVariants.{Conversion, Text};
-ghost use Rattle.coded_calls.specs.Answers.{IsLeft, IsReturned, IsTypeLeft};
-ghost use Rattle.coded_calls.specs.KnownCalls.{known_in};
+ghost use Rattle.coded_calls.specs.declared.exported_call.ExportedCall.{ExportedCall, TheVariants.OfTwo};
+ghost use Rattle.coded_calls.specs.declared.exported_call.ExportedCall.TheVariants.{FusedSum, SquareRoot, FromUnsigned};
+ghost use Rattle.coded_calls.specs.declared.exported_call.ExportedCall.TheVariants.{FromSigned, ToUnsigned, ToSigned};
+ghost use Rattle.coded_calls.specs.declared.exported_call.ExportedCall.TheVariants.{RoundToIntegral, Scaling, Fraction};
+ghost use Rattle.coded_calls.specs.declared.exported_call.ExportedCall.TheVariants.{Exponent, NextUp, NextDown};
+ghost use Rattle.coded_calls.specs.declared.exported_call.ExportedCall.TheVariants.{Comparison, Class, Conversion};
+ghost use Rattle.coded_calls.specs.{declared.exported_call.ExportedCall.TheVariants.Text, Answers.IsLeft};
+ghost use Rattle.coded_calls.specs.{Answers.IsReturned, Answers.IsTypeLeft, KnownCalls.known_in};
 
 use crate::answers::{
     class, comparison, converted, difference, difference_in, exponent, fraction, from_signed,

@@ -2,14 +2,12 @@
 
 ghost use Rattle.std.specs.Prelude.{◌≡◌, IfOk, IfSome};
 ghost use Rattle.rustc_apfloat.specs.Lawful.{format_with};
-ghost use Rattle.formats_at_run_time.specs.FlaggedKinds.{flagged_kind_coded};
-ghost use Rattle.formats_at_run_time.specs.FormatKinds.{IfFormat};
-ghost use Rattle.formats_at_run_time.specs.Modes.{mode_coded};
+ghost use Rattle.formats_at_run_time.specs.{FlaggedKinds.flagged_kind_coded, FormatKinds.IfFormat, Modes.mode_coded};
 ghost use Rattle.formats_at_run_time.specs.ValueKinds.{value_of};
 ghost use Rattle.p3109_formats.specs.Projections.{IsProjection};
-ghost use Rattle.coded_calls.specs.P3109.{IsDecodedAnswer, IsLawful, IsP3109Answer, IsP3109Reply};
-ghost use Rattle.coded_calls.specs.P3109.{IsProjectedAnswer, conversion_round_coded, descriptor_coded, flag_coded};
-ghost use Rattle.coded_calls.specs.P3109.{known_into, known_out_of, rule_coded, saturation_coded};
+ghost use Rattle.coded_calls.specs.P3109.{IsDecodedAnswer, IsLawful, IsP3109Answer, IsP3109Reply, IsProjectedAnswer};
+ghost use Rattle.coded_calls.specs.P3109.{conversion_round_coded, descriptor_coded, flag_coded, known_into};
+ghost use Rattle.coded_calls.specs.P3109.{known_out_of, rule_coded, saturation_coded};
 
 use crate::codes::{ANSWERED, NO_SUCH_OPERATION, UNKNOWN_FORMAT, UNKNOWN_MODE, one_if};
 use crate::data::Answer;

@@ -2,8 +2,7 @@
 
 ghost use Rattle.std.specs.Prelude.{◌<◌};
 ghost use Rattle.rustc_apfloat.specs.FlaggedTypes.{constants_of};
-ghost use Rattle.formats_at_run_time.specs.FlaggedKinds.{flagged_kind_coded};
-ghost use Rattle.formats_at_run_time.specs.Modes.{mode_coded};
+ghost use Rattle.formats_at_run_time.specs.{FlaggedKinds.flagged_kind_coded, Modes.mode_coded};
 ghost use Rattle.coded_calls.specs.IeeeCalls.{IsIeeeAnswer, IsIeeeReply, IsIeeeReplyIn, IsInAnother, IsInAnotherKind};
 ghost use Rattle.coded_calls.specs.IeeeCalls.{IsInAnotherReply, IsInAnotherFormat};
 

@@ -1,26 +1,21 @@
 -- Tallies: joining them, one term more, and the terms of each kind.
-use Rattle.std.proofs.Common.{◌≡◌, ℕ, ◌+◌, ◌*◌, ◌^◌, ◌<◌, ◌≤◌, eqb, Bool, true, false, not, ◌&&◌, ◌||◌, ℤ, pos, ◌+ℤ◌}
-use Rattle.std.proofs.Common.{List, ◌∷◌, length, get_or, drop, Option, Some, None, if◌then◌else◌, ⊎_elim, refl, sym}
-use Rattle.std.proofs.Common.{ap, ◌∙◌, arith}
+use Rattle.std.proofs.Common.{◌≡◌, ℕ, ◌+◌, ◌*◌, ◌^◌, ◌<◌, ◌≤◌, eqb, Bool, true, false}
+use Rattle.std.proofs.Common.{not, ◌&&◌, ◌||◌, ℤ, pos, ◌+ℤ◌, List, ◌∷◌, length, get_or, drop}
+use Rattle.std.proofs.Common.{Option, Some, None, if◌then◌else◌, ⊎_elim, refl, sym, ap, ◌∙◌, arith}
 use Rattle.std.proofs.Math.Bool.{or-false}
-use Rattle.std.proofs.lemmas.Bool.{cases_eq, ne_eqb, false≢true}
-use Rattle.std.proofs.lemmas.Int.{ints}
-use Rattle.std.proofs.lemmas.List.{drop_more, drop_all}
+use Rattle.std.proofs.lemmas.{Bool.cases_eq, Bool.ne_eqb, Bool.false≢true, Int.ints, List.drop_more, List.drop_all}
 use Rattle.apfloat_model.specs.declared.kinds.Category.TheVariants.{Infinity, Normal, Zero}
 use Rattle.apfloat_model.specs.declared.kinds.Round.{Round}
-use Rattle.apfloat_model.specs.formats.Datum.{Datum, finite, infinite, nan}
-use Rattle.apfloat_model.specs.formats.Format.{Format}
+use Rattle.apfloat_model.specs.formats.{Datum.Datum, Datum.finite, Datum.infinite, Datum.nan, Format.Format}
 use Rattle.apfloat_model.specs.order.Classes.{category_of, is_finite, is_negative, quanta_of}
-use Rattle.apfloat_model.specs.rounding.Answer.{IsAnswer}
-use Rattle.apfloat_model.specs.rounding.Rounding.{ok_bits}
+use Rattle.apfloat_model.specs.rounding.{Answer.IsAnswer, Rounding.ok_bits}
 use Rattle.apfloat_model.specs.rounding.Outcome.{Outcome, exactly, invalid, Yields}
-use Rattle.apfloat_model.specs.arithmetic.Exact.{product_sign, signed}
-use Rattle.apfloat_model.specs.arithmetic.Products.{product, IsProduct}
+use Rattle.apfloat_model.specs.arithmetic.{Exact.product_sign, Exact.signed, Products.product, Products.IsProduct}
 use Rattle.apfloat_model.specs.whole_numbers.WholeNumbers.{IsRoundToIntegral}
 use Rattle.exact_reductions.specs.Amounts.{Amounts, with_amount, both_amounts, difference}
 use Rattle.exact_reductions.specs.Reductions.{Tally, first_of, joined, no_terms, number_tally, special_tally, tally}
-use Rattle.exact_reductions.specs.Reductions.{tally_of}
-use Rattle.exact_reductions.specs.Reductions.{value_term, value_terms, magnitude_of, magnitude_terms, product_terms}
+use Rattle.exact_reductions.specs.Reductions.{tally_of, value_term, value_terms, magnitude_of, magnitude_terms}
+use Rattle.exact_reductions.specs.Reductions.{product_terms}
 
 -- ---- joining
 

@@ -1,15 +1,8 @@
 -- Laws of exact sums: they have one result, which does not depend on the order of the terms, but for a NaN's payload.
 use Rattle.std.specs.Prelude.{◌≡◌, ℕ, ◌⊎◌, false, true, List, [], ◌∷◌, ◌++◌}
-use Rattle.apfloat_model.specs.declared.kinds.Round.{Round}
-use Rattle.apfloat_model.specs.declared.status.StatusAnd.{StatusAnd}
-use Rattle.apfloat_model.specs.formats.Datum.{Datum}
-use Rattle.apfloat_model.specs.formats.Format.{Format}
-use Rattle.apfloat_model.specs.formats.Members.{IsMember}
-use Rattle.apfloat_model.specs.order.Classes.{is_nan}
-use Rattle.apfloat_model.specs.rounding.Flags.{Gives}
-use Rattle.apfloat_model.specs.rounding.Outcome.{Outcome}
-use Rattle.apfloat_model.specs.rounding.RaisedFlags.{FlagsGoTogether}
-use Rattle.apfloat_model.specs.rounding.Rounding.{ok_bits}
+use Rattle.apfloat_model.specs.{declared.kinds.Round.Round, declared.status.StatusAnd.StatusAnd, formats.Datum.Datum}
+use Rattle.apfloat_model.specs.{formats.Format.Format, formats.Members.IsMember, order.Classes.is_nan}
+use Rattle.apfloat_model.specs.rounding.{Flags.Gives, Outcome.Outcome, RaisedFlags.FlagsGoTogether, Rounding.ok_bits}
 use Rattle.apfloat_model.specs.arithmetic.Products.{IsProduct}
 use Rattle.exact_reductions.specs.Reductions.{Tally, IsTotal, IsDot, IsSumOf, joined, tally}
 

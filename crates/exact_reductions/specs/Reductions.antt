@@ -1,17 +1,12 @@
 -- Exact sums of any number of terms, rounded once (IEEE 754-2019 9.4): of values, products, squares and magnitudes.
-use Rattle.std.specs.Prelude.{ℕ, ◌+◌, ◌*◌, ◌/◌, ◌^◌, ◌<◌, ◌≤◌, eqb, Bool, true, false, not, ◌&&◌, ◌||◌, ℤ, pos, ◌+ℤ◌}
-use Rattle.std.specs.Prelude.{List, [], ◌∷◌, Option, Some, None, if◌then◌else◌}
-use Rattle.apfloat_model.specs.declared.kinds.Round.{Round}
-use Rattle.apfloat_model.specs.formats.Format.{Format}
-use Rattle.apfloat_model.specs.formats.Datum.{Datum, finite, infinite, nan}
-use Rattle.apfloat_model.specs.formats.Nan.{invalid_if}
-use Rattle.apfloat_model.specs.rounding.Negation.{negated}
-use Rattle.apfloat_model.specs.rounding.Rounding.{ok_bits}
-use Rattle.apfloat_model.specs.rounding.Outcome.{Outcome, settled, rounded, totalled, rooted, exactly, invalid}
-use Rattle.apfloat_model.specs.rounding.Outcome.{of_nan, Yields}
-use Rattle.apfloat_model.specs.arithmetic.Exact.{signed}
-use Rattle.apfloat_model.specs.arithmetic.Products.{product}
-use Rattle.apfloat_model.specs.order.Classes.{is_negative}
+use Rattle.std.specs.Prelude.{ℕ, ◌+◌, ◌*◌, ◌/◌, ◌^◌, ◌<◌, ◌≤◌, eqb, Bool, true, false, not}
+use Rattle.std.specs.Prelude.{◌&&◌, ◌||◌, ℤ, pos, ◌+ℤ◌, List, [], ◌∷◌, Option, Some, None}
+use Rattle.std.specs.Prelude.{if◌then◌else◌}
+use Rattle.apfloat_model.specs.{declared.kinds.Round.Round, formats.Format.Format}
+use Rattle.apfloat_model.specs.formats.{Datum.Datum, Datum.finite, Datum.infinite, Datum.nan, Nan.invalid_if}
+use Rattle.apfloat_model.specs.rounding.{Negation.negated, Rounding.ok_bits, Outcome.Outcome}
+use Rattle.apfloat_model.specs.rounding.Outcome.{settled, rounded, totalled, rooted, exactly, invalid, of_nan, Yields}
+use Rattle.apfloat_model.specs.{arithmetic.Exact.signed, arithmetic.Products.product, order.Classes.is_negative}
 
 -- ---- terms: outcomes before they are rounded
 

@@ -1,11 +1,9 @@
 //! Theorems on exact sums, as contracts of functions with empty bodies.
 
 ghost use Rattle.std.specs.Prelude.{ℕ, ◌<◌};
-ghost use Rattle.apfloat_model.specs.declared.kinds.Round.{Round};
-ghost use Rattle.apfloat_model.specs.formats.Format.{Format};
+ghost use Rattle.apfloat_model.specs.{declared.kinds.Round.Round, formats.Format.Format};
 ghost use Rattle.exact_reductions.specs.Laws.{IsInAnyOrder, IsOneProduct, IsOneValue, IsTallyOfParts, IsTotalOnce};
-ghost use Rattle.exact_reductions.specs.Laws.{IsTotalSomething};
-ghost use Rattle.exact_reductions.specs.Reductions.{Tally};
+ghost use Rattle.exact_reductions.specs.{Laws.IsTotalSomething, Reductions.Tally};
 
 /// A sum has one value and one status.
 pub fn sums_have_one_answer()

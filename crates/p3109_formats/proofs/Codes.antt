@@ -1,22 +1,18 @@
 -- What the codes of a format of P3109 mean, and where 1 is.
 use Rattle.std.proofs.Common.{◌≡◌, ℕ, zero, suc, ◌+◌, ◌-◌, ◌*◌, ◌/◌, ◌%◌, ◌^◌, ◌<◌}
-use Rattle.std.proofs.Common.{◌≤◌, Bool, true, false, cond, ◌&&◌, eqb, leb, ltb}
-use Rattle.std.proofs.Common.{sym, refl, ap, ◌∙◌, ⊎_elim, arith}
-use Rattle.std.proofs.Math.Nat.{add-mul-mod_self_right, mod-eq_of_lt}
+use Rattle.std.proofs.Common.{◌≤◌, Bool, true, false, cond, ◌&&◌, eqb, leb, ltb, sym, refl, ap, ◌∙◌}
+use Rattle.std.proofs.{Common.⊎_elim, Common.arith, Math.Nat.add-mul-mod_self_right, Math.Nat.mod-eq_of_lt}
 use Rattle.std.proofs.lemmas.Bool.{cases_lt, eq-eqb, eqb-true, false≢true, le-leb, le-ltb, lt-leb, lt-ltb, ne_eqb}
 use Rattle.std.proofs.lemmas.Nat.{div-mul-add, pow-add, pow_pos}
-use Rattle.apfloat_model.specs.declared.kinds.NonfiniteBehavior.TheVariants.{NanNegativeZero}
-use Rattle.apfloat_model.specs.formats.Datum.{finite, infinite, nan}
-use Rattle.apfloat_model.specs.rounding.Rounding.{signed_quanta}
+use Rattle.apfloat_model.specs.{declared.kinds.NonfiniteBehavior.TheVariants.NanNegativeZero, formats.Datum.finite}
+use Rattle.apfloat_model.specs.{formats.Datum.infinite, formats.Datum.nan, rounding.Rounding.signed_quanta}
 use Rattle.apfloat_model.proofs.general.Powers.{twice_half}
 use Rattle.small_formats.specs.Codes.{point}
-use Rattle.p3109_formats.specs.Laws.{IsOneInTheMiddle}
-use Rattle.p3109_formats.specs.declared.descriptor.Descriptor.{Descriptor}
-use Rattle.p3109_formats.specs.Projections.{IsProjection, bias, coded, exponent_bits, is_negative_code}
-use Rattle.p3109_formats.specs.Projections.{largest_index, last_index, magnitude_of, nan_code, past_value}
-use Rattle.p3109_formats.specs.Projections.{projected_datum, sign_bits, unsigned_codes}
-use Rattle.small_formats.proofs.CodesCompared.{not_below_number, zero_point}
-use Rattle.small_formats.proofs.Points.{high_point}
+use Rattle.small_formats.proofs.{CodesCompared.not_below_number, CodesCompared.zero_point, Points.high_point}
+use Rattle.p3109_formats.specs.{Laws.IsOneInTheMiddle, declared.descriptor.Descriptor.Descriptor}
+use Rattle.p3109_formats.specs.Projections.{IsProjection, bias, coded, exponent_bits, is_negative_code, largest_index}
+use Rattle.p3109_formats.specs.Projections.{last_index, magnitude_of, nan_code, past_value, projected_datum, sign_bits}
+use Rattle.p3109_formats.specs.Projections.{unsigned_codes}
 
 -- ---- how many codes there are
 

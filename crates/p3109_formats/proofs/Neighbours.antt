@@ -1,28 +1,20 @@
 -- The next values: their codes without a sign, with the sign of the number, are one more and one less.
 use Rattle.std.proofs.Common.{◌≡◌, ℕ, zero, suc, ◌+◌, ◌-◌, ◌*◌, ◌^◌, ◌<◌, ◌≤◌, Bool}
-use Rattle.std.proofs.Common.{true, false, cond, ◌&&◌, eqb, leb, ltb}
-use Rattle.std.proofs.Common.{sym, refl, ap, ◌∙◌, subst, ⊎_elim, arith, ℤ, pos, neg_ℤ, ◌+ℤ◌}
-use Rattle.std.proofs.Common.{◌-ℤ◌, ◌≤ℤ◌, int_cmp, Some, None}
-use Rattle.std.specs.Prelude.{◌<ℤ◌}
-use Rattle.std.specs.declared.cmp.Ordering.{Ordering}
-use Rattle.std.specs.declared.cmp.Ordering.TheVariants.{Less}
-use Rattle.std.specs.Cmp.{int_cmp_is, int_ranks}
-use Rattle.std.specs.Ordering.{MatchOrdering}
+use Rattle.std.proofs.Common.{true, false, cond, ◌&&◌, eqb, leb, ltb, sym, refl, ap, ◌∙◌, subst, ⊎_elim}
+use Rattle.std.proofs.Common.{arith, ℤ, pos, neg_ℤ, ◌+ℤ◌, ◌-ℤ◌, ◌≤ℤ◌, int_cmp, Some, None}
 use Rattle.std.proofs.lemmas.Bool.{and_parts, cases_eq, cases_lt, eq-eqb, false≢true, ne_eqb}
-use Rattle.std.proofs.lemmas.Int.{ints}
-use Rattle.std.proofs.lemmas.Nat.{mod_below, pow_pos}
-use Rattle.apfloat_model.specs.arithmetic.Exact.{signed}
-use Rattle.apfloat_model.specs.formats.Datum.{Datum}
-use Rattle.apfloat_model.specs.order.Order.{compared}
+use Rattle.std.proofs.lemmas.{Int.ints, Nat.mod_below, Nat.pow_pos}
+use Rattle.std.specs.Prelude.{◌<ℤ◌}
+use Rattle.std.specs.declared.cmp.Ordering.{Ordering, TheVariants.Less}
+use Rattle.std.specs.{Cmp.int_cmp_is, Cmp.int_ranks, Ordering.MatchOrdering}
+use Rattle.apfloat_model.specs.{arithmetic.Exact.signed, formats.Datum.Datum, order.Order.compared}
 use Rattle.p3109_formats.specs.Laws.{AreNextValues, IsLess}
-use Rattle.p3109_formats.specs.declared.descriptor.Descriptor.{Descriptor}
-use Rattle.p3109_formats.specs.Projections.{IsProjection, code_above, code_below, coded, is_negative_code}
-use Rattle.p3109_formats.specs.Projections.{largest_index, last_index, magnitude_of, nan_code, projected_datum}
-use Rattle.p3109_formats.specs.Projections.{sign_bits, unsigned_codes}
+use Rattle.p3109_formats.specs.{declared.descriptor.Descriptor.Descriptor, Projections.IsProjection}
+use Rattle.p3109_formats.specs.Projections.{code_above, code_below, coded, is_negative_code, largest_index, last_index}
+use Rattle.p3109_formats.specs.Projections.{magnitude_of, nan_code, projected_datum, sign_bits, unsigned_codes}
 use Rattle.p3109_formats.proofs.Codes.{IsCodedBy, all_codes, apart, four_codes, minus_code, nan_at, plain_code}
-use Rattle.p3109_formats.proofs.OneAnswer.{parts_of_code}
-use Rattle.p3109_formats.proofs.Order.{at_most_past, known_order, left_nan, right_nan}
-use Rattle.p3109_formats.proofs.Values.{largest_some}
+use Rattle.p3109_formats.proofs.{OneAnswer.parts_of_code, Order.at_most_past, Order.known_order, Order.left_nan}
+use Rattle.p3109_formats.proofs.{Order.right_nan, Values.largest_some}
 
 -- the code below the sign, with the sign
 abbrev pub rank_of : Descriptor → ℕ → ℤ

@@ -1,46 +1,35 @@
 -- Conversions into the formats of P3109 have one answer.
 use Rattle.std.proofs.Common.{◌≡◌, ℕ, zero, suc, ◌+◌, ◌-◌, ◌*◌, ◌^◌, ◌<◌, ◌≤◌, Bool}
-use Rattle.std.proofs.Common.{true, false, cond, not}
-use Rattle.std.proofs.Common.{◌&&◌, eqb, leb, ltb, sym, refl, ap, ◌∙◌, ⊎_elim, arith}
-use Rattle.std.specs.Bool.{MatchBool}
-use Rattle.std.proofs.Math.Nat.{mod-eq_of_lt}
+use Rattle.std.proofs.Common.{true, false, cond, not, ◌&&◌, eqb, leb, ltb, sym, refl, ap, ◌∙◌, ⊎_elim}
+use Rattle.std.proofs.{Common.arith, Math.Nat.mod-eq_of_lt}
 use Rattle.std.proofs.lemmas.Bool.{cases_eq, cases_lt, eq-eqb, eqb-true, false≢true, ltb-true, ne_eqb}
-use Rattle.std.proofs.lemmas.Bool.{MatchBool-at_false}
-use Rattle.std.proofs.lemmas.Nat.{mod_below, pow_pos}
+use Rattle.std.proofs.lemmas.{Bool.MatchBool-at_false, Nat.mod_below, Nat.pow_pos}
+use Rattle.std.specs.Bool.{MatchBool}
 use Rattle.apfloat_model.specs.declared.kinds.Round.{Round}
 use Rattle.apfloat_model.specs.declared.kinds.Round.TheVariants.{NearestTiesToAway, NearestTiesToEven}
-use Rattle.apfloat_model.specs.formats.Datum.{Datum, finite, infinite, nan}
-use Rattle.apfloat_model.specs.formats.Format.{Format}
+use Rattle.apfloat_model.specs.formats.{Datum.Datum, Datum.finite, Datum.infinite, Datum.nan, Format.Format}
 use Rattle.apfloat_model.specs.order.Classes.{is_infinite, is_nan, is_negative, quanta_of}
 use Rattle.apfloat_model.specs.rounding.Rounding.{IsPick, leads_out, ok_bits}
 use Rattle.apfloat_model.proofs.general.Powers.{twice_half}
-use Rattle.small_formats.specs.declared.ConversionRound.{ConversionRound}
-use Rattle.small_formats.specs.declared.ConversionRound.TheVariants.{Ieee}
-use Rattle.small_formats.specs.declared.RandomDigits.{RandomDigits}
-use Rattle.small_formats.specs.Codes.{point}
-use Rattle.small_formats.specs.Modes.{IsPickBy, takes_next}
+use Rattle.small_formats.specs.declared.ConversionRound.{ConversionRound, TheVariants.Ieee}
+use Rattle.small_formats.specs.{declared.RandomDigits.RandomDigits, Codes.point, Modes.IsPickBy, Modes.takes_next}
 use Rattle.small_formats.specs.PicksBy.{IsCodePickBy, IsPointPickBy}
-use Rattle.p3109_formats.specs.Laws.{AreCodePicksPicks, IsProjectedOnce}
-use Rattle.p3109_formats.specs.ModeLaws.{AreProjectionsOfModes, IsProjectedByOnce}
-use Rattle.p3109_formats.specs.ModeConversions.{IsIntoProjectionBy, IsProjectedNumberBy}
-use Rattle.p3109_formats.specs.Projections.{IsCodeOf, IsCodePick, IsIntoProjection, IsPointPick, IsProjectedNumber}
-use Rattle.p3109_formats.specs.declared.descriptor.Descriptor.{Descriptor}
-use Rattle.p3109_formats.specs.declared.rules.ProjectionRound.{ProjectionRound}
-use Rattle.p3109_formats.specs.declared.rules.ProjectionRound.TheVariants.{By, StochasticB, StochasticC}
-use Rattle.p3109_formats.specs.declared.rules.ProjectionRule.{ProjectionRule}
-use Rattle.p3109_formats.specs.declared.rules.Saturation.{Saturation}
-use Rattle.p3109_formats.specs.declared.rules.Saturation.TheVariants.{Finite, Overflow, Propagate}
-use Rattle.p3109_formats.specs.Projections.{IsProjection, is_negative_code, largest_index, magnitude_of}
-use Rattle.p3109_formats.specs.Projections.{nan_code, projected_datum, projected_format, projected_status}
-use Rattle.p3109_formats.specs.Projections.{projected_value, sign_bits, unsigned_codes}
-use Rattle.p3109_formats.specs.Rules.{IsInfinityBy, IsRandomPick, IsRulePick, passes, plain_rule, reaches_next, round_of}
-use Rattle.small_formats.proofs.CodePicks.{code_picks_by}
-use Rattle.small_formats.proofs.IndexPicks.{index_pick_once}
-use Rattle.small_formats.proofs.ModesOnce.{pick_by_once}
+use Rattle.small_formats.proofs.{CodePicks.code_picks_by, IndexPicks.index_pick_once, ModesOnce.pick_by_once}
 use Rattle.small_formats.proofs.OneAnswer.{AreSame, code_is}
-use Rattle.small_formats.proofs.Points.{one_number, points_in_order}
+use Rattle.small_formats.proofs.{Points.one_number, Points.points_in_order, RandomCounts.picks_of_model}
+use Rattle.p3109_formats.specs.{Laws.AreCodePicksPicks, Laws.IsProjectedOnce, ModeLaws.AreProjectionsOfModes}
+use Rattle.p3109_formats.specs.{ModeLaws.IsProjectedByOnce, ModeConversions.IsIntoProjectionBy}
+use Rattle.p3109_formats.specs.{ModeConversions.IsProjectedNumberBy, Projections.IsCodeOf}
+use Rattle.p3109_formats.specs.Projections.{IsCodePick, IsIntoProjection, IsPointPick, IsProjectedNumber, IsProjection}
+use Rattle.p3109_formats.specs.Projections.{is_negative_code, largest_index, magnitude_of, nan_code, projected_datum}
+use Rattle.p3109_formats.specs.Projections.{projected_format, projected_status, projected_value, sign_bits}
+use Rattle.p3109_formats.specs.{Projections.unsigned_codes, declared.descriptor.Descriptor.Descriptor}
+use Rattle.p3109_formats.specs.declared.rules.ProjectionRound.{ProjectionRound, TheVariants.By, TheVariants.StochasticB}
+use Rattle.p3109_formats.specs.declared.rules.{ProjectionRound.TheVariants.StochasticC, ProjectionRule.ProjectionRule}
+use Rattle.p3109_formats.specs.declared.rules.Saturation.{Saturation, TheVariants.Finite, TheVariants.Overflow}
+use Rattle.p3109_formats.specs.{declared.rules.Saturation.TheVariants.Propagate, Rules.IsInfinityBy}
+use Rattle.p3109_formats.specs.Rules.{IsRandomPick, IsRulePick, passes, plain_rule, reaches_next, round_of}
 use Rattle.p3109_formats.proofs.Codes.{four_codes}
-use Rattle.small_formats.proofs.RandomCounts.{picks_of_model}
 
 -- ---- picks
 

@@ -1,20 +1,16 @@
 -- The order of values of P3109 is that of their codes without a sign, with the sign of the number: an infinity has the
 -- code past that of the largest number.
 use Rattle.std.proofs.Common.{◌≡◌, ℕ, ◌+◌, ◌^◌, ◌<◌, ◌≤◌, Bool, true, false, cond, eqb, ltb}
-use Rattle.std.proofs.Common.{⊎_elim}
-use Rattle.std.proofs.Common.{sym, refl, ap, ◌∙◌, arith, pos, neg_ℤ, int_cmp, Some, None}
-use Rattle.std.specs.declared.cmp.Ordering.{Ordering}
-use Rattle.std.specs.declared.cmp.Ordering.TheVariants.{Less, Equal, Greater}
+use Rattle.std.proofs.Common.{⊎_elim, sym, refl, ap, ◌∙◌, arith, pos, neg_ℤ, int_cmp, Some, None}
+use Rattle.std.proofs.lemmas.{Bool.cases_lt, Bool.false≢true, Bool.lt-ltb, Bool.ltb-true, Int.ints}
+use Rattle.std.specs.declared.cmp.Ordering.{Ordering, TheVariants.Less, TheVariants.Equal, TheVariants.Greater}
 use Rattle.std.specs.Cmp.{int_cmp_is}
-use Rattle.std.proofs.lemmas.Bool.{cases_lt, false≢true, lt-ltb, ltb-true}
-use Rattle.std.proofs.lemmas.Int.{ints}
-use Rattle.apfloat_model.specs.arithmetic.Exact.{signed}
-use Rattle.apfloat_model.specs.formats.Datum.{Datum, finite, infinite, nan}
-use Rattle.apfloat_model.specs.order.Order.{compared}
+use Rattle.apfloat_model.specs.{arithmetic.Exact.signed, formats.Datum.Datum, formats.Datum.finite}
+use Rattle.apfloat_model.specs.{formats.Datum.infinite, formats.Datum.nan, order.Order.compared}
 use Rattle.small_formats.specs.Codes.{point}
+use Rattle.small_formats.proofs.CodesCompared.{compared_points}
 use Rattle.p3109_formats.specs.declared.descriptor.Descriptor.{Descriptor}
 use Rattle.p3109_formats.specs.Projections.{IsProjection, largest_index, magnitude_of, nan_code}
-use Rattle.small_formats.proofs.CodesCompared.{compared_points}
 use Rattle.p3109_formats.proofs.OneAnswer.{datum_by, infinity_index}
 
 -- the indices of two values that are not NaNs: at most `most`, or the next one if the value is an infinity

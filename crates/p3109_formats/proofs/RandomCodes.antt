@@ -1,24 +1,19 @@
 -- How many random numbers take a magnitude to the next code.
-use Rattle.std.proofs.Common.{◌≡◌, ℕ, ◌+◌, ◌-◌, ◌*◌, ◌/◌, ◌%◌, ◌^◌, ◌<◌, ◌≤◌, Bool, true, false}
-use Rattle.std.proofs.Common.{cond, eqb, leb, ltb}
-use Rattle.std.proofs.Common.{sym, refl, ap, ◌∙◌, subst, ⊎_elim, arith}
-use Rattle.std.specs.Bool.{MatchBool}
+use Rattle.std.proofs.Common.{◌≡◌, ℕ, ◌+◌, ◌-◌, ◌*◌, ◌/◌, ◌%◌, ◌^◌, ◌<◌, ◌≤◌}
+use Rattle.std.proofs.Common.{Bool, true, false, cond, eqb, leb, ltb, sym, refl, ap, ◌∙◌, subst, ⊎_elim, arith}
 use Rattle.std.proofs.lemmas.Bool.{cases_lt, le-ltb, lt-ltb, ne_eqb}
-use Rattle.apfloat_model.specs.declared.kinds.Round.{Round}
-use Rattle.apfloat_model.specs.rounding.Grid.{IsBelow, IsAbove}
+use Rattle.std.specs.Bool.{MatchBool}
+use Rattle.apfloat_model.specs.{declared.kinds.Round.Round, rounding.Grid.IsBelow, rounding.Grid.IsAbove}
 use Rattle.apfloat_model.proofs.rounding.Neighbours.{below_is, above_is_next}
-use Rattle.small_formats.specs.declared.ConversionRound.TheVariants.{Stochastic}
-use Rattle.small_formats.specs.declared.RandomDigits.{RandomDigits}
-use Rattle.small_formats.specs.Codes.{point}
-use Rattle.small_formats.specs.Modes.{IsPickBy}
-use Rattle.p3109_formats.specs.ModeLaws.{AreRandomCodesCounted, AreRoundedPartsCounted}
-use Rattle.p3109_formats.specs.Rules.{IsRandomPick, reaches_next, rounded_parts}
-use Rattle.small_formats.specs.IndexPicks.{index_between}
+use Rattle.small_formats.specs.declared.{ConversionRound.TheVariants.Stochastic, RandomDigits.RandomDigits}
+use Rattle.small_formats.specs.{Codes.point, Modes.IsPickBy, IndexPicks.index_between}
 use Rattle.small_formats.specs.PicksBy.{IsCodePickBy, IsPointPickBy}
 use Rattle.small_formats.proofs.CodePicks.{code_pick_by, form_encloses, form_next, form_point}
 use Rattle.small_formats.proofs.Points.{form_of, increasing, points_in_order}
 use Rattle.small_formats.proofs.RandomCounts.{parts_below, random_numbers_counted, reaching, same_count}
 use Rattle.small_formats.proofs.StoredPicks.{not_greater}
+use Rattle.p3109_formats.specs.ModeLaws.{AreRandomCodesCounted, AreRoundedPartsCounted}
+use Rattle.p3109_formats.specs.Rules.{IsRandomPick, reaches_next, rounded_parts}
 use Rattle.p3109_formats.proofs.OneAnswer.{random_pick_once}
 
 -- the index of a point is greater exactly if the point is

@@ -1,29 +1,21 @@
 -- The parts of a distance, rounded: scaled, of a rest that was cut off, and what they choose.
-use Rattle.std.proofs.Common.{◌≡◌, ℕ, zero, suc, ◌+◌, ◌-◌, ◌*◌, ◌/◌, ◌%◌, ◌^◌, ◌<◌, ◌≤◌, ◌⊎◌, Bool, true, false, cond}
-use Rattle.std.proofs.Common.{leb, eqb, sym, refl, ap, ◌∙◌, subst, arith}
-use Rattle.std.specs.Bool.{MatchBool}
-use Rattle.std.proofs.Math.Nat.{eq_of_mul-eq-mul_right, mul-lt-mul_of_pos_right, mul-pos}
-use Rattle.std.proofs.Math.Nat.{le_of_mul-le-mul_right, lt_of_mul-lt-mul_right}
+use Rattle.std.proofs.Common.{◌≡◌, ℕ, zero, suc, ◌+◌, ◌-◌, ◌*◌, ◌/◌, ◌%◌, ◌^◌, ◌<◌}
+use Rattle.std.proofs.Common.{◌≤◌, ◌⊎◌, Bool, true, false, cond, leb, eqb, sym, refl, ap, ◌∙◌, subst}
+use Rattle.std.proofs.{Common.arith, Math.Nat.eq_of_mul-eq-mul_right}
+use Rattle.std.proofs.Math.Nat.{mul-lt-mul_of_pos_right, mul-pos, le_of_mul-le-mul_right, lt_of_mul-lt-mul_right}
 use Rattle.std.proofs.lemmas.Nat.{div-add-mod', mod-pow-add, mod_below, pow-add, pow_pos}
-use Rattle.apfloat_model.specs.declared.kinds.Round.{Round}
-use Rattle.apfloat_model.specs.declared.loss.Loss.{Loss}
+use Rattle.std.specs.Bool.{MatchBool}
+use Rattle.apfloat_model.specs.declared.{kinds.Round.Round, loss.Loss.Loss}
 use Rattle.apfloat_model.specs.declared.loss.Loss.TheVariants.{ExactlyHalf, ExactlyZero, LessThanHalf, MoreThanHalf}
+use Rattle.apfloat_model.specs.{whole_numbers.WholeNumbers.whole_pick, rounding.Standing.StandsFor}
 use Rattle.apfloat_model.proofs.rounding.Picks.{kept}
-use Rattle.apfloat_model.specs.whole_numbers.WholeNumbers.{whole_pick}
-use Rattle.apfloat_conversions.proofs.Wholes.{whole_at}
-use Rattle.apfloat_model.specs.rounding.Standing.{StandsFor}
 use Rattle.apfloat_model.proofs.rounding.KeptDigits.{cut_fits, cut_full, same_unit, stands_cancel, stands_times}
-use Rattle.small_formats.specs.declared.ConversionRound.TheVariants.{Ieee}
-use Rattle.small_formats.specs.declared.RandomDigits.{RandomDigits}
-use Rattle.small_formats.specs.Codes.{index_of, point}
-use Rattle.small_formats.specs.IndexPicks.{index_between}
-use Rattle.small_formats.specs.Modes.{takes_next}
-use Rattle.small_formats.specs.PicksBy.{IsCodePickBy, IsPointPickBy}
-use Rattle.small_formats.specs.stochastic.Directions.{direction}
-use Rattle.small_formats.proofs.CodePicks.{code_pick_by}
-use Rattle.small_formats.proofs.Points.{at_index, at_next}
-use Rattle.p3109_formats.specs.Picks.{IsAway}
-use Rattle.p3109_formats.specs.Rules.{IsRandomPick}
+use Rattle.apfloat_conversions.proofs.Wholes.{whole_at}
+use Rattle.small_formats.specs.declared.{ConversionRound.TheVariants.Ieee, RandomDigits.RandomDigits}
+use Rattle.small_formats.specs.{Codes.index_of, Codes.point, IndexPicks.index_between, Modes.takes_next}
+use Rattle.small_formats.specs.{PicksBy.IsCodePickBy, PicksBy.IsPointPickBy, stochastic.Directions.direction}
+use Rattle.small_formats.proofs.{CodePicks.code_pick_by, Points.at_index, Points.at_next}
+use Rattle.p3109_formats.specs.{Picks.IsAway, Rules.IsRandomPick}
 use Rattle.p3109_formats.proofs.OneAnswer.{point_pick_once}
 
 -- the loss of what is cut off, without the digits above

@@ -1,32 +1,26 @@
 -- What is delivered in a format of P3109, and what its codes become in other formats.
-use Rattle.std.proofs.Common.{◌≡◌, ℕ, zero, suc, ◌-◌, ◌*◌, ◌/◌, ◌^◌, ◌<◌, ◌≤◌, Bool, true, false}
-use Rattle.std.proofs.Common.{cond, not, ◌&&◌, eqb, ltb}
-use Rattle.std.proofs.Common.{sym, refl, ap, ◌∙◌, subst, arith}
+use Rattle.std.proofs.Common.{◌≡◌, ℕ, zero, suc, ◌-◌, ◌*◌, ◌/◌, ◌^◌, ◌<◌, ◌≤◌, Bool}
+use Rattle.std.proofs.Common.{true, false, cond, not, ◌&&◌, eqb, ltb, sym, refl, ap, ◌∙◌, subst, arith}
+use Rattle.std.proofs.lemmas.{Bool.false≢true, Bool.le-ltb, Bool.lt-ltb, Bool.ne_eqb, Nat.pow_pos}
 use Rattle.std.specs.Bool.{MatchBool}
-use Rattle.std.proofs.lemmas.Bool.{false≢true, le-ltb, lt-ltb, ne_eqb}
-use Rattle.std.proofs.lemmas.Nat.{pow_pos}
-use Rattle.apfloat_model.specs.declared.kinds.NonfiniteBehavior.{NonfiniteBehavior}
-use Rattle.apfloat_model.specs.declared.kinds.NonfiniteBehavior.TheVariants.{NanNegativeZero}
+use Rattle.apfloat_model.specs.declared.kinds.NonfiniteBehavior.{NonfiniteBehavior, TheVariants.NanNegativeZero}
 use Rattle.apfloat_model.specs.declared.kinds.Round.{Round}
+use Rattle.apfloat_model.specs.declared.kinds.Category.TheVariants.{NaN, Normal, Zero}
 use Rattle.apfloat_model.specs.arithmetic.Conversions.{IsConversion, IsConvertedNumber, IsKept, loses_zero_sign}
 use Rattle.apfloat_model.specs.formats.Datum.{Datum, finite, infinite, nan}
 use Rattle.apfloat_model.specs.formats.Format.{Format, payload_mask}
 use Rattle.apfloat_model.specs.formats.Nan.{invalid_bit, invalid_if, is_signaling_nan, nan_sign, quiet_significand}
-use Rattle.apfloat_model.specs.declared.kinds.Category.TheVariants.{NaN, Normal, Zero}
-use Rattle.apfloat_model.specs.rounding.Negation.{negated}
+use Rattle.apfloat_model.specs.rounding.{Negation.negated, Rounding.IsDelivered}
+use Rattle.apfloat_model.specs.rounding.Rounding.{inexact_bit, leads_out, ok_bits, signed_quanta, zero_sign}
 use Rattle.apfloat_model.specs.order.Classes.{category_of, is_negative, quanta_of}
-use Rattle.apfloat_model.specs.rounding.Rounding.{IsDelivered, inexact_bit, leads_out, ok_bits, signed_quanta}
-use Rattle.apfloat_model.specs.rounding.Rounding.{zero_sign}
 use Rattle.apfloat_model.proofs.order.Categories.{no_nan}
 use Rattle.small_formats.specs.Codes.{point}
+use Rattle.small_formats.proofs.{CodesCompared.not_below_number, Points.low_point}
 use Rattle.p3109_formats.specs.Picks.{IsProjectedAt}
 use Rattle.p3109_formats.specs.ModeConversions.{IsIntoProjectionBy, IsProjectedBy, IsProjectedNumberBy}
-use Rattle.p3109_formats.specs.declared.descriptor.Descriptor.{Descriptor}
-use Rattle.p3109_formats.specs.declared.rules.ProjectionRule.{ProjectionRule}
-use Rattle.p3109_formats.specs.Projections.{IsCodeOf, IsProjection, lacks_point, largest_index}
-use Rattle.p3109_formats.specs.Projections.{past_value, projected_datum, projected_format}
-use Rattle.small_formats.proofs.CodesCompared.{not_below_number}
-use Rattle.small_formats.proofs.Points.{low_point}
+use Rattle.p3109_formats.specs.declared.{descriptor.Descriptor.Descriptor, rules.ProjectionRule.ProjectionRule}
+use Rattle.p3109_formats.specs.Projections.{IsCodeOf, IsProjection, lacks_point, largest_index, past_value}
+use Rattle.p3109_formats.specs.Projections.{projected_datum, projected_format}
 use Rattle.p3109_formats.proofs.Codes.{four_codes}
 
 -- ---- in

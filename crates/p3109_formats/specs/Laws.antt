@@ -1,15 +1,12 @@
 -- Theorems about the formats of P3109.
 use Rattle.std.specs.Prelude.{◌≡◌, ℕ, ◌/◌, ◌^◌, ◌<◌, ◌≤◌, Bool, Some}
 use Rattle.std.specs.declared.cmp.Ordering.TheVariants.{Less}
-use Rattle.apfloat_model.specs.declared.kinds.Round.{Round}
-use Rattle.apfloat_model.specs.formats.Datum.{Datum}
-use Rattle.apfloat_model.specs.formats.Format.{Format}
-use Rattle.apfloat_model.specs.order.Order.{compared}
-use Rattle.apfloat_model.specs.rounding.Rounding.{IsPick}
+use Rattle.apfloat_model.specs.{declared.kinds.Round.Round, formats.Datum.Datum, formats.Format.Format}
+use Rattle.apfloat_model.specs.{order.Order.compared, rounding.Rounding.IsPick}
 use Rattle.small_formats.specs.Codes.{point}
 use Rattle.p3109_formats.specs.declared.descriptor.Descriptor.{Descriptor}
-use Rattle.p3109_formats.specs.Projections.{IsCodePick, IsIntoProjection, IsProjection, code_above}
-use Rattle.p3109_formats.specs.Projections.{code_below, projected_datum, projected_format, unsigned_codes}
+use Rattle.p3109_formats.specs.Projections.{IsCodePick, IsIntoProjection, IsProjection, code_above, code_below}
+use Rattle.p3109_formats.specs.Projections.{projected_datum, projected_format, unsigned_codes}
 
 -- the middle of the codes without a sign is 1
 abbrev pub IsOneInTheMiddle : Type 0

@@ -2,13 +2,11 @@
 -- that of `Projections`.
 use Rattle.std.specs.Prelude.{◌≡◌, ℕ, ◌*◌, ◌^◌, Bool, not, ◌&&◌, eqb}
 use Rattle.std.specs.Bool.{MatchBool}
-use Rattle.apfloat_model.specs.formats.Datum.{Datum, finite, infinite, nan}
-use Rattle.apfloat_model.specs.formats.Format.{Format}
+use Rattle.apfloat_model.specs.formats.{Datum.Datum, Datum.finite, Datum.infinite, Datum.nan, Format.Format}
 use Rattle.apfloat_model.specs.rounding.Rounding.{leads_out, ok_bits}
-use Rattle.p3109_formats.specs.declared.descriptor.Descriptor.{Descriptor}
-use Rattle.p3109_formats.specs.declared.rules.ProjectionRule.{ProjectionRule}
-use Rattle.p3109_formats.specs.Projections.{IsIntoProjection, IsWithoutCode, projected_datum}
-use Rattle.p3109_formats.specs.Projections.{projected_format, projected_status, projected_value}
+use Rattle.p3109_formats.specs.declared.{descriptor.Descriptor.Descriptor, rules.ProjectionRule.ProjectionRule}
+use Rattle.p3109_formats.specs.Projections.{IsIntoProjection, IsWithoutCode, projected_datum, projected_format}
+use Rattle.p3109_formats.specs.Projections.{projected_status, projected_value}
 use Rattle.p3109_formats.specs.Rules.{IsInfinityBy, IsRulePick, passes, round_of}
 
 -- as `IsProjected`; saturation changes no flags

@@ -1,20 +1,13 @@
 -- Theorems about the formats of P3109 and the modes of conversions.
 use Rattle.std.specs.Prelude.{◌≡◌, ℕ, ◌+◌, ◌-◌, ◌*◌, ◌^◌, ◌<◌, ◌≤◌, Bool, ltb}
-use Rattle.apfloat_model.specs.declared.kinds.Round.{Round}
-use Rattle.apfloat_model.specs.formats.Datum.{Datum}
-use Rattle.apfloat_model.specs.formats.Format.{Format}
-use Rattle.small_formats.specs.declared.ConversionRound.{ConversionRound}
-use Rattle.small_formats.specs.declared.ConversionRound.TheVariants.{Ieee, Stochastic}
-use Rattle.small_formats.specs.declared.RandomDigits.{RandomDigits}
-use Rattle.small_formats.specs.Codes.{point}
+use Rattle.apfloat_model.specs.{declared.kinds.Round.Round, formats.Datum.Datum, formats.Format.Format}
+use Rattle.small_formats.specs.declared.ConversionRound.{ConversionRound, TheVariants.Ieee, TheVariants.Stochastic}
+use Rattle.small_formats.specs.{declared.RandomDigits.RandomDigits, Codes.point}
 use Rattle.small_formats.specs.ModeLaws.{AreAllRandom, count_below}
-use Rattle.small_formats.specs.Modes.{IsPickBy, parts_above}
-use Rattle.small_formats.specs.PicksBy.{IsCodePickBy, IsPointPickBy}
-use Rattle.p3109_formats.specs.ModeConversions.{IsIntoProjectionBy}
-use Rattle.p3109_formats.specs.declared.descriptor.Descriptor.{Descriptor}
-use Rattle.p3109_formats.specs.declared.rules.ProjectionRule.{ProjectionRule}
-use Rattle.p3109_formats.specs.Projections.{IsIntoProjection, IsProjection}
-use Rattle.p3109_formats.specs.Rules.{IsRandomPick, plain_rule, rounded_parts}
+use Rattle.small_formats.specs.{Modes.IsPickBy, Modes.parts_above, PicksBy.IsCodePickBy, PicksBy.IsPointPickBy}
+use Rattle.p3109_formats.specs.{ModeConversions.IsIntoProjectionBy, declared.descriptor.Descriptor.Descriptor}
+use Rattle.p3109_formats.specs.{declared.rules.ProjectionRule.ProjectionRule, Projections.IsIntoProjection}
+use Rattle.p3109_formats.specs.{Projections.IsProjection, Rules.IsRandomPick, Rules.plain_rule, Rules.rounded_parts}
 
 -- as `IsProjectedOnce`
 abbrev pub IsProjectedByOnce : Type 0

@@ -1,11 +1,9 @@
 -- What is delivered for the point with an index.
 use Rattle.std.specs.Prelude.{◌≡◌, ℕ, ◌+◌, ◌-◌, ◌*◌, ◌<◌, ◌≤◌, Bool}
 use Rattle.apfloat_model.specs.declared.kinds.Round.{Round}
-use Rattle.small_formats.specs.declared.RandomDigits.{RandomDigits}
-use Rattle.small_formats.specs.Codes.{point}
-use Rattle.p3109_formats.specs.declared.descriptor.Descriptor.{Descriptor}
-use Rattle.p3109_formats.specs.Projections.{projected_datum, projected_status, projected_value}
-use Rattle.p3109_formats.specs.Rules.{reaches_next}
+use Rattle.small_formats.specs.{declared.RandomDigits.RandomDigits, Codes.point}
+use Rattle.p3109_formats.specs.{declared.descriptor.Descriptor.Descriptor, Projections.projected_datum}
+use Rattle.p3109_formats.specs.{Projections.projected_status, Projections.projected_value, Rules.reaches_next}
 
 pub record IsProjectedAt (c : Descriptor) (mode : Round) (leads negative : Bool) (amount parts index code status : ℕ)
     : Type 0 where

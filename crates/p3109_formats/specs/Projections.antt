@@ -1,17 +1,14 @@
 -- The formats of IEEE P3109: a width, a precision, with or without a sign, with or without infinities. They have one
 -- zero and one NaN.
-use Rattle.std.specs.Prelude.{◌≡◌, ℕ, ◌+◌, ◌-◌, ◌*◌, ◌%◌, ◌^◌, ◌≤◌, Bool}
-use Rattle.std.specs.Prelude.{true, false, not, ◌&&◌, eqb, ltb, leb, if◌then◌else◌}
+use Rattle.std.specs.Prelude.{◌≡◌, ℕ, ◌+◌, ◌-◌, ◌*◌, ◌%◌, ◌^◌, ◌≤◌, Bool, true, false}
+use Rattle.std.specs.Prelude.{not, ◌&&◌, eqb, ltb, leb, if◌then◌else◌}
 use Rattle.std.specs.Bool.{MatchBool}
-use Rattle.apfloat_model.specs.declared.kinds.NonfiniteBehavior.TheVariants.{NanNegativeZero}
-use Rattle.apfloat_model.specs.declared.kinds.Round.{Round}
-use Rattle.apfloat_model.specs.formats.Datum.{Datum, finite, infinite, nan}
-use Rattle.apfloat_model.specs.formats.Format.{Format, payload_mask}
-use Rattle.apfloat_model.specs.formats.Nan.{invalid_bit, invalid_if, is_signaling}
+use Rattle.apfloat_model.specs.declared.kinds.{NonfiniteBehavior.TheVariants.NanNegativeZero, Round.Round}
+use Rattle.apfloat_model.specs.formats.{Datum.Datum, Datum.finite, Datum.infinite, Datum.nan, Format.Format}
+use Rattle.apfloat_model.specs.formats.{Format.payload_mask, Nan.invalid_bit, Nan.invalid_if, Nan.is_signaling}
 use Rattle.apfloat_model.specs.rounding.Rounding.{IsPick, inexact_bit, leads_out, ok_bits, overflow_bit, signed_quanta}
 use Rattle.apfloat_model.specs.rounding.Rounding.{takes_above, underflow_bit}
-use Rattle.small_formats.specs.Codes.{point}
-use Rattle.small_formats.specs.IndexPicks.{IsIndexPick}
+use Rattle.small_formats.specs.{Codes.point, IndexPicks.IsIndexPick}
 use Rattle.p3109_formats.specs.declared.descriptor.Descriptor.{Descriptor}
 
 abbrev pub projection_with : ℕ → ℕ → Bool → Bool → Descriptor

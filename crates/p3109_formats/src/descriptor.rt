@@ -1,12 +1,10 @@
 //! The constants of a format of IEEE P3109 as a value, and the codes that they decide.
 
 ghost use Rattle.std.specs.Prelude.{◌≡◌, ◌%◌, ◌^◌, ◌<◌, ◌≤◌, IfSome, eqb, false, true};
-ghost use Rattle.apfloat_model.specs.declared.kinds.NonfiniteBehavior.TheVariants.{NanNegativeZero};
-ghost use Rattle.apfloat_model.specs.formats.Datum.{nan};
+ghost use Rattle.apfloat_model.specs.{declared.kinds.NonfiniteBehavior.TheVariants.NanNegativeZero, formats.Datum.nan};
 ghost use Rattle.apfloat_model.specs.rounding.Rounding.{signed_quanta};
 ghost use Rattle.small_formats.specs.Codes.{point};
-ghost use Rattle.p3109_formats.specs.LawTest.{descriptor_with, projection_test};
-ghost use Rattle.p3109_formats.specs.Types.{projection_of};
+ghost use Rattle.p3109_formats.specs.{LawTest.descriptor_with, LawTest.projection_test, Types.projection_of};
 ghost use Rattle.p3109_formats.specs.Projections.{IsProjection, coded, is_negative_code, largest_index, last_index};
 ghost use Rattle.p3109_formats.specs.Projections.{magnitude_of, nan_code, past_value, projected_datum, unsigned_codes};
 

@@ -1,21 +1,16 @@
 //! Conversions of the values of a format into a format of IEEE P3109.
 
-ghost use Rattle.std.specs.Prelude.{◌≡◌, ℕ, ◌*◌, ◌^◌, ◌<◌, ◌≤◌, Bool, ◌&&◌};
-ghost use Rattle.std.specs.Prelude.{eqb, false, if◌then◌else◌, not, true};
-ghost use Rattle.apfloat_model.specs.formats.Datum.{finite};
-ghost use Rattle.apfloat_model.specs.order.Classes.{quanta_of};
-ghost use Rattle.apfloat_model.specs.rounding.Flags.{Gives, bits_of};
-ghost use Rattle.apfloat_model.specs.declared.kinds.Round.{Round};
+ghost use Rattle.std.specs.Prelude.{◌≡◌, ℕ, ◌*◌, ◌^◌, ◌<◌, ◌≤◌, Bool, ◌&&◌, eqb, false};
+ghost use Rattle.std.specs.Prelude.{if◌then◌else◌, not, true};
+ghost use Rattle.apfloat_model.specs.{formats.Datum.finite, order.Classes.quanta_of, order.Positive.IsPositive};
+ghost use Rattle.apfloat_model.specs.{rounding.Flags.Gives, rounding.Flags.bits_of, declared.kinds.Round.Round};
 ghost use Rattle.apfloat_ieee.specs.Types.{format_of};
-ghost use Rattle.apfloat_model.specs.order.Positive.{IsPositive};
 ghost use Rattle.small_formats.specs.Codes.{point};
-ghost use Rattle.p3109_formats.specs.Picks.{IsProjectedAt};
-ghost use Rattle.p3109_formats.specs.ModeConversions.{IsIntoProjectionBy, IsProjectedBy};
-ghost use Rattle.p3109_formats.specs.Rules.{IsInfinityBy, plain_rule};
-ghost use Rattle.p3109_formats.specs.Types.{projection_of};
-ghost use Rattle.p3109_formats.specs.Projections.{IsInfinityOf, IsIntoProjection, IsProjection, IsWithoutCode};
-ghost use Rattle.p3109_formats.specs.Projections.{exponent_bits, largest_index, past_value};
-ghost use Rattle.p3109_formats.specs.Projections.{projected_datum, projected_format};
+ghost use Rattle.p3109_formats.specs.{Picks.IsProjectedAt, ModeConversions.IsIntoProjectionBy};
+ghost use Rattle.p3109_formats.specs.{ModeConversions.IsProjectedBy, Rules.IsInfinityBy, Rules.plain_rule};
+ghost use Rattle.p3109_formats.specs.{Types.projection_of, Projections.IsInfinityOf};
+ghost use Rattle.p3109_formats.specs.Projections.{IsIntoProjection, IsProjection, IsWithoutCode, exponent_bits};
+ghost use Rattle.p3109_formats.specs.Projections.{largest_index, past_value, projected_datum, projected_format};
 
 use crate::descriptor::Descriptor;
 use crate::projected::Projected;

@@ -2,14 +2,11 @@
 
 ghost use Rattle.std.specs.Prelude.{◌≡◌, ◌+◌, ◌%◌, ◌^◌, ◌<◌, ◌≤◌, if◌then◌else◌, eqb};
 ghost use Rattle.std.specs.Prelude.{true, false};
-ghost use Rattle.apfloat_model.specs.arithmetic.Exact.{signed};
-ghost use Rattle.apfloat_model.specs.formats.Datum.{nan};
-ghost use Rattle.apfloat_model.specs.order.Classes.{category_of};
-ghost use Rattle.apfloat_model.specs.order.Order.{compared};
+ghost use Rattle.apfloat_model.specs.{arithmetic.Exact.signed, formats.Datum.nan};
+ghost use Rattle.apfloat_model.specs.order.{Classes.category_of, Order.compared};
 ghost use Rattle.p3109_formats.specs.Types.{projection_of};
 ghost use Rattle.p3109_formats.specs.Projections.{code_above, code_below, coded, is_negative_code, largest_index};
-ghost use Rattle.p3109_formats.specs.Projections.{last_index, magnitude_of, nan_code, projected_datum};
-ghost use Rattle.p3109_formats.specs.Projections.{unsigned_codes};
+ghost use Rattle.p3109_formats.specs.Projections.{last_index, magnitude_of, nan_code, projected_datum, unsigned_codes};
 
 use crate::descriptor::Descriptor;
 use crate::projection::Projection;

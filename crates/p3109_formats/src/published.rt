@@ -1,8 +1,7 @@
 //! The named formats are those of IEEE P3109. So one with another constant would not be proved.
 
-ghost use Rattle.p3109_formats.specs.Published.{IsPublishedProjection, binary8p1uf, binary8p3se};
-ghost use Rattle.p3109_formats.specs.Published.{binary8p4se, binary8p5se};
-ghost use Rattle.p3109_formats.specs.Types.{projection_of};
+ghost use Rattle.p3109_formats.specs.Published.{IsPublishedProjection, binary8p1uf, binary8p3se, binary8p4se};
+ghost use Rattle.p3109_formats.specs.{Published.binary8p5se, Types.projection_of};
 
 /// `Binary8P3` and so on are the formats of these names in IEEE P3109.
 pub fn projections_are_those_of_p3109()

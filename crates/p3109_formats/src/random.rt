@@ -1,16 +1,12 @@
 //! The neighbour that random digits choose, where the parts of the distance are rounded. Nothing else is rounded here.
 
 ghost use Rattle.std.specs.Prelude.{◌≡◌, ℕ, ◌*◌, ◌%◌, ◌^◌, ◌<◌, ◌≤◌, eqb, false};
-ghost use Rattle.apfloat_model.specs.order.Classes.{quanta_of};
-ghost use Rattle.apfloat_model.specs.order.Positive.{IsPositive};
-ghost use Rattle.apfloat_model.specs.rounding.Bounds.{IsWithin};
-ghost use Rattle.apfloat_model.specs.rounding.Standing.{up, down};
-ghost use Rattle.apfloat_ieee.specs.Types.{format_of};
-ghost use Rattle.small_formats.specs.stochastic.Directions.{direction};
-ghost use Rattle.small_formats.specs.Codes.{point};
-ghost use Rattle.p3109_formats.specs.Picks.{IsAway};
+ghost use Rattle.apfloat_model.specs.order.{Classes.quanta_of, Positive.IsPositive};
+ghost use Rattle.apfloat_model.specs.rounding.{Bounds.IsWithin, Standing.up, Standing.down};
 ghost use Rattle.apfloat_model.specs.whole_numbers.WholeNumbers.{whole_pick};
-ghost use Rattle.p3109_formats.specs.Rules.{IsRandomPick, IsRulePick};
+ghost use Rattle.apfloat_ieee.specs.Types.{format_of};
+ghost use Rattle.small_formats.specs.{stochastic.Directions.direction, Codes.point};
+ghost use Rattle.p3109_formats.specs.{Picks.IsAway, Rules.IsRandomPick, Rules.IsRulePick};
 
 use crate::rules::ProjectionRound;
 use apfloat_base::Round;

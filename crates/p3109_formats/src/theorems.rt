@@ -1,12 +1,8 @@
 //! Theorems about the definitions that the calls cite, as contracts of functions with empty bodies.
 
-ghost use Rattle.p3109_formats.specs.Laws.{AreCodePicksPicks, AreNextValues};
-ghost use Rattle.p3109_formats.specs.Laws.{IsOneInTheMiddle, IsProjectedOnce};
-ghost use Rattle.p3109_formats.specs.ModeLaws.{AreCodePicksPicksBy};
-ghost use Rattle.p3109_formats.specs.ModeLaws.{AreProjectionsOfModes};
-ghost use Rattle.p3109_formats.specs.ModeLaws.{AreRandomCodesCounted};
-ghost use Rattle.p3109_formats.specs.ModeLaws.{AreRoundedPartsCounted};
-ghost use Rattle.p3109_formats.specs.ModeLaws.{IsProjectedByOnce};
+ghost use Rattle.p3109_formats.specs.Laws.{AreCodePicksPicks, AreNextValues, IsOneInTheMiddle, IsProjectedOnce};
+ghost use Rattle.p3109_formats.specs.ModeLaws.{AreCodePicksPicksBy, AreProjectionsOfModes, AreRandomCodesCounted};
+ghost use Rattle.p3109_formats.specs.ModeLaws.{AreRoundedPartsCounted, IsProjectedByOnce};
 
 /// In each format of P3109, 1 is the code in the middle of those without a sign.
 pub fn one_is_in_the_middle()

@@ -1,8 +1,7 @@
 //! Conversions of the values of a format of IEEE P3109 to any format.
 
 ghost use Rattle.std.specs.Prelude.{◌≡◌, ◌^◌, ◌<◌};
-ghost use Rattle.apfloat_model.specs.arithmetic.Conversions.{IsConversion};
-ghost use Rattle.apfloat_model.specs.formats.Datum.{infinite};
+ghost use Rattle.apfloat_model.specs.{arithmetic.Conversions.IsConversion, formats.Datum.infinite};
 ghost use Rattle.apfloat_model.specs.rounding.Flags.{bits_of};
 ghost use Rattle.apfloat_ieee.specs.FlaggedTypes.{format_of};
 ghost use Rattle.p3109_formats.specs.Types.{projection_of};

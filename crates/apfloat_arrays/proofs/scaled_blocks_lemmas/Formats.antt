@@ -1,28 +1,19 @@
 -- Formats of blocks: what holds of both.
-use Rattle.std.proofs.Common.{◌≡◌, ℕ, zero, suc, ◌*◌, ◌/◌, ◌<◌, true, false, List, length, get_or, inl, inr, sym, subst, arith}
-use Rattle.std.proofs.Math.Nat.{div-lt_iff_lt-mul}
-use Rattle.apfloat_model.specs.Determined.{DeterminesBoth}
-use Rattle.apfloat_model.specs.formats.Format.{Format}
-use Rattle.apfloat_model.specs.order.Classes.{quanta_of}
-use Rattle.apfloat_model.proofs.Once.{Once}
-use Rattle.rustc_apfloat.specs.declared.Round.{Round}
-use Rattle.rustc_apfloat.specs.Datum.{Datum}
-use Rattle.rustc_apfloat.specs.Formats.{single_constants}
-use Rattle.rustc_apfloat.specs.Lawful.{format_with}
-use Rattle.apfloat_model.specs.order.Positive.{IsPositive}
-use Rattle.apfloat_model.proofs.general.Choices.{match_false, match_true}
-use Rattle.small_formats.specs.declared.blocks.Block.{Block}
-use Rattle.small_formats.specs.declared.blocks.ElementFormat.{ElementFormat}
-use Rattle.small_formats.specs.declared.blocks.ScaleRule.{ScaleRule}
-use Rattle.small_formats.specs.blocks.Elements.{width}
-use Rattle.small_formats.specs.blocks.Magnitudes.{are_finite}
-use Rattle.small_formats.specs.blocks.MxBlocks.{IsBlockOfNan, IsBlockOfNumbers}
-use Rattle.small_formats.specs.blocks.Nvfp4.{IsNvBlockOfNumbers}
+use Rattle.std.proofs.Common.{◌≡◌, ℕ, zero, suc, ◌*◌, ◌/◌, ◌<◌, true, false, List, length, get_or}
+use Rattle.std.proofs.{Common.inl, Common.inr, Common.sym, Common.subst, Common.arith, Math.Nat.div-lt_iff_lt-mul}
+use Rattle.apfloat_model.specs.{Determined.DeterminesBoth, formats.Format.Format}
+use Rattle.apfloat_model.specs.order.{Classes.quanta_of, Positive.IsPositive}
+use Rattle.apfloat_model.proofs.{Once.Once, general.Choices.match_false, general.Choices.match_true}
+use Rattle.rustc_apfloat.specs.{declared.Round.Round, Datum.Datum, Formats.single_constants, Lawful.format_with}
+use Rattle.small_formats.specs.declared.blocks.{Block.Block, ElementFormat.ElementFormat, ScaleRule.ScaleRule}
+use Rattle.small_formats.specs.blocks.{Elements.width, Magnitudes.are_finite, MxBlocks.IsBlockOfNan}
+use Rattle.small_formats.specs.blocks.{MxBlocks.IsBlockOfNumbers, Nvfp4.IsNvBlockOfNumbers}
 use Rattle.small_formats.proofs.blocks_lemmas.OneBlock.{block_once, not_both, scaled_once}
 use Rattle.small_formats.proofs.blocks_lemmas.OneNvBlock.{nv_block_once, nv_scaled_once}
 use Rattle.apfloat_arrays.specs.declared.scaled_blocks.formats.BlockFormat.{BlockFormat}
 use Rattle.apfloat_arrays.specs.declared.scaled_blocks.formats.BlockFormat.TheVariants.{Mx, Nvfp4}
-use Rattle.apfloat_arrays.specs.scaled_blocks.Formats.{AreNarrow, AreWide, HasScale, IsBlockIn, IsNarrow, IsScaledIn, nan_scale, tensor_of}
+use Rattle.apfloat_arrays.specs.scaled_blocks.Formats.{AreNarrow, AreWide, HasScale, IsBlockIn, IsNarrow, IsScaledIn}
+use Rattle.apfloat_arrays.specs.scaled_blocks.Formats.{nan_scale, tensor_of}
 
 -- the block of an element
 pub div_below : (index blocks block : ℕ) → index < blocks * block → index / block < blocks

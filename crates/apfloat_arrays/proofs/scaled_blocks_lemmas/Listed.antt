@@ -1,10 +1,9 @@
 -- Values in consecutive bytes, as a list.
 use Rattle.std.proofs.Common.{◌≡◌, ℕ, zero, suc, ◌+◌, ◌<◌, true, refl, ap, ◌∙◌, arith, List, []}
 use Rattle.std.proofs.Common.{◌∷◌, ◌++◌, length, Some}
-use Rattle.std.specs.Prelude.{slice_get}
 use Rattle.std.proofs.lemmas.Bool.{and_from, and_parts}
-use Rattle.rustc_apfloat.specs.Datum.{Datum}
-use Rattle.rustc_apfloat.specs.Lawful.{Constants}
+use Rattle.std.specs.Prelude.{slice_get}
+use Rattle.rustc_apfloat.specs.{Datum.Datum, Lawful.Constants}
 use Rattle.apfloat_model.specs.order.Classes.{is_finite}
 use Rattle.small_formats.specs.blocks.Magnitudes.{are_finite}
 use Rattle.apfloat_arrays.specs.scaled_blocks.Values.{value_in, values_in}

@@ -1,30 +1,22 @@
 -- The bits of numbers: without the sign, they number the magnitudes from zero up.
-use Rattle.std.proofs.Common.{◌≡◌, ℕ, ◌+◌, ◌-◌, ◌*◌, ◌/◌, ◌%◌, ◌^◌, ◌<◌, ◌≤◌, min, Bool, true, false, cond}
-use Rattle.std.proofs.Common.{eqb, refl, sym, ap, ◌∙◌, ⊎_elim, arith, max, ◌&&◌, List, [], ◌∷◌, ◌++◌}
-use Rattle.std.proofs.Common.{subst}
-use Rattle.std.proofs.Math.Arith.{mod-mul}
-use Rattle.std.proofs.Math.Nat.{add-mul-mod_self_right, min-eq_right, mod-eq_of_lt, mul-le-mul_right, mul-pos}
-use Rattle.std.proofs.lemmas.Bool.{cases_lt, cond-false, eq-eqb, true≢false}
-use Rattle.std.proofs.lemmas.Nat.{div-mul-add, mod_below, pow-add, pow_pos}
-use Rattle.apfloat_model.proofs.general.Powers.{twice_half}
-use Rattle.apfloat_model.specs.bits.Interchange.{IsInterchange}
-use Rattle.apfloat_model.specs.bits.Layout.{IsEncodedBy, Layout, all_ones, datum_of_fields, implied_datum}
-use Rattle.apfloat_model.specs.bits.Layout.{trailing_bits}
-use Rattle.apfloat_model.specs.declared.kinds.NonfiniteBehavior.{NonfiniteBehavior}
-use Rattle.apfloat_model.specs.declared.kinds.NonfiniteBehavior.TheVariants.{IEEE754}
+use Rattle.std.proofs.Common.{◌≡◌, ℕ, ◌+◌, ◌-◌, ◌*◌, ◌/◌, ◌%◌, ◌^◌, ◌<◌, ◌≤◌}
+use Rattle.std.proofs.Common.{min, Bool, true, false, cond, eqb, refl, sym, ap, ◌∙◌, ⊎_elim, arith, max}
+use Rattle.std.proofs.Common.{◌&&◌, List, [], ◌∷◌, ◌++◌, subst}
+use Rattle.std.proofs.Math.{Arith.mod-mul, Nat.add-mul-mod_self_right, Nat.min-eq_right, Nat.mod-eq_of_lt}
+use Rattle.std.proofs.{Math.Nat.mul-le-mul_right, Math.Nat.mul-pos, lemmas.Bool.cases_lt, lemmas.Bool.cond-false}
+use Rattle.std.proofs.lemmas.{Bool.eq-eqb, Bool.true≢false, Nat.div-mul-add, Nat.mod_below, Nat.pow-add, Nat.pow_pos}
+use Rattle.apfloat_model.proofs.{general.Powers.twice_half, formats.Ranges.ieee_within}
+use Rattle.apfloat_model.proofs.bits.{Encodings.has_bits, EncodedOnce.fields_with}
+use Rattle.apfloat_model.specs.bits.{Interchange.IsInterchange, Layout.IsEncodedBy}
+use Rattle.apfloat_model.specs.bits.Layout.{Layout, all_ones, datum_of_fields, implied_datum, trailing_bits}
+use Rattle.apfloat_model.specs.declared.kinds.NonfiniteBehavior.{NonfiniteBehavior, TheVariants.IEEE754}
 use Rattle.apfloat_model.specs.formats.Datum.{Datum, finite, infinite, nan}
 use Rattle.apfloat_model.specs.formats.Format.{Format, largest}
 use Rattle.apfloat_model.specs.formats.Lawful.{Constants, IsLawful, format_with, layout_with}
-use Rattle.apfloat_model.specs.order.Classes.{is_finite, quanta_of}
-use Rattle.apfloat_model.specs.rounding.Grid.{IsOnGrid}
-use Rattle.apfloat_model.proofs.formats.Ranges.{ieee_within}
-use Rattle.apfloat_model.proofs.bits.Encodings.{has_bits}
-use Rattle.apfloat_model.proofs.bits.EncodedOnce.{fields_with}
+use Rattle.apfloat_model.specs.{order.Classes.is_finite, order.Classes.quanta_of, rounding.Grid.IsOnGrid}
 use Rattle.formats_at_run_time.specs.ValueKinds.{value_of}
-use Rattle.small_formats.specs.Codes.{index_of, point}
-use Rattle.small_formats.specs.blocks.Magnitudes.{are_finite}
-use Rattle.small_formats.proofs.Points.{at_index, low_point, point_on_grid}
-use Rattle.small_formats.proofs.StoredPicks.{not_greater}
+use Rattle.small_formats.specs.{Codes.index_of, Codes.point, blocks.Magnitudes.are_finite}
+use Rattle.small_formats.proofs.{Points.at_index, Points.low_point, Points.point_on_grid, StoredPicks.not_greater}
 use Rattle.small_formats.proofs.blocks_lemmas.Greatest.{greatest_more, max_left, max_right}
 use Rattle.apfloat_arrays.specs.scaled_blocks.Greatest.{AreAtMost, special_bits}
 use Rattle.apfloat_arrays.specs.stored.NumberCodes.{biased_of, is_minus, quanta_in, significand_of}

@@ -1,37 +1,29 @@
 -- Arrays in blocks have one answer.
 use Rattle.std.proofs.Common.{◌≡◌, ℕ, ◌*◌, List, length, take, refl, sym, ap, ◌∙◌, subst, arith}
-use Rattle.std.specs.Prelude.{map, Result, Ok, Err}
 use Rattle.std.proofs.lemmas.List.{take_all}
-use Rattle.rustc_apfloat.specs.declared.Round.{Round}
-use Rattle.rustc_apfloat.specs.Classes.{is_nan}
-use Rattle.rustc_apfloat.specs.Datum.{Datum}
-use Rattle.rustc_apfloat.specs.Flags.{bits_of}
-use Rattle.rustc_apfloat.specs.Lawful.{Constants, format_with, layout_with}
-use Rattle.rustc_apfloat.specs.Layout.{IsEncodedBy}
-use Rattle.apfloat_model.proofs.bits.EncodedOnce.{encoded_once}
-use Rattle.apfloat_model.proofs.bits.Encodings.{lawful_interchange}
-use Rattle.formats_at_run_time.specs.BuiltIns.{constants_in}
-use Rattle.formats_at_run_time.specs.FlaggedKinds.{flagged_constants}
-use Rattle.apfloat_arrays.specs.declared.counts.Counts.{Counts}
-use Rattle.apfloat_arrays.specs.declared.counts.Outcome.{Outcome}
-use Rattle.apfloat_arrays.specs.Bytes.{number_of}
-use Rattle.apfloat_arrays.specs.Outcomes.{counts_of}
-use Rattle.apfloat_arrays.proofs.OneBlock.{same_outcome}
-use Rattle.apfloat_arrays.proofs.PlacesOnce.{FixesPlaces, places_once}
-use Rattle.small_formats.specs.declared.blocks.mx.Block.{Block}
+use Rattle.std.specs.Prelude.{map, Result, Ok, Err}
+use Rattle.rustc_apfloat.specs.{declared.Round.Round, Classes.is_nan, Datum.Datum, Flags.bits_of, Lawful.Constants}
+use Rattle.rustc_apfloat.specs.{Lawful.format_with, Lawful.layout_with, Layout.IsEncodedBy}
+use Rattle.apfloat_model.proofs.bits.{EncodedOnce.encoded_once, Encodings.lawful_interchange}
+use Rattle.formats_at_run_time.specs.{BuiltIns.constants_in, FlaggedKinds.flagged_constants}
+use Rattle.formats_at_run_time.proofs.FormatLaws.{HasLaw, format_law}
+use Rattle.apfloat_arrays.specs.declared.counts.{Counts.Counts, Outcome.Outcome}
 use Rattle.apfloat_arrays.specs.declared.scaled_blocks.dequantizing.Dequantization.{Dequantization}
 use Rattle.apfloat_arrays.specs.declared.scaled_blocks.errors.ArrayError.{ArrayError}
-use Rattle.apfloat_arrays.specs.declared.scaled_blocks.errors.ArrayError.TheVariants.{EmptyBlock, Uneven, Lengths, TensorScale, CodeTooWide}
+use Rattle.apfloat_arrays.specs.declared.scaled_blocks.errors.ArrayError.TheVariants.{EmptyBlock, Uneven, Lengths}
+use Rattle.apfloat_arrays.specs.declared.scaled_blocks.errors.ArrayError.TheVariants.{TensorScale, CodeTooWide}
 use Rattle.apfloat_arrays.specs.declared.scaled_blocks.formats.BlockFormat.{BlockFormat}
-use Rattle.apfloat_arrays.specs.declared.scaled_blocks.quantizing.Quantization.{Quantization}
-use Rattle.apfloat_arrays.specs.scaled_blocks.Dequantized.{AreDequantized, IsDequantizedArray, IsScaledAt, IsScaledCode, width_out}
-use Rattle.apfloat_arrays.specs.scaled_blocks.Lengths.{blocks_in}
+use Rattle.apfloat_arrays.specs.{declared.scaled_blocks.quantizing.Quantization.Quantization, Bytes.number_of}
+use Rattle.apfloat_arrays.specs.Outcomes.{counts_of}
+use Rattle.apfloat_arrays.specs.scaled_blocks.Dequantized.{AreDequantized, IsDequantizedArray, IsScaledAt, IsScaledCode}
+use Rattle.apfloat_arrays.specs.scaled_blocks.{Dequantized.width_out, Lengths.blocks_in}
 use Rattle.apfloat_arrays.specs.scaled_blocks.OneArray.{AreLeftIn, IsDequantizedArrayOnce, IsQuantizedArrayOnce}
-use Rattle.apfloat_arrays.specs.scaled_blocks.Quantized.{AreQuantized, IsBlockOf, IsQuantizedArray, no_counts, total_of, width_in}
-use Rattle.apfloat_arrays.specs.scaled_blocks.Values.{values_in}
+use Rattle.apfloat_arrays.specs.scaled_blocks.Quantized.{AreQuantized, IsBlockOf, IsQuantizedArray, no_counts, total_of}
+use Rattle.apfloat_arrays.specs.scaled_blocks.{Quantized.width_in, Values.values_in}
+use Rattle.apfloat_arrays.proofs.{OneBlock.same_outcome, PlacesOnce.FixesPlaces, PlacesOnce.places_once}
 use Rattle.apfloat_arrays.proofs.scaled_blocks_lemmas.Fitting.{fitting}
-use Rattle.formats_at_run_time.proofs.FormatLaws.{HasLaw, format_law}
 use Rattle.apfloat_arrays.proofs.scaled_blocks_lemmas.Formats.{block_in_once, not_both_in, scaled_in_once}
+use Rattle.small_formats.specs.declared.blocks.mx.Block.{Block}
 
 -- bytes that are all determined are equal
 whole_once : (width count : ℕ) (before after other : List ℕ) → length before ≡ count * width

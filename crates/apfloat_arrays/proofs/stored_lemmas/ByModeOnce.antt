@@ -2,33 +2,23 @@
 use Rattle.std.proofs.Common.{◌≡◌, ℕ, ◌^◌, ◌<◌, Bool, sym, refl, ap, ◌∙◌, subst}
 use Rattle.std.proofs.Math.Path.{subst₂}
 use Rattle.std.specs.Coded.{le_prop}
-use Rattle.rustc_apfloat.specs.Classes.{is_nan}
-use Rattle.rustc_apfloat.specs.Datum.{Datum}
-use Rattle.rustc_apfloat.specs.Flags.{bits_of}
-use Rattle.rustc_apfloat.specs.Format.{Format}
-use Rattle.rustc_apfloat.specs.Lawful.{Constants, format_with, layout_with}
-use Rattle.rustc_apfloat.specs.Layout.{datum_of}
+use Rattle.rustc_apfloat.specs.{Classes.is_nan, Datum.Datum, Flags.bits_of, Format.Format, Lawful.Constants}
+use Rattle.rustc_apfloat.specs.{Lawful.format_with, Lawful.layout_with, Layout.datum_of}
 use Rattle.formats_at_run_time.specs.BuiltIns.{constants_in}
-use Rattle.small_formats.specs.declared.ConversionRound.{ConversionRound}
-use Rattle.small_formats.specs.declared.ConversionRound.TheVariants.{Ieee, ToOdd, Stochastic}
-use Rattle.small_formats.specs.declared.NanResult.TheVariants.{Zero}
-use Rattle.small_formats.specs.declared.RandomDigits.{RandomDigits}
-use Rattle.small_formats.specs.LawTest.{lawful_from_test}
-use Rattle.small_formats.specs.ModeLaws.{IsIntoByOnce}
-use Rattle.small_formats.specs.RandomDigits.{AreRandomDigits}
-use Rattle.small_formats.specs.ScaleModes.{IsScaleByOnce}
+use Rattle.small_formats.specs.declared.ConversionRound.{ConversionRound, TheVariants.Ieee, TheVariants.ToOdd}
+use Rattle.small_formats.specs.declared.{ConversionRound.TheVariants.Stochastic, NanResult.TheVariants.Zero}
+use Rattle.small_formats.specs.{declared.RandomDigits.RandomDigits, LawTest.lawful_from_test, ModeLaws.IsIntoByOnce}
+use Rattle.small_formats.specs.{RandomDigits.AreRandomDigits, ScaleModes.IsScaleByOnce}
 use Rattle.small_formats.specs.stochastic.ElementConversions.{IsE3M4ByOnce, IsUnsignedByOnce}
-use Rattle.apfloat_arrays.specs.declared.counts.Outcome.{Outcome}
-use Rattle.apfloat_arrays.proofs.OneBlock.{same_outcome}
-use Rattle.apfloat_arrays.specs.declared.stored.formats.StoredFormat.{StoredFormat}
-use Rattle.apfloat_arrays.specs.declared.stored.formats.StoredFormat.TheVariants.{E2M1FN, E2M3FN, E3M2FN, E3M4}
-use Rattle.apfloat_arrays.specs.declared.stored.formats.StoredFormat.TheVariants.{E8M0FNU, UE4M3}
-use Rattle.apfloat_arrays.specs.declared.stored.by_mode.EachRound.{EachRound}
+use Rattle.apfloat_arrays.specs.declared.{counts.Outcome.Outcome, stored.formats.StoredFormat.StoredFormat}
+use Rattle.apfloat_arrays.specs.declared.stored.formats.StoredFormat.TheVariants.{E2M1FN, E2M3FN, E3M2FN, E3M4, E8M0FNU}
+use Rattle.apfloat_arrays.specs.declared.stored.{formats.StoredFormat.TheVariants.UE4M3, by_mode.EachRound.EachRound}
 use Rattle.apfloat_arrays.specs.declared.stored.by_mode.EachRound.TheVariants.{Ieee as EachIeee, ToOdd as EachToOdd}
 use Rattle.apfloat_arrays.specs.declared.stored.by_mode.EachRound.TheVariants.{Stochastic as EachStochastic}
 use Rattle.apfloat_arrays.specs.declared.stored.by_mode.ModeConversion.{ModeConversion}
 use Rattle.apfloat_arrays.specs.stored.ByMode.{IsModeWith, IsOwnBy, IsStoredByMode, IsStoredWith}
 use Rattle.apfloat_arrays.specs.stored.Formats.{bits_in, datum_in, e2m1fn_constants, e2m3fn_constants, e3m2fn_constants}
+use Rattle.apfloat_arrays.proofs.OneBlock.{same_outcome}
 
 -- ---- modes
 

@@ -2,29 +2,17 @@
 use Rattle.std.proofs.Common.{◌≡◌, ℕ, ◌+◌, ◌-◌, ◌*◌, ◌%◌, ◌^◌, ◌<◌, ◌≤◌, List, []}
 use Rattle.std.proofs.Common.{◌∷◌, ◌++◌, length, sym, ap, ◌∙◌, subst, arith}
 use Rattle.std.proofs.lemmas.Nat.{pow_pos}
-use borrow.Rule.Slice.PartMut.{put_mid}
-use Rattle.rustc_apfloat.specs.declared.Round.{Round}
-use Rattle.rustc_apfloat.specs.Datum.{Datum}
-use Rattle.rustc_apfloat.specs.Flags.{bits_of}
-use Rattle.rustc_apfloat.specs.Lawful.{Constants, format_with}
-use Rattle.small_formats.specs.Codes.{datum_of}
-use Rattle.small_formats.specs.Unsigned.{unsigned_datum}
-use Rattle.small_formats.specs.declared.saturation.Overflow.{Overflow}
+use Rattle.rustc_apfloat.specs.{declared.Round.Round, Datum.Datum, Flags.bits_of, Lawful.Constants, Lawful.format_with}
+use Rattle.small_formats.specs.{Codes.datum_of, Unsigned.unsigned_datum, declared.saturation.Overflow.Overflow}
 use Rattle.small_formats.specs.saturation.Saturation.{IsConversionBy}
-use Rattle.apfloat_arrays.specs.declared.counts.Outcome.{Outcome}
-use Rattle.apfloat_arrays.specs.declared.stored.formats.StoredFormat.{StoredFormat}
-use Rattle.apfloat_arrays.specs.declared.stored.formats.StoredFormat.TheVariants.{E2M1FN, E2M3FN, E3M2FN, E3M4}
-use Rattle.apfloat_arrays.specs.declared.stored.formats.StoredFormat.TheVariants.{E8M0FNU, UE4M3}
-use Rattle.apfloat_arrays.specs.Blocks.{value_at}
-use Rattle.apfloat_arrays.specs.Bytes.{number_of}
-use Rattle.apfloat_arrays.specs.Entries.{HasEntry, IsEntry}
-use Rattle.apfloat_arrays.specs.Tables.{outcome_tally}
-use Rattle.apfloat_arrays.specs.stored.Arrays.{IsLoaded}
-use Rattle.apfloat_arrays.specs.stored.CodeTables.{AreCodeEntries}
-use Rattle.apfloat_arrays.specs.stored.Formats.{bits_in, datum_in, e2m1fn_constants, e2m3fn_constants}
-use Rattle.apfloat_arrays.specs.stored.Formats.{e3m2fn_constants, format_in}
-use Rattle.apfloat_arrays.proofs.Places.{places_more}
-use Rattle.apfloat_arrays.proofs.TalliedResults.{found}
+use Rattle.apfloat_arrays.specs.declared.{counts.Outcome.Outcome, stored.formats.StoredFormat.StoredFormat}
+use Rattle.apfloat_arrays.specs.declared.stored.formats.StoredFormat.TheVariants.{E2M1FN, E2M3FN, E3M2FN, E3M4, E8M0FNU}
+use Rattle.apfloat_arrays.specs.{declared.stored.formats.StoredFormat.TheVariants.UE4M3, Blocks.value_at}
+use Rattle.apfloat_arrays.specs.{Bytes.number_of, Entries.HasEntry, Entries.IsEntry, Tables.outcome_tally}
+use Rattle.apfloat_arrays.specs.stored.{Arrays.IsLoaded, CodeTables.AreCodeEntries, Formats.bits_in, Formats.datum_in}
+use Rattle.apfloat_arrays.specs.stored.Formats.{e2m1fn_constants, e2m3fn_constants, e3m2fn_constants, format_in}
+use Rattle.apfloat_arrays.proofs.{Places.places_more, TalliedResults.found}
+use borrow.Rule.Slice.PartMut.{put_mid}
 
 -- bytes that mean what an earlier one does
 like_byte : (format : StoredFormat) (place : ℕ) → 2 ^ bits_in format ≤ place → place < 256

@@ -1,19 +1,13 @@
 -- Numbers that became codes, with any treatment of overflow.
-use Rattle.std.proofs.Common.{◌≡◌, ℕ, ◌+◌, ◌-◌, ◌*◌, ◌^◌, ◌<◌, ◌⊎◌, Bool, true, false, cond, not, eqb, refl, sym, ap}
-use Rattle.std.proofs.Common.{◌∙◌, subst, ⊎_elim}
-use Rattle.std.specs.Int.RustNames.{bit_and}
+use Rattle.std.proofs.Common.{◌≡◌, ℕ, ◌+◌, ◌-◌, ◌*◌, ◌^◌, ◌<◌, ◌⊎◌, Bool, true, false}
+use Rattle.std.proofs.Common.{cond, not, eqb, refl, sym, ap, ◌∙◌, subst, ⊎_elim}
 use Rattle.std.proofs.lemmas.Bool.{eq-eqb}
-use Rattle.rustc_apfloat.specs.declared.Round.{Round}
-use Rattle.rustc_apfloat.specs.Datum.{Datum, finite}
-use Rattle.rustc_apfloat.specs.Format.{Format}
-use Rattle.rustc_apfloat.specs.Lawful.{Constants, format_with, layout_with}
-use Rattle.rustc_apfloat.specs.Layout.{datum_of}
-use Rattle.small_formats.specs.Conversions.{IsInto}
-use Rattle.small_formats.specs.Storage.{StorageConstants}
-use Rattle.small_formats.specs.declared.saturation.Overflow.{Overflow}
+use Rattle.std.specs.Int.RustNames.{bit_and}
+use Rattle.rustc_apfloat.specs.{declared.Round.Round, Datum.Datum, Datum.finite, Format.Format, Lawful.Constants}
+use Rattle.rustc_apfloat.specs.{Lawful.format_with, Lawful.layout_with, Layout.datum_of}
+use Rattle.small_formats.specs.{Conversions.IsInto, Storage.StorageConstants, declared.saturation.Overflow.Overflow}
 use Rattle.small_formats.specs.declared.saturation.Overflow.TheVariants.{Rounded, Saturated, Finite}
-use Rattle.apfloat_arrays.specs.declared.stored.formats.StoredFormat.{StoredFormat}
-use Rattle.apfloat_arrays.specs.stored.Formats.{largest_code}
+use Rattle.apfloat_arrays.specs.{declared.stored.formats.StoredFormat.StoredFormat, stored.Formats.largest_code}
 use Rattle.apfloat_arrays.specs.stored.NumberCodes.{HasConstants, IsWordSource, biased_of, is_minus, significand_of}
 use Rattle.apfloat_arrays.specs.stored.Stored.{IsOwn, IsSaturatedCode, IsStoredBy, saturated_code}
 use Rattle.apfloat_arrays.proofs.stored_lemmas.Numbers.{number_read}

@@ -1,43 +1,33 @@
 -- Numbers that become codes: a significand that is moved up, cut and rounded.
-use Rattle.std.proofs.Common.{◌≡◌, ℕ, ◌+◌, ◌-◌, ◌*◌, ◌/◌, ◌%◌, ◌^◌, ◌<◌, ◌≤◌, ◌⊎◌, min, Bool, true, false, cond, not}
-use Rattle.std.proofs.Common.{eqb, leb, ltb, refl, sym, ap, ◌∙◌, subst, inl, inr, ⊎_elim, arith}
-use Rattle.std.specs.Bool.{MatchBool}
-use Rattle.std.specs.Int.RustNames.{bit_and}
+use Rattle.std.proofs.Common.{◌≡◌, ℕ, ◌+◌, ◌-◌, ◌*◌, ◌/◌, ◌%◌, ◌^◌, ◌<◌, ◌≤◌}
+use Rattle.std.proofs.Common.{◌⊎◌, min, Bool, true, false, cond, not, eqb, leb, ltb, refl, sym, ap, ◌∙◌}
+use Rattle.std.proofs.Common.{subst, inl, inr, ⊎_elim, arith}
 use Rattle.std.proofs.Math.Nat.{add-mul-mod_self_right, div-eq_of_lt, min-eq_left, min-eq_right, min-le_right}
 use Rattle.std.proofs.Math.Nat.{mod-eq_of_lt, mul-le-mul_right, mul-lt-mul_of_pos_right, pow-le-pow_right}
 use Rattle.std.proofs.lemmas.Bool.{cases_eq, cases_lt, cond-false, eq-eqb, eqb-true, le-leb, le-ltb, lt-leb, lt-ltb}
-use Rattle.std.proofs.lemmas.Bool.{eqb-false}
-use Rattle.std.proofs.lemmas.Bool.{ne_eqb}
-use Rattle.std.proofs.lemmas.Nat.{div-add-mod', mod_below, pow-add, pow_pos}
+use Rattle.std.proofs.lemmas.{Bool.eqb-false, Bool.ne_eqb, Nat.div-add-mod', Nat.mod_below, Nat.pow-add, Nat.pow_pos}
+use Rattle.std.specs.{Bool.MatchBool, Int.RustNames.bit_and}
 use Rattle.apfloat_model.specs.bits.Layout.{datum_of, datum_of_fields, trailing_bits}
-use Rattle.apfloat_model.specs.declared.kinds.NonfiniteBehavior.TheVariants.{IEEE754}
-use Rattle.apfloat_model.specs.declared.kinds.Round.{Round}
-use Rattle.apfloat_model.specs.formats.Datum.{Datum, finite}
-use Rattle.apfloat_model.specs.formats.Format.{Format, largest}
+use Rattle.apfloat_model.specs.declared.kinds.{NonfiniteBehavior.TheVariants.IEEE754, Round.Round}
+use Rattle.apfloat_model.specs.formats.{Datum.Datum, Datum.finite, Format.Format, Format.largest}
 use Rattle.apfloat_model.specs.formats.Lawful.{Constants, format_with as constants_format, layout_with}
-use Rattle.apfloat_model.specs.rounding.Enclosure.{IsEnclosed, rounds_up}
-use Rattle.apfloat_model.specs.rounding.Rounding.{IsPick, delivered_status, leads_out}
-use Rattle.apfloat_model.specs.rounding.Standing.{StandsFor}
-use Rattle.apfloat_model.proofs.bits.EncodedOnce.{fields_with}
-use Rattle.apfloat_model.proofs.general.Powers.{twice_half, two_pos}
-use Rattle.apfloat_model.proofs.rounding.Laws.{exact_is_picked, zero_on_grid}
-use Rattle.apfloat_model.proofs.rounding.Picks.{pick_unique}
+use Rattle.apfloat_model.specs.rounding.{Enclosure.IsEnclosed, Enclosure.rounds_up, Rounding.IsPick}
+use Rattle.apfloat_model.specs.rounding.{Rounding.delivered_status, Rounding.leads_out, Standing.StandsFor}
+use Rattle.apfloat_model.proofs.{bits.EncodedOnce.fields_with, general.Powers.twice_half, general.Powers.two_pos}
+use Rattle.apfloat_model.proofs.rounding.{Laws.exact_is_picked, Laws.zero_on_grid, Picks.pick_unique}
 use Rattle.apfloat_model.proofs.rounding.KeptDigits.{enclosed_from, fits_cut, full_cut}
 use Rattle.apfloat_rounding.specs.Cuts.{loss_at}
 use Rattle.apfloat_rounding.proofs.CutRests.{loss_zero, rest_stands, loss_some}
 use Rattle.fast_bits.specs.Addends.{rounded_by}
-use Rattle.fast_bits.proofs.lanes_lemmas.Cuts.{far_below, in_quanta}
-use Rattle.fast_bits.proofs.lanes_lemmas.Singles.{fields_number}
+use Rattle.fast_bits.proofs.lanes_lemmas.{Cuts.far_below, Cuts.in_quanta, Singles.fields_number}
 use Rattle.small_formats.specs.Codes.{datum_of as number_of_code, largest_index, magnitude_of, point}
 use Rattle.small_formats.specs.Conversions.{IsGiven, IsInto, IsStoredNumber, saturated_value}
-use Rattle.small_formats.specs.Picks.{IsPickedAt}
-use Rattle.small_formats.specs.blocks.Elements.{IsSaturatedIn}
+use Rattle.small_formats.specs.{Picks.IsPickedAt, blocks.Elements.IsSaturatedIn}
 use Rattle.small_formats.specs.Storage.{IsLawfulStorage, StorageConstants, format_with}
 use Rattle.small_formats.proofs.Points.{points_in_order}
 use Rattle.small_formats.proofs.StoredPicks.{largest_point, not_greater, picked_at, tiny_is}
-use Rattle.apfloat_arrays.specs.stored.NumberCodes.{HasCodes, IsCodedNumber, biased_of, code_at, is_minus}
-use Rattle.apfloat_arrays.specs.stored.NumberCodes.{quanta_in, significand_of}
-use Rattle.apfloat_arrays.specs.stored.NumberCodes.{status_at}
+use Rattle.apfloat_arrays.specs.stored.NumberCodes.{HasCodes, IsCodedNumber, biased_of, code_at, is_minus, quanta_in}
+use Rattle.apfloat_arrays.specs.stored.NumberCodes.{significand_of, status_at}
 
 -- ---- the cut
 

@@ -1,14 +1,12 @@
 -- The conversion of the value of some bits is unique.
 use Rattle.std.proofs.Common.{◌≡◌, ℕ, ◌%◌}
 use Rattle.rustc_apfloat.specs.declared.Round.{Round}
-use Rattle.formats_at_run_time.specs.BuiltIns.{constants_in}
-use Rattle.formats_at_run_time.specs.FlaggedKinds.{flagged_constants}
+use Rattle.formats_at_run_time.specs.{BuiltIns.constants_in, FlaggedKinds.flagged_constants}
+use Rattle.formats_at_run_time.proofs.FormatLaws.{format_law}
 use Rattle.small_formats.specs.declared.saturation.Overflow.{Overflow}
 use Rattle.apfloat_arrays.specs.declared.counts.Outcome.{Outcome}
-use Rattle.apfloat_arrays.specs.declared.stored.array.Ends.{Ends}
-use Rattle.apfloat_arrays.specs.declared.stored.array.Ends.TheVariants.{Into, OutOf}
+use Rattle.apfloat_arrays.specs.declared.stored.array.Ends.{Ends, TheVariants.Into, TheVariants.OutOf}
 use Rattle.apfloat_arrays.specs.stored.Numbers.{IsConvertedNumber}
-use Rattle.formats_at_run_time.proofs.FormatLaws.{format_law}
 use Rattle.apfloat_arrays.proofs.stored_lemmas.StoredOnce.{loaded_once, stored_once}
 
 pub converted_number_once : (overflow : Overflow) (mode : Round) (ends : Ends) (bits value other : ℕ)

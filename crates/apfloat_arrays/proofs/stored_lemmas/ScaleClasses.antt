@@ -1,10 +1,8 @@
 -- The class and the sign of a scale.
 use Rattle.std.proofs.Common.{◌≡◌, ℕ, ◌^◌, Bool, true, false, eqb, if◌then◌else◌, refl}
-use Rattle.rustc_apfloat.specs.Classes.{is_negative}
-use Rattle.rustc_apfloat.specs.Datum.{Datum, finite, nan}
-use Rattle.small_formats.specs.Scales.{scale_of}
-use Rattle.small_formats.specs.declared.saturation.ValueClass.TheVariants.{Number, NotANumber}
-use Rattle.small_formats.specs.saturation.Saturation.{class_of}
+use Rattle.rustc_apfloat.specs.{Classes.is_negative, Datum.Datum, Datum.finite, Datum.nan}
+use Rattle.small_formats.specs.{Scales.scale_of, declared.saturation.ValueClass.TheVariants.Number}
+use Rattle.small_formats.specs.{declared.saturation.ValueClass.TheVariants.NotANumber, saturation.Saturation.class_of}
 
 abbrev scale_if : Bool → ℕ → Datum
 scale_if none code = if none then nan false 0 else finite false (2 ^ code)

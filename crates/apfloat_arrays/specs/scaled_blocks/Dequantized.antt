@@ -1,24 +1,14 @@
 -- Arrays of values out of blocks.
-use Rattle.std.specs.Prelude.{◌≡◌, ℕ, ◌/◌, get_or, List, length}
-use Rattle.std.specs.Prelude.{Result, Ok, Err}
-use Rattle.rustc_apfloat.specs.declared.Round.{Round}
-use Rattle.rustc_apfloat.specs.Classes.{is_nan}
-use Rattle.rustc_apfloat.specs.Datum.{Datum}
-use Rattle.rustc_apfloat.specs.Flags.{bits_of}
-use Rattle.rustc_apfloat.specs.Lawful.{Constants, format_with, layout_with}
-use Rattle.rustc_apfloat.specs.Layout.{IsEncodedBy}
+use Rattle.std.specs.Prelude.{◌≡◌, ℕ, ◌/◌, get_or, List, length, Result, Ok, Err}
+use Rattle.rustc_apfloat.specs.{declared.Round.Round, Classes.is_nan, Datum.Datum, Flags.bits_of, Lawful.Constants}
+use Rattle.rustc_apfloat.specs.{Lawful.format_with, Lawful.layout_with, Layout.IsEncodedBy}
 use Rattle.formats_at_run_time.specs.FlaggedKinds.{flagged_constants, format_without_rule}
-use Rattle.apfloat_arrays.specs.declared.counts.Counts.{Counts}
-use Rattle.apfloat_arrays.specs.declared.counts.Outcome.{Outcome}
+use Rattle.apfloat_arrays.specs.declared.counts.{Counts.Counts, Outcome.Outcome}
 use Rattle.apfloat_arrays.specs.declared.widths.Extended.TheVariants.{Packed}
-use Rattle.apfloat_arrays.specs.Blocks.{AreInPlaces}
-use Rattle.apfloat_arrays.specs.Bytes.{number_of}
-use Rattle.apfloat_arrays.specs.Outcomes.{counts_of}
-use Rattle.apfloat_arrays.specs.Widths.{width_of}
-use Rattle.apfloat_arrays.specs.declared.scaled_blocks.errors.ArrayError.{ArrayError}
-use Rattle.apfloat_arrays.specs.declared.scaled_blocks.errors.ArrayError.TheVariants.{CodeTooWide}
+use Rattle.apfloat_arrays.specs.declared.scaled_blocks.errors.ArrayError.{ArrayError, TheVariants.CodeTooWide}
 use Rattle.apfloat_arrays.specs.declared.scaled_blocks.dequantizing.Dequantization.{Dequantization}
-use Rattle.apfloat_arrays.specs.declared.scaled_blocks.formats.BlockFormat.{BlockFormat}
+use Rattle.apfloat_arrays.specs.{declared.scaled_blocks.formats.BlockFormat.BlockFormat, Blocks.AreInPlaces}
+use Rattle.apfloat_arrays.specs.{Bytes.number_of, Outcomes.counts_of, Widths.width_of}
 use Rattle.apfloat_arrays.specs.scaled_blocks.Formats.{AreNarrow, AreWide, IsScaledIn}
 
 -- how many bytes a value takes

@@ -1,18 +1,10 @@
 -- Formats of blocks.
 use Rattle.std.specs.Prelude.{ℕ, ◌^◌, ◌<◌, ◌≤◌, ◌⊎◌, ⊤, Bool, true, List, All, Any}
-use Rattle.rustc_apfloat.specs.declared.Round.{Round}
-use Rattle.rustc_apfloat.specs.Datum.{Datum}
-use Rattle.rustc_apfloat.specs.Formats.{single_constants}
-use Rattle.rustc_apfloat.specs.Lawful.{format_with}
-use Rattle.apfloat_model.specs.formats.Format.{Format}
-use Rattle.apfloat_model.specs.order.Classes.{quanta_of}
-use Rattle.apfloat_model.specs.order.Positive.{IsPositive}
+use Rattle.rustc_apfloat.specs.{declared.Round.Round, Datum.Datum, Formats.single_constants, Lawful.format_with}
+use Rattle.apfloat_model.specs.{formats.Format.Format, order.Classes.quanta_of, order.Positive.IsPositive}
 use Rattle.formats_at_run_time.specs.ValueKinds.{value_of}
-use Rattle.small_formats.specs.Scales.{nan_code}
-use Rattle.small_formats.specs.declared.blocks.Block.{Block}
-use Rattle.small_formats.specs.declared.blocks.ScaleRule.{ScaleRule}
-use Rattle.small_formats.specs.blocks.Elements.{width}
-use Rattle.small_formats.specs.blocks.MxBlocks.{IsBlockBy, IsScaled}
+use Rattle.small_formats.specs.{Scales.nan_code, declared.blocks.Block.Block, declared.blocks.ScaleRule.ScaleRule}
+use Rattle.small_formats.specs.blocks.{Elements.width, MxBlocks.IsBlockBy, MxBlocks.IsScaled}
 use Rattle.small_formats.specs.blocks.Nvfp4.{IsNvBlock, IsNvScaled, is_positive, nan_scale as nan_of_nvfp4}
 use Rattle.apfloat_arrays.specs.declared.scaled_blocks.formats.BlockFormat.{BlockFormat}
 use Rattle.apfloat_arrays.specs.declared.scaled_blocks.formats.BlockFormat.TheVariants.{Mx, Nvfp4}

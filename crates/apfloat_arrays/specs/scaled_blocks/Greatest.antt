@@ -1,11 +1,9 @@
 -- The greatest magnitude of values, by their bits.
-use Rattle.std.specs.Prelude.{◌≡◌, ℕ, ◌-◌, ◌*◌, ◌^◌, ◌<◌, ◌≤◌, true, false, List, MatchOption, Option}
-use Rattle.rustc_apfloat.specs.Datum.{Datum, finite}
-use Rattle.rustc_apfloat.specs.Format.{Format}
-use Rattle.rustc_apfloat.specs.Lawful.{Constants}
+use Rattle.std.specs.Prelude.{◌≡◌, ℕ, ◌-◌, ◌*◌, ◌^◌, ◌<◌, ◌≤◌, true, false, List}
+use Rattle.std.specs.Prelude.{MatchOption, Option}
+use Rattle.rustc_apfloat.specs.{Datum.Datum, Datum.finite, Format.Format, Lawful.Constants}
 use Rattle.apfloat_model.specs.formats.Members.{IsMember}
-use Rattle.small_formats.specs.Codes.{point}
-use Rattle.small_formats.specs.blocks.Magnitudes.{are_finite, greatest_magnitude}
+use Rattle.small_formats.specs.{Codes.point, blocks.Magnitudes.are_finite, blocks.Magnitudes.greatest_magnitude}
 
 -- the bits of +infinity, if the integer bit is implied
 abbrev pub special_bits : Constants → ℕ

@@ -1,13 +1,10 @@
 -- Arrays in blocks have one answer.
 use Rattle.std.specs.Prelude.{◌≡◌, ℕ, List, length, Result}
-use Rattle.apfloat_arrays.specs.declared.counts.Counts.{Counts}
-use Rattle.apfloat_arrays.specs.Bytes.{AreBytes}
-use Rattle.apfloat_arrays.specs.declared.scaled_blocks.errors.ArrayError.{ArrayError}
+use Rattle.apfloat_arrays.specs.declared.{counts.Counts.Counts, scaled_blocks.errors.ArrayError.ArrayError}
 use Rattle.apfloat_arrays.specs.declared.scaled_blocks.dequantizing.Dequantization.{Dequantization}
-use Rattle.apfloat_arrays.specs.declared.scaled_blocks.quantizing.Quantization.{Quantization}
+use Rattle.apfloat_arrays.specs.{declared.scaled_blocks.quantizing.Quantization.Quantization, Bytes.AreBytes}
 use Rattle.apfloat_arrays.specs.scaled_blocks.Dequantized.{IsDequantizedArray, width_out}
-use Rattle.apfloat_arrays.specs.scaled_blocks.Lengths.{blocks_in}
-use Rattle.apfloat_arrays.specs.scaled_blocks.Quantized.{IsQuantizedArray, width_in}
+use Rattle.apfloat_arrays.specs.scaled_blocks.{Lengths.blocks_in, Quantized.IsQuantizedArray, Quantized.width_in}
 
 -- what a call leaves in lent bytes: as many
 pub record AreLeftIn (before after : List ℕ) : Type 0 where

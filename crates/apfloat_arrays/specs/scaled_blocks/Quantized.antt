@@ -2,16 +2,12 @@
 use Rattle.std.specs.Prelude.{◌≡◌, ℕ, ◌*◌, if◌then◌else◌, List, [], ◌∷◌, map, Result, Ok, Err}
 use Rattle.rustc_apfloat.specs.Lawful.{format_with}
 use Rattle.formats_at_run_time.specs.BuiltIns.{constants_in}
-use Rattle.apfloat_arrays.specs.declared.counts.Counts.{Counts}
-use Rattle.apfloat_arrays.specs.declared.widths.Extended.TheVariants.{Packed}
-use Rattle.apfloat_arrays.specs.Blocks.{AreInPlaces}
-use Rattle.apfloat_arrays.specs.Outcomes.{sum_of}
-use Rattle.apfloat_arrays.specs.Widths.{width_of}
-use Rattle.small_formats.specs.declared.blocks.Block.{Block}
+use Rattle.apfloat_arrays.specs.declared.{counts.Counts.Counts, widths.Extended.TheVariants.Packed}
 use Rattle.apfloat_arrays.specs.declared.scaled_blocks.errors.ArrayError.{ArrayError}
-use Rattle.apfloat_arrays.specs.declared.scaled_blocks.quantizing.Quantization.{Quantization}
-use Rattle.apfloat_arrays.specs.scaled_blocks.Formats.{IsBlockIn}
-use Rattle.apfloat_arrays.specs.scaled_blocks.Values.{values_in}
+use Rattle.apfloat_arrays.specs.{declared.scaled_blocks.quantizing.Quantization.Quantization, Blocks.AreInPlaces}
+use Rattle.apfloat_arrays.specs.{Outcomes.sum_of, Widths.width_of}
+use Rattle.apfloat_arrays.specs.scaled_blocks.{Formats.IsBlockIn, Values.values_in}
+use Rattle.small_formats.specs.declared.blocks.Block.{Block}
 
 -- how many bytes a value takes
 abbrev pub width_in : Quantization → ℕ

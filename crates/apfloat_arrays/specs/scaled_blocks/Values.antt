@@ -1,10 +1,8 @@
 -- Values in consecutive bytes.
 use Rattle.std.specs.Prelude.{ℕ, zero, suc, List, [], ◌∷◌}
-use Rattle.rustc_apfloat.specs.Datum.{Datum}
-use Rattle.rustc_apfloat.specs.Lawful.{Constants}
+use Rattle.rustc_apfloat.specs.{Datum.Datum, Lawful.Constants}
 use Rattle.formats_at_run_time.specs.ValueKinds.{value_of}
-use Rattle.apfloat_arrays.specs.Blocks.{value_at}
-use Rattle.apfloat_arrays.specs.Bytes.{number_of}
+use Rattle.apfloat_arrays.specs.{Blocks.value_at, Bytes.number_of}
 
 -- the value with that index, if each takes `width` bytes
 abbrev pub value_in : Constants → ℕ → List ℕ → ℕ → Datum

@@ -1,26 +1,15 @@
 -- Arrays of values of storage formats.
 use Rattle.std.specs.Prelude.{◌≡◌, ℕ, ◌^◌, ◌<◌, Bool, List}
-use Rattle.rustc_apfloat.specs.declared.Round.{Round}
-use Rattle.rustc_apfloat.specs.Classes.{is_nan}
-use Rattle.rustc_apfloat.specs.Datum.{Datum}
-use Rattle.rustc_apfloat.specs.Flags.{bits_of}
-use Rattle.rustc_apfloat.specs.Lawful.{Constants, format_with, layout_with}
-use Rattle.rustc_apfloat.specs.Layout.{datum_of, IsEncodedBy}
+use Rattle.rustc_apfloat.specs.{declared.Round.Round, Classes.is_nan, Datum.Datum, Flags.bits_of, Lawful.Constants}
+use Rattle.rustc_apfloat.specs.{Lawful.format_with, Lawful.layout_with, Layout.datum_of, Layout.IsEncodedBy}
 use Rattle.formats_at_run_time.specs.BuiltIns.{constants_in}
 use Rattle.formats_at_run_time.specs.FlaggedKinds.{flagged_constants, format_without_rule}
-use Rattle.apfloat_arrays.specs.declared.widths.Extended.{Extended}
-use Rattle.apfloat_arrays.specs.declared.counts.Outcome.{Outcome}
-use Rattle.small_formats.specs.declared.saturation.Overflow.{Overflow}
-use Rattle.apfloat_arrays.specs.declared.widths.Widths.{Widths}
-use Rattle.apfloat_arrays.specs.Bytes.{number_of}
-use Rattle.small_formats.specs.saturation.Saturation.{IsConversionBy}
-use Rattle.apfloat_arrays.specs.Widths.{width_of}
-use Rattle.apfloat_arrays.specs.declared.stored.formats.StoredFormat.{StoredFormat}
-use Rattle.apfloat_arrays.specs.declared.stored.array.Ends.{Ends}
-use Rattle.apfloat_arrays.specs.declared.stored.array.Ends.TheVariants.{Into, OutOf}
-use Rattle.apfloat_arrays.specs.declared.stored.array.StorageArray.{StorageArray}
-use Rattle.apfloat_arrays.specs.stored.Formats.{bits_in, datum_in, format_in}
-use Rattle.apfloat_arrays.specs.stored.Stored.{IsStoredBy}
+use Rattle.apfloat_arrays.specs.declared.widths.{Extended.Extended, Widths.Widths}
+use Rattle.apfloat_arrays.specs.declared.{counts.Outcome.Outcome, stored.formats.StoredFormat.StoredFormat}
+use Rattle.apfloat_arrays.specs.declared.stored.array.Ends.{Ends, TheVariants.Into, TheVariants.OutOf}
+use Rattle.apfloat_arrays.specs.{declared.stored.array.StorageArray.StorageArray, Bytes.number_of, Widths.width_of}
+use Rattle.apfloat_arrays.specs.stored.{Formats.bits_in, Formats.datum_in, Formats.format_in, Stored.IsStoredBy}
+use Rattle.small_formats.specs.{declared.saturation.Overflow.Overflow, saturation.Saturation.IsConversionBy}
 
 -- the value of these bits becomes this code
 pub record IsStoredAs (overflow : Overflow) (c : Constants) (format : StoredFormat) (mode : Round) (bits code : ℕ)

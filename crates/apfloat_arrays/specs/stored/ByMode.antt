@@ -1,34 +1,21 @@
 -- Conversions into storage formats by the modes of conversions.
 use Rattle.std.specs.Prelude.{◌≡◌, ⊤, ℕ, ◌+◌, ◌*◌, ◌%◌, ◌^◌, ◌<◌, ◌≤◌, Bool, List}
-use Rattle.rustc_apfloat.specs.Classes.{is_nan}
-use Rattle.rustc_apfloat.specs.Datum.{Datum}
-use Rattle.rustc_apfloat.specs.Flags.{bits_of}
-use Rattle.rustc_apfloat.specs.Format.{Format}
-use Rattle.rustc_apfloat.specs.Lawful.{Constants, format_with, layout_with}
-use Rattle.rustc_apfloat.specs.Layout.{datum_of}
+use Rattle.rustc_apfloat.specs.{Classes.is_nan, Datum.Datum, Flags.bits_of, Format.Format, Lawful.Constants}
+use Rattle.rustc_apfloat.specs.{Lawful.format_with, Lawful.layout_with, Layout.datum_of}
 use Rattle.formats_at_run_time.specs.BuiltIns.{constants_in}
 use Rattle.small_formats.specs.declared.ConversionRound.{ConversionRound}
 use Rattle.small_formats.specs.declared.ConversionRound.TheVariants.{Ieee, ToOdd, Stochastic}
-use Rattle.small_formats.specs.declared.NanResult.TheVariants.{Zero}
-use Rattle.small_formats.specs.Float8E3M4.{e3m4_datum, e3m4_format}
-use Rattle.small_formats.specs.ModeConversions.{IsIntoBy}
-use Rattle.small_formats.specs.ScaleModes.{IsScaleBy}
-use Rattle.small_formats.specs.stochastic.ElementConversions.{IsUnsignedBy}
-use Rattle.small_formats.specs.stochastic.ModeConversions.{IsConversionBy}
-use Rattle.apfloat_arrays.specs.declared.counts.Counts.{Counts}
-use Rattle.apfloat_arrays.specs.declared.counts.Outcome.{Outcome}
-use Rattle.apfloat_arrays.specs.declared.widths.Extended.TheVariants.{Packed}
-use Rattle.apfloat_arrays.specs.Blocks.{AreInPlaces, value_at}
-use Rattle.apfloat_arrays.specs.Bytes.{number_of}
-use Rattle.apfloat_arrays.specs.Outcomes.{counts_of}
-use Rattle.apfloat_arrays.specs.Widths.{width_of}
-use Rattle.apfloat_arrays.specs.declared.stored.formats.StoredFormat.{StoredFormat}
-use Rattle.apfloat_arrays.specs.declared.stored.formats.StoredFormat.TheVariants.{E2M1FN, E2M3FN, E3M2FN, E3M4}
-use Rattle.apfloat_arrays.specs.declared.stored.formats.StoredFormat.TheVariants.{E8M0FNU, UE4M3}
-use Rattle.apfloat_arrays.specs.declared.stored.by_mode.EachRound.{EachRound}
+use Rattle.small_formats.specs.{declared.NanResult.TheVariants.Zero, Float8E3M4.e3m4_datum, Float8E3M4.e3m4_format}
+use Rattle.small_formats.specs.{ModeConversions.IsIntoBy, ScaleModes.IsScaleBy}
+use Rattle.small_formats.specs.stochastic.{ElementConversions.IsUnsignedBy, ModeConversions.IsConversionBy}
+use Rattle.apfloat_arrays.specs.declared.counts.{Counts.Counts, Outcome.Outcome}
+use Rattle.apfloat_arrays.specs.declared.{widths.Extended.TheVariants.Packed, stored.formats.StoredFormat.StoredFormat}
+use Rattle.apfloat_arrays.specs.declared.stored.formats.StoredFormat.TheVariants.{E2M1FN, E2M3FN, E3M2FN, E3M4, E8M0FNU}
+use Rattle.apfloat_arrays.specs.declared.stored.{formats.StoredFormat.TheVariants.UE4M3, by_mode.EachRound.EachRound}
 use Rattle.apfloat_arrays.specs.declared.stored.by_mode.EachRound.TheVariants.{Ieee as EachIeee, ToOdd as EachToOdd}
 use Rattle.apfloat_arrays.specs.declared.stored.by_mode.EachRound.TheVariants.{Stochastic as EachStochastic}
-use Rattle.apfloat_arrays.specs.declared.stored.by_mode.ModeConversion.{ModeConversion}
+use Rattle.apfloat_arrays.specs.{declared.stored.by_mode.ModeConversion.ModeConversion, Blocks.AreInPlaces}
+use Rattle.apfloat_arrays.specs.{Blocks.value_at, Bytes.number_of, Outcomes.counts_of, Widths.width_of}
 use Rattle.apfloat_arrays.specs.stored.Formats.{bits_in, datum_in, e2m1fn_constants, e2m3fn_constants, e3m2fn_constants}
 
 -- ---- modes

@@ -1,10 +1,8 @@
 -- Tables of what codes of a storage format become.
 use Rattle.std.specs.Prelude.{ℕ, List}
-use Rattle.rustc_apfloat.specs.declared.Round.{Round}
-use Rattle.rustc_apfloat.specs.Lawful.{Constants}
+use Rattle.rustc_apfloat.specs.{declared.Round.Round, Lawful.Constants}
 use Rattle.small_formats.specs.declared.saturation.Overflow.{Overflow}
-use Rattle.apfloat_arrays.specs.declared.stored.formats.StoredFormat.{StoredFormat}
-use Rattle.apfloat_arrays.specs.Tables.{IsResultTable}
+use Rattle.apfloat_arrays.specs.{declared.stored.formats.StoredFormat.StoredFormat, Tables.IsResultTable}
 use Rattle.apfloat_arrays.specs.stored.Arrays.{IsLoaded}
 
 -- the entries of the bytes below `size`

@@ -1,16 +1,12 @@
 -- The storage formats, with their words and codes, and what codes mean.
-use Rattle.std.specs.Prelude.{ℕ, pos, negsuc, ◌%◌, ◌^◌, ◌==◌, Bool, true, false, if◌then◌else◌, List, [], ◌∷◌, codes}
-use Rattle.std.specs.Prelude.{Option, Some, None}
-use Rattle.rustc_apfloat.specs.Datum.{Datum}
-use Rattle.rustc_apfloat.specs.Digits.{same}
-use Rattle.rustc_apfloat.specs.Format.{Format}
-use Rattle.small_formats.specs.Codes.{datum_of}
-use Rattle.small_formats.specs.Float8E3M4.{e3m4_datum, e3m4_format}
-use Rattle.small_formats.specs.Scales.{scale_format, scale_of}
-use Rattle.small_formats.specs.Storage.{StorageConstants, constants_with, format_with}
+use Rattle.std.specs.Prelude.{ℕ, pos, negsuc, ◌%◌, ◌^◌, ◌==◌, Bool, true, false, if◌then◌else◌}
+use Rattle.std.specs.Prelude.{List, [], ◌∷◌, codes, Option, Some, None}
+use Rattle.rustc_apfloat.specs.{Datum.Datum, Digits.same, Format.Format}
+use Rattle.small_formats.specs.{Codes.datum_of, Float8E3M4.e3m4_datum, Float8E3M4.e3m4_format, Scales.scale_format}
+use Rattle.small_formats.specs.{Scales.scale_of, Storage.StorageConstants, Storage.constants_with, Storage.format_with}
 use Rattle.small_formats.specs.Unsigned.{signed_format, unsigned_datum}
-use Rattle.apfloat_arrays.specs.declared.stored.formats.StoredFormat.{StoredFormat}
-use Rattle.apfloat_arrays.specs.declared.stored.formats.StoredFormat.TheVariants.{E2M1FN, E2M3FN, E3M2FN, E3M4, E8M0FNU, UE4M3}
+use Rattle.apfloat_arrays.specs.declared.stored.formats.StoredFormat.{StoredFormat, TheVariants.E2M1FN}
+use Rattle.apfloat_arrays.specs.declared.stored.formats.StoredFormat.TheVariants.{E2M3FN, E3M2FN, E3M4, E8M0FNU, UE4M3}
 
 -- ---- formats
 

@@ -3,12 +3,9 @@ use Rattle.std.specs.Prelude.{◌≡◌, ℕ, ◌+◌, ◌-◌, ◌*◌, ◌<◌
 use Rattle.rustc_apfloat.specs.Lawful.{Constants}
 use Rattle.fast_bits.specs.declared.words.WordPlan.{WordPlan}
 use Rattle.small_formats.specs.Storage.{StorageConstants}
-use Rattle.apfloat_arrays.specs.declared.counts.Counts.{Counts}
-use Rattle.apfloat_arrays.specs.declared.stored.array.StoreCall.{StoreCall}
-use Rattle.apfloat_arrays.specs.declared.stored.formats.StoredFormat.{StoredFormat}
-use Rattle.apfloat_arrays.specs.Blocks.{IsBlock}
-use Rattle.apfloat_arrays.specs.stored.Arrays.{IsStoredIn}
-use Rattle.apfloat_arrays.specs.stored.NumberCodes.{HasConstants, IsWordSource}
+use Rattle.apfloat_arrays.specs.declared.{counts.Counts.Counts, stored.array.StoreCall.StoreCall}
+use Rattle.apfloat_arrays.specs.{declared.stored.formats.StoredFormat.StoredFormat, Blocks.IsBlock}
+use Rattle.apfloat_arrays.specs.stored.{Arrays.IsStoredIn, NumberCodes.HasConstants, NumberCodes.IsWordSource}
 
 -- the bytes of all values, and room for their codes
 pub record AreStorable (c : Constants) (call : StoreCall) (into : List ℕ) : Type 0 where

@@ -1,21 +1,12 @@
 -- Numbers that become codes of a storage format without infinities and NaNs, from bits to bits.
 use Rattle.std.specs.Prelude.{◌≡◌, ℕ, ◌+◌, ◌-◌, ◌*◌, ◌/◌, ◌%◌, ◌^◌, ◌<◌, ◌≤◌}
-use Rattle.std.specs.Prelude.{min, negsuc, ◌≤ℤ◌, Bool, false}
-use Rattle.std.specs.Prelude.{eqb, ltb, if◌then◌else◌}
-use Rattle.apfloat_model.specs.declared.kinds.NonfiniteBehavior.TheVariants.{IEEE754}
-use Rattle.apfloat_model.specs.rounding.Rounding.{leads_out}
-use Rattle.rustc_apfloat.specs.declared.Round.{Round}
-use Rattle.rustc_apfloat.specs.Classes.{is_nan}
-use Rattle.rustc_apfloat.specs.Datum.{Datum, finite}
-use Rattle.rustc_apfloat.specs.Format.{Format, largest}
-use Rattle.rustc_apfloat.specs.Lawful.{Constants}
-use Rattle.small_formats.specs.Codes.{point}
-use Rattle.small_formats.specs.Conversions.{IsInto}
-use Rattle.small_formats.specs.Picks.{IsPickedAt}
-use Rattle.small_formats.specs.Storage.{StorageConstants}
+use Rattle.std.specs.Prelude.{min, negsuc, ◌≤ℤ◌, Bool, false, eqb, ltb, if◌then◌else◌}
+use Rattle.apfloat_model.specs.{declared.kinds.NonfiniteBehavior.TheVariants.IEEE754, rounding.Rounding.leads_out}
+use Rattle.rustc_apfloat.specs.{declared.Round.Round, Classes.is_nan, Datum.Datum, Datum.finite, Format.Format}
+use Rattle.rustc_apfloat.specs.{Format.largest, Lawful.Constants}
+use Rattle.small_formats.specs.{Codes.point, Conversions.IsInto, Picks.IsPickedAt, Storage.StorageConstants}
 use Rattle.apfloat_arrays.specs.declared.stored.formats.StoredFormat.{StoredFormat}
-use Rattle.apfloat_arrays.specs.stored.Formats.{bits_in, datum_in, largest_code}
-use Rattle.apfloat_arrays.specs.stored.Stored.{IsStored}
+use Rattle.apfloat_arrays.specs.stored.{Formats.bits_in, Formats.datum_in, Formats.largest_code, Stored.IsStored}
 
 -- the numbers have at most 24 digits and an implied integer bit
 abbrev pub IsWordFormat : Constants → Type 0

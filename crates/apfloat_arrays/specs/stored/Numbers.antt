@@ -1,12 +1,10 @@
 -- One value into a storage format or out of it, by its bits.
 use Rattle.std.specs.Prelude.{ℕ, ◌%◌}
 use Rattle.rustc_apfloat.specs.declared.Round.{Round}
-use Rattle.formats_at_run_time.specs.BuiltIns.{constants_in}
-use Rattle.formats_at_run_time.specs.FlaggedKinds.{flagged_constants}
+use Rattle.formats_at_run_time.specs.{BuiltIns.constants_in, FlaggedKinds.flagged_constants}
 use Rattle.small_formats.specs.declared.saturation.Overflow.{Overflow}
 use Rattle.apfloat_arrays.specs.declared.counts.Outcome.{Outcome}
-use Rattle.apfloat_arrays.specs.declared.stored.array.Ends.{Ends}
-use Rattle.apfloat_arrays.specs.declared.stored.array.Ends.TheVariants.{Into, OutOf}
+use Rattle.apfloat_arrays.specs.declared.stored.array.Ends.{Ends, TheVariants.Into, TheVariants.OutOf}
 use Rattle.apfloat_arrays.specs.stored.Arrays.{IsLoaded, IsStoredAs}
 
 -- as `IsConvertedAt`; a code is the lowest byte of its bits

@@ -1,25 +1,19 @@
 -- Conversions into storage formats with any treatment of overflow.
-use Rattle.std.specs.Prelude.{◌≡◌, ℕ, ◌^◌, ◌<◌, bit_and, Bool, false, not, ◌==◌, if◌then◌else◌}
+use Rattle.std.specs.Prelude.{◌≡◌, ℕ, ◌^◌, ◌<◌, bit_and, Bool, false, not, ◌==◌}
+use Rattle.std.specs.Prelude.{if◌then◌else◌}
 use Rattle.std.specs.Bool.{MatchBool}
-use Rattle.rustc_apfloat.specs.declared.Round.{Round}
-use Rattle.rustc_apfloat.specs.Classes.{is_negative}
-use Rattle.rustc_apfloat.specs.Conversions.{IsConversion}
+use Rattle.rustc_apfloat.specs.{declared.Round.Round, Classes.is_negative, Conversions.IsConversion}
 use Rattle.rustc_apfloat.specs.Datum.{Datum, finite, infinite, nan}
-use Rattle.rustc_apfloat.specs.Format.{Format}
-use Rattle.rustc_apfloat.specs.Nan.{invalid_bit}
-use Rattle.rustc_apfloat.specs.Rounding.{inexact_bit, overflow_bit}
-use Rattle.small_formats.specs.Conversions.{IsInto}
-use Rattle.small_formats.specs.Float8E3M4.{e3m4_datum, e3m4_format}
-use Rattle.small_formats.specs.Scales.{IsScale}
+use Rattle.rustc_apfloat.specs.{Format.Format, Nan.invalid_bit, Rounding.inexact_bit, Rounding.overflow_bit}
+use Rattle.small_formats.specs.{Conversions.IsInto, Float8E3M4.e3m4_datum, Float8E3M4.e3m4_format, Scales.IsScale}
 use Rattle.small_formats.specs.Unsigned.{IsUnsigned}
-use Rattle.small_formats.specs.declared.saturation.FiniteNan.{FiniteNan}
-use Rattle.small_formats.specs.declared.saturation.FiniteNan.TheVariants.{Kept, Largest}
+use Rattle.small_formats.specs.declared.saturation.FiniteNan.{FiniteNan, TheVariants.Kept, TheVariants.Largest}
 use Rattle.small_formats.specs.declared.saturation.Overflow.{Overflow}
 use Rattle.small_formats.specs.declared.saturation.Overflow.TheVariants.{Rounded, Saturated, Finite}
-use Rattle.apfloat_arrays.specs.declared.stored.formats.StoredFormat.{StoredFormat}
-use Rattle.apfloat_arrays.specs.declared.stored.formats.StoredFormat.TheVariants.{E2M1FN, E2M3FN, E3M2FN, E3M4, E8M0FNU, UE4M3}
-use Rattle.apfloat_arrays.specs.stored.Formats.{bits_in, e2m1fn_constants, e2m3fn_constants, e3m2fn_constants, keeps_infinity}
-use Rattle.apfloat_arrays.specs.stored.Formats.{largest_code}
+use Rattle.apfloat_arrays.specs.declared.stored.formats.StoredFormat.{StoredFormat, TheVariants.E2M1FN}
+use Rattle.apfloat_arrays.specs.declared.stored.formats.StoredFormat.TheVariants.{E2M3FN, E3M2FN, E3M4, E8M0FNU, UE4M3}
+use Rattle.apfloat_arrays.specs.stored.Formats.{bits_in, e2m1fn_constants, e2m3fn_constants, e3m2fn_constants}
+use Rattle.apfloat_arrays.specs.stored.Formats.{keeps_infinity, largest_code}
 
 -- a value of the format f becomes this code, by the storage format's own conversion
 abbrev pub IsStored : StoredFormat → Format → Round → Datum → ℕ → ℕ → Bool → Type 0

@@ -1,9 +1,7 @@
 //! Formats of blocks.
 
 ghost use Rattle.std.specs.Prelude.{◌≡◌, true, false};
-ghost use Rattle.rustc_apfloat.specs.Flags.{bits_of};
-ghost use Rattle.rustc_apfloat.specs.FlaggedTypes.{constants_of};
-ghost use Rattle.rustc_apfloat.specs.Lawful.{format_with};
+ghost use Rattle.rustc_apfloat.specs.{Flags.bits_of, FlaggedTypes.constants_of, Lawful.format_with};
 ghost use Rattle.apfloat_arrays.specs.scaled_blocks.Formats.{AreNarrow, AreWide, HasScale, IsNarrow, IsScaledIn};
 ghost use Rattle.apfloat_arrays.specs.scaled_blocks.Formats.{has_scale, nan_scale, tensor_of};
 

@@ -1,8 +1,7 @@
 //! The lengths of arrays.
 
 ghost use Rattle.std.specs.Prelude.{◌≡◌, ◌≤◌, ℕ, Ok};
-ghost use Rattle.apfloat_arrays.specs.scaled_blocks.Formats.{HasScale};
-ghost use Rattle.apfloat_arrays.specs.scaled_blocks.Lengths.{blocks_in, blocks_of};
+ghost use Rattle.apfloat_arrays.specs.scaled_blocks.{Formats.HasScale, Lengths.blocks_in, Lengths.blocks_of};
 
 use crate::scaled_blocks::errors::ArrayError;
 use crate::scaled_blocks::formats::BlockFormat;

@@ -1,16 +1,11 @@
 //! Arrays quantized to blocks.
 
 ghost use Rattle.std.specs.Prelude.{◌≡◌, ℕ, ◌+◌, ◌*◌, ◌^◌, ◌<◌, ◌≤◌, true, length};
-ghost use Rattle.rustc_apfloat.specs.Lawful.{format_with};
-ghost use Rattle.rustc_apfloat.specs.Types.{constants_of, format_of};
-ghost use Rattle.apfloat_model.specs.order.Classes.{quanta_of};
-ghost use Rattle.apfloat_model.specs.order.Positive.{IsPositive};
+ghost use Rattle.rustc_apfloat.specs.{Lawful.format_with, Types.constants_of, Types.format_of};
+ghost use Rattle.apfloat_model.specs.order.{Classes.quanta_of, Positive.IsPositive};
 ghost use Rattle.formats_at_run_time.specs.FormatKinds.{IfFormat};
-ghost use Rattle.small_formats.specs.blocks.Elements.{IsQuotientBy};
-ghost use Rattle.small_formats.specs.blocks.Magnitudes.{are_finite};
-ghost use Rattle.small_formats.specs.blocks.Places.{AreCounted};
-ghost use Rattle.apfloat_arrays.specs.scaled_blocks.Formats.{HasScale, IsBlockIn};
-ghost use Rattle.apfloat_arrays.specs.scaled_blocks.Lengths.{blocks_in};
+ghost use Rattle.small_formats.specs.blocks.{Elements.IsQuotientBy, Magnitudes.are_finite, Places.AreCounted};
+ghost use Rattle.apfloat_arrays.specs.scaled_blocks.{Formats.HasScale, Formats.IsBlockIn, Lengths.blocks_in};
 ghost use Rattle.apfloat_arrays.specs.scaled_blocks.Quantized.{AreQuantized, IsQuantizedArray, counts_with, width_in};
 ghost use Rattle.apfloat_arrays.specs.scaled_blocks.Values.{values_in};
 

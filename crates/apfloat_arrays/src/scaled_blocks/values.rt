@@ -1,8 +1,7 @@
 //! Values in consecutive bytes.
 
 ghost use Rattle.std.specs.Prelude.{◌≡◌, ◌+◌, ◌*◌, ◌≤◌, length};
-ghost use Rattle.apfloat_arrays.specs.Blocks.{value_at};
-ghost use Rattle.apfloat_arrays.specs.Bytes.{number_of};
+ghost use Rattle.apfloat_arrays.specs.{Blocks.value_at, Bytes.number_of};
 
 use crate::number_of;
 

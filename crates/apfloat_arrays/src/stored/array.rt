@@ -3,8 +3,7 @@
 ghost use Rattle.std.specs.Prelude.{◌≡◌, ◌*◌, ◌<◌, ◌≤◌, length};
 ghost use Rattle.rustc_apfloat.specs.Types.{constants_of};
 ghost use Rattle.formats_at_run_time.specs.FormatKinds.{IfFormat};
-ghost use Rattle.apfloat_arrays.specs.Blocks.{IsBlock};
-ghost use Rattle.apfloat_arrays.specs.Bytes.{number_of};
+ghost use Rattle.apfloat_arrays.specs.{Blocks.IsBlock, Bytes.number_of};
 ghost use Rattle.apfloat_arrays.specs.stored.Arrays.{IsConverted, IsLoadedIn, IsStoredIn, widths_of};
 
 use crate::each::{ValueConversion, convert_each};

@@ -1,16 +1,14 @@
 //! Conversions into storage formats by the modes of conversions: to odd, and with random digits that the caller lends.
 
 ghost use Rattle.std.specs.Prelude.{◌≡◌, ◌*◌, ◌^◌, ◌<◌, ◌≤◌, length};
-ghost use Rattle.rustc_apfloat.specs.Flags.{bits_of};
-ghost use Rattle.rustc_apfloat.specs.Types.{format_of};
+ghost use Rattle.rustc_apfloat.specs.{Flags.bits_of, Types.format_of};
 ghost use Rattle.formats_at_run_time.specs.FormatKinds.{IfFormat};
-ghost use Rattle.small_formats.specs.ModeConversions.{IsIntoBy};
-ghost use Rattle.small_formats.specs.declared.NanResult.TheVariants.{Zero};
+ghost use Rattle.small_formats.specs.{ModeConversions.IsIntoBy, declared.NanResult.TheVariants.Zero};
 ghost use Rattle.small_formats.specs.Types.{constants_of as storage_constants_of};
 ghost use Rattle.apfloat_arrays.specs.stored.Formats.{bits_in};
-ghost use Rattle.apfloat_arrays.specs.Bytes.{number_of};
 ghost use Rattle.apfloat_arrays.specs.stored.ByMode.{AreStoredWith, HasDigits, HasRandomAt, HasRandoms, IsModeWith};
 ghost use Rattle.apfloat_arrays.specs.stored.ByMode.{IsOwnBy, IsStoredByMode, IsStoredWith, mode_width, random_of};
+ghost use Rattle.apfloat_arrays.specs.Bytes.{number_of};
 
 use crate::specials::word_of;
 use crate::stored::formats::StoredFormat;

@@ -2,16 +2,12 @@
 //! twice as many values as codes.
 
 ghost use Rattle.std.specs.Prelude.{◌≡◌, ◌*◌, ◌^◌, ◌<◌, ◌≤◌, IsTrue, length};
-ghost use Rattle.rustc_apfloat.specs.FlaggedTypes.{constants_of};
-ghost use Rattle.rustc_apfloat.specs.Lawful.{Constants};
+ghost use Rattle.rustc_apfloat.specs.{FlaggedTypes.constants_of, Lawful.Constants};
 ghost use Rattle.rustc_apfloat.specs.declared.Round.{Round as Mode};
 ghost use Rattle.small_formats.specs.declared.saturation.Overflow.{Overflow as OverflowRule};
 ghost use Rattle.apfloat_arrays.specs.declared.stored.formats.StoredFormat.{StoredFormat as Stored};
-ghost use Rattle.apfloat_arrays.specs.Blocks.{IsBlock};
-ghost use Rattle.apfloat_arrays.specs.Tables.{IsResultTable};
-ghost use Rattle.apfloat_arrays.specs.stored.Arrays.{IsLoaded, IsLoadedIn};
-ghost use Rattle.apfloat_arrays.specs.stored.CodeTables.{AreCodeEntries};
-ghost use Rattle.apfloat_arrays.specs.stored.Formats.{bits_in};
+ghost use Rattle.apfloat_arrays.specs.{Blocks.IsBlock, Tables.IsResultTable, stored.Arrays.IsLoaded};
+ghost use Rattle.apfloat_arrays.specs.stored.{Arrays.IsLoadedIn, CodeTables.AreCodeEntries, Formats.bits_in};
 
 use crate::byte_tables::{ByteResults, PLACES, convert_by_table};
 use crate::bytes::write_number;

@@ -1,15 +1,10 @@
 //! Codes of a storage format as values.
 
 ghost use Rattle.std.specs.Prelude.{◌≡◌, ◌%◌, ◌^◌};
-ghost use Rattle.rustc_apfloat.specs.Classes.{is_nan};
-ghost use Rattle.rustc_apfloat.specs.FlaggedTypes.{format_of};
-ghost use Rattle.rustc_apfloat.specs.Flags.{bits_of};
-ghost use Rattle.small_formats.specs.Codes.{datum_of};
-ghost use Rattle.small_formats.specs.Float8E3M4.{e3m4_datum, e3m4_format};
+ghost use Rattle.rustc_apfloat.specs.{Classes.is_nan, FlaggedTypes.format_of, Flags.bits_of};
+ghost use Rattle.small_formats.specs.{Codes.datum_of, Float8E3M4.e3m4_datum, Float8E3M4.e3m4_format};
 ghost use Rattle.small_formats.specs.Scales.{scale_format, scale_of};
-ghost use Rattle.small_formats.specs.Storage.{format_with};
-ghost use Rattle.small_formats.specs.Types.{constants_of};
-ghost use Rattle.small_formats.specs.Unsigned.{unsigned_datum};
+ghost use Rattle.small_formats.specs.{Storage.format_with, Types.constants_of, Unsigned.unsigned_datum};
 ghost use Rattle.small_formats.specs.saturation.Saturation.{IsConversionBy, class_of};
 ghost use Rattle.apfloat_arrays.specs.stored.Formats.{datum_in, format_in};
 

@@ -4,8 +4,7 @@ ghost use Rattle.std.specs.Prelude.{◌≡◌};
 ghost use Rattle.rustc_apfloat.specs.FlaggedTypes.{constants_of as flagged_constants_of};
 ghost use Rattle.rustc_apfloat.specs.Types.{constants_of};
 ghost use Rattle.formats_at_run_time.specs.FormatKinds.{IfFormat};
-ghost use Rattle.apfloat_arrays.specs.stored.Arrays.{IsLoaded, IsStoredAs};
-ghost use Rattle.apfloat_arrays.specs.stored.Numbers.{IsConvertedNumber};
+ghost use Rattle.apfloat_arrays.specs.stored.{Arrays.IsLoaded, Arrays.IsStoredAs, Numbers.IsConvertedNumber};
 
 use crate::stored::array::{Ends, StorageArray};
 use crate::stored::code_tables::load_code;

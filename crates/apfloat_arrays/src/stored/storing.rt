@@ -1,15 +1,9 @@
 //! Values as codes of a storage format.
 
 ghost use Rattle.std.specs.Prelude.{◌≡◌, ◌<◌, ◌^◌};
-ghost use Rattle.rustc_apfloat.specs.declared.Round.{Round};
-ghost use Rattle.rustc_apfloat.specs.Classes.{is_negative};
-ghost use Rattle.rustc_apfloat.specs.Datum.{Datum};
-ghost use Rattle.rustc_apfloat.specs.Flags.{bits_of};
-ghost use Rattle.rustc_apfloat.specs.Format.{Format};
-ghost use Rattle.rustc_apfloat.specs.Types.{format_of};
-ghost use Rattle.small_formats.specs.Conversions.{IsInto};
-ghost use Rattle.small_formats.specs.Types.{constants_of};
-ghost use Rattle.small_formats.specs.saturation.Saturation.{class_of};
+ghost use Rattle.rustc_apfloat.specs.{declared.Round.Round, Classes.is_negative, Datum.Datum, Flags.bits_of};
+ghost use Rattle.rustc_apfloat.specs.{Format.Format, Types.format_of};
+ghost use Rattle.small_formats.specs.{Conversions.IsInto, Types.constants_of, saturation.Saturation.class_of};
 ghost use Rattle.apfloat_arrays.specs.stored.Formats.{bits_in};
 ghost use Rattle.apfloat_arrays.specs.stored.Stored.{IsOwn, IsStored, IsStoredBy, saturated_code};
 

@@ -1,10 +1,7 @@
 use Rattle.std.proofs.Common.{ℕ, ◌≤◌, sym, ap, ◌∙◌, subst, arith}
 use Rattle.rustc_apfloat.specs.FlaggedTypes.{constants_of}
-use Rattle.apfloat_arrays.specs.declared.widths.Widths.{Widths}
-use Rattle.apfloat_arrays.specs.Tasks.{IsDone, IsGiven}
-use Rattle.apfloat_arrays.specs.Widths.{bytes_of}
-use Rattle.apfloat_arrays.proofs.Tasks.{same_widths}
-use Rattle.apfloat_arrays.proofs.WidthBounds.{in_bytes}
+use Rattle.apfloat_arrays.specs.{declared.widths.Widths.Widths, Tasks.IsDone, Tasks.IsGiven, Widths.bytes_of}
+use Rattle.apfloat_arrays.proofs.{Tasks.same_widths, WidthBounds.in_bytes}
 use Rattle.apfloat_arrays.proofs.byte_sources.convert_bytes.Goals as goal
 
 pub convert_by_table-requires : goal.convert_by_table-requires

@@ -1,6 +1,5 @@
 use Rattle.std.proofs.Common.{◌≡◌, ◌+◌, ◌*◌, ◌^◌, ◌<◌, length, sym, subst, ap, ◌∙◌, arith}
-use Rattle.apfloat_arrays.specs.Tallies.{Fits, sum_of, unpacked}
-use Rattle.apfloat_arrays.specs.declared.tallies.Tally.{Tally}
+use Rattle.apfloat_arrays.specs.{Tallies.Fits, Tallies.sum_of, Tallies.unpacked, declared.tallies.Tally.Tally}
 use Rattle.apfloat_arrays.proofs.Places.{place_size}
 use Rattle.apfloat_arrays.proofs.TalliedResults.{since_done, since_fits, since_more, since_none}
 use Rattle.apfloat_arrays.proofs.entries.look_up_few.Goals as goal

@@ -1,10 +1,7 @@
 use Rattle.std.proofs.Common.{◌∙◌, ap, arith, subst, w32}
 use Rattle.std.proofs.lemmas.Int.{to_z-of_z}
-use Rattle.rustc_apfloat.specs.Classes.{is_nan}
-use Rattle.rustc_apfloat.specs.Datum.{Datum}
-use Rattle.rustc_apfloat.specs.Flags.{bits_of}
-use Rattle.rustc_apfloat.specs.FlaggedTypes.{format_of, layout_of}
-use Rattle.rustc_apfloat.specs.Layout.{IsEncodedBy}
+use Rattle.rustc_apfloat.specs.{Classes.is_nan, Datum.Datum, Flags.bits_of, FlaggedTypes.format_of}
+use Rattle.rustc_apfloat.specs.{FlaggedTypes.layout_of, Layout.IsEncodedBy}
 use Rattle.apfloat_model.proofs.order.PredicatesAgree.{nan_agrees}
 use Rattle.apfloat_arrays.proofs.FarNumbers.{far_delivered}
 use Rattle.apfloat_arrays.proofs.far_numbers.far_answer.Goals as goal

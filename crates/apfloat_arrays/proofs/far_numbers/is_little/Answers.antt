@@ -1,5 +1,4 @@
-use Rattle.std.proofs.Common.{arith}
-use Rattle.std.proofs.lemmas.Int.{ints}
+use Rattle.std.proofs.{Common.arith, lemmas.Int.ints}
 use Rattle.apfloat_arrays.proofs.far_numbers.is_little.Goals as goal
 
 pub overflow_cast-result : goal.overflow_cast-result

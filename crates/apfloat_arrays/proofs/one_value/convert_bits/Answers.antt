@@ -1,10 +1,8 @@
 use Rattle.std.proofs.Common.{List, Option, subst}
 use Rattle.std.specs.Prelude.{IfSome}
 use Rattle.rustc_apfloat.specs.FlaggedTypes.{constants_of}
-use Rattle.apfloat_arrays.specs.declared.converted.Converted.{Converted}
-use Rattle.apfloat_arrays.specs.FarNumbers.{AreFarAnswers}
-use Rattle.apfloat_arrays.proofs.FarNumbers.{answered_far}
-use Rattle.apfloat_arrays.proofs.NormalNumbers.{number_answered}
+use Rattle.apfloat_arrays.specs.{declared.converted.Converted.Converted, FarNumbers.AreFarAnswers}
+use Rattle.apfloat_arrays.proofs.{FarNumbers.answered_far, NormalNumbers.number_answered}
 use Rattle.apfloat_arrays.proofs.one_value.convert_bits.Goals as goal
 
 pub returns-in-Some-far_place : goal.returns-in-Some-far_place

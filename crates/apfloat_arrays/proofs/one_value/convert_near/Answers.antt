@@ -1,8 +1,5 @@
 use Rattle.std.proofs.Common.{◌∙◌, subst}
-use Rattle.rustc_apfloat.specs.Datum.{Datum}
-use Rattle.rustc_apfloat.specs.Flags.{bits_of}
-use Rattle.rustc_apfloat.specs.FlaggedTypes.{constants_of}
-use Rattle.rustc_apfloat.specs.Lawful.{format_with}
+use Rattle.rustc_apfloat.specs.{Datum.Datum, Flags.bits_of, FlaggedTypes.constants_of, Lawful.format_with}
 use Rattle.apfloat_model.proofs.order.PredicatesAgree.{nan_agrees}
 use Rattle.small_formats.specs.saturation.Saturation.{IsConversionBy}
 use Rattle.apfloat_arrays.proofs.one_value.convert_near.Goals as goal

@@ -1,9 +1,8 @@
-use Rattle.std.proofs.Common.{◌≡◌, ℕ, refl, ap, ◌∙◌, subst, sym, ◌%◌, ◌^◌, ◌<◌, ◌*◌, arith, length-set}
+use Rattle.std.proofs.Common.{◌≡◌, ℕ, refl, ap, ◌∙◌, subst, sym, ◌%◌, ◌^◌, ◌<◌, ◌*◌}
+use Rattle.std.proofs.{Common.arith, Common.length-set, lemmas.List.get_or-set_other}
 use Rattle.std.specs.Prelude.{slice_index}
-use Rattle.std.proofs.lemmas.List.{get_or-set_other}
 use Rattle.apfloat_arrays.specs.Rows.{number_in}
-use Rattle.apfloat_arrays.proofs.Items.{set_says}
-use Rattle.apfloat_arrays.proofs.Rows.{cleared_finite}
+use Rattle.apfloat_arrays.proofs.{Items.set_says, Rows.cleared_finite}
 use Rattle.apfloat_arrays.proofs.short_singles.clear_specials.Goals as goal
 
 pub loop-index-init : goal.loop-index-init

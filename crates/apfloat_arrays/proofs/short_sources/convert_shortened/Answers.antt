@@ -1,8 +1,6 @@
 use Rattle.std.proofs.Common.{◌/◌, sym, subst, arith}
 use Rattle.rustc_apfloat.specs.FlaggedTypes.{constants_of}
-use Rattle.apfloat_arrays.specs.declared.widths.Widths.{Widths}
-use Rattle.apfloat_arrays.specs.ShortSources.{AreShortened}
-use Rattle.apfloat_arrays.specs.Tasks.{IsDone, IsGiven}
+use Rattle.apfloat_arrays.specs.{declared.widths.Widths.Widths, ShortSources.AreShortened, Tasks.IsDone, Tasks.IsGiven}
 use Rattle.apfloat_arrays.proofs.Tasks.{same_widths}
 use Rattle.apfloat_arrays.proofs.short_sources.convert_shortened.Goals as goal
 

@@ -1,7 +1,6 @@
 use Rattle.std.proofs.Common.{◌≡◌, ℕ, ◌*◌, ◌∙◌, subst, arith}
 use Rattle.rustc_apfloat.specs.FlaggedTypes.{constants_of}
-use Rattle.apfloat_arrays.specs.Tables.{IsTable}
-use Rattle.apfloat_arrays.specs.Values.{IsAnswerAt}
+use Rattle.apfloat_arrays.specs.{Tables.IsTable, Values.IsAnswerAt}
 use Rattle.apfloat_arrays.proofs.short_sources.convert_with.Goals as goal
 
 pub fill_table-requires-clause-has : goal.fill_table-requires-clause-has

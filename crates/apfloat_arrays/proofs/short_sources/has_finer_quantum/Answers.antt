@@ -1,5 +1,4 @@
-use Rattle.std.proofs.Common.{arith}
-use Rattle.std.proofs.lemmas.Int.{ints}
+use Rattle.std.proofs.{Common.arith, lemmas.Int.ints}
 use Rattle.apfloat_arrays.proofs.short_sources.has_finer_quantum.Goals as goal
 
 pub returns : goal.returns

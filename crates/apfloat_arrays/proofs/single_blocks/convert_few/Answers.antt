@@ -1,8 +1,7 @@
 use Rattle.std.proofs.Common.{◌*◌, ◌/◌, ◌∙◌, ap, sym, arith}
 use Rattle.std.proofs.Math.Nat.{div-mul-le_self}
 use Rattle.rustc_apfloat.specs.FlaggedTypes.{constants_of}
-use Rattle.apfloat_arrays.specs.Values.{IsConvertedBy}
-use Rattle.apfloat_arrays.specs.Widths.{bytes_of}
+use Rattle.apfloat_arrays.specs.{Values.IsConvertedBy, Widths.bytes_of}
 use Rattle.apfloat_arrays.proofs.Tasks.{singles_after, singles_joined, singles_width}
 use Rattle.apfloat_arrays.proofs.single_blocks.convert_few.Goals as goal
 

@@ -1,11 +1,9 @@
-use Rattle.std.proofs.Common.{◌≡◌, ℕ, refl, ap, ◌∙◌, subst, sym, ◌/◌, ◌%◌, ◌^◌, ◌<◌, ◌*◌, ltb, arith, length-set}
-use Rattle.std.specs.Prelude.{slice_index}
+use Rattle.std.proofs.Common.{◌≡◌, ℕ, refl, ap, ◌∙◌, subst, sym, ◌/◌, ◌%◌, ◌^◌, ◌<◌}
+use Rattle.std.proofs.Common.{◌*◌, ltb, arith, length-set}
 use Rattle.std.proofs.lemmas.List.{get_or-set_other}
-use Rattle.apfloat_arrays.specs.Blocks.{value_at}
-use Rattle.apfloat_arrays.specs.Bytes.{number_of}
-use Rattle.apfloat_arrays.specs.Rows.{lower_in, number_in}
-use Rattle.apfloat_arrays.proofs.Items.{set_says}
-use Rattle.apfloat_arrays.proofs.Rows.{cleared_finite, made_there, upper_alike}
+use Rattle.std.specs.Prelude.{slice_index}
+use Rattle.apfloat_arrays.specs.{Blocks.value_at, Bytes.number_of, Rows.lower_in, Rows.number_in}
+use Rattle.apfloat_arrays.proofs.{Items.set_says, Rows.cleared_finite, Rows.made_there, Rows.upper_alike}
 use Rattle.apfloat_arrays.proofs.singles.clear_specials.Goals as goal
 
 pub loop-index-init : goal.loop-index-init

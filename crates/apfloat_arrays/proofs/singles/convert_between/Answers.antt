@@ -1,16 +1,10 @@
-use Rattle.std.proofs.Common.{◌≡◌, ℕ, ◌*◌, ◌≤◌, List, ◌++◌, length, take, drop, ◌∙◌, ap, arith}
+use Rattle.std.proofs.Common.{◌≡◌, ℕ, ◌*◌, ◌≤◌, List, ◌++◌, length, take, drop, ◌∙◌, ap}
+use Rattle.std.proofs.{Common.arith, Math.Nat.mul-le-mul_right, lemmas.List.length-take-le, lemmas.List.take-append-le}
 use Rattle.std.specs.Prelude.{replicate}
-use Rattle.std.proofs.Math.Nat.{mul-le-mul_right}
-use Rattle.std.proofs.lemmas.List.{length-take-le, take-append-le}
 use Rattle.rustc_apfloat.specs.FlaggedTypes.{constants_of}
-use Rattle.apfloat_arrays.specs.Blocks.{value_at}
-use Rattle.apfloat_arrays.specs.Bytes.{number_of}
-use Rattle.apfloat_arrays.specs.Values.{IsConvertedBy}
-use Rattle.apfloat_arrays.specs.Widths.{bytes_of}
+use Rattle.apfloat_arrays.specs.{Blocks.value_at, Bytes.number_of, Values.IsConvertedBy, Widths.bytes_of}
 use Rattle.apfloat_arrays.proofs.FirstValues.{block_first, padded_first, padded_zero}
-use Rattle.apfloat_arrays.proofs.Joined.{block_width}
-use Rattle.apfloat_arrays.proofs.Rows.{zeros_quiet}
-use Rattle.apfloat_arrays.proofs.WidthBounds.{narrow}
+use Rattle.apfloat_arrays.proofs.{Joined.block_width, Rows.zeros_quiet, WidthBounds.narrow}
 use Rattle.apfloat_arrays.proofs.singles.convert_between.Goals as goal
 
 pub returns : goal.returns

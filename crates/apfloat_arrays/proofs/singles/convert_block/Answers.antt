@@ -1,9 +1,7 @@
 use Rattle.std.proofs.Common.{ℕ, ◌*◌, ◌≤◌, refl, sym, subst, arith}
 use Rattle.std.proofs.lemmas.Bool.{true≢false}
 use Rattle.rustc_apfloat.specs.FlaggedTypes.{constants_of}
-use Rattle.apfloat_arrays.specs.Blocks.{value_at}
-use Rattle.apfloat_arrays.specs.Rows.{number_from}
-use Rattle.apfloat_arrays.specs.Values.{IsConvertedBy}
+use Rattle.apfloat_arrays.specs.{Blocks.value_at, Rows.number_from, Values.IsConvertedBy}
 use Rattle.apfloat_arrays.proofs.Rows.{row_block}
 use Rattle.apfloat_arrays.proofs.singles.convert_block.Goals as goal
 

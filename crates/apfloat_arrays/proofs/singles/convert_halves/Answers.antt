@@ -1,11 +1,7 @@
 use Rattle.std.proofs.Common.{◌≡◌, ℕ, ◌*◌, length, ◌∙◌, sym, subst, arith}
-use Rattle.apfloat_arrays.specs.Bytes.{number_of}
-use Rattle.apfloat_arrays.specs.Singles.{counts_with, outcome_of}
-use Rattle.apfloat_arrays.specs.Rows.{IsRow}
+use Rattle.apfloat_arrays.specs.{Bytes.number_of, Singles.counts_with, Singles.outcome_of, Rows.IsRow}
 use Rattle.apfloat_arrays.specs.Values.{IsAnswerAt, IsConvertedBy}
-use Rattle.apfloat_arrays.proofs.LittleEndian.{fits}
-use Rattle.apfloat_arrays.proofs.Places.{place_size}
-use Rattle.apfloat_arrays.proofs.Rows.{row_more, row_none}
+use Rattle.apfloat_arrays.proofs.{LittleEndian.fits, Places.place_size, Rows.row_more, Rows.row_none}
 use Rattle.apfloat_arrays.proofs.singles.convert_halves.Goals as goal
 
 pub loop-index-init : goal.loop-index-init

@@ -1,13 +1,9 @@
 use Rattle.std.specs.Prelude.{ℕ, List}
-use Rattle.fast_bits.specs.lanes.Targets.{IsSingleFormat}
-use Rattle.rustc_apfloat.specs.Lawful.{Constants, format_with, layout_with}
-use Rattle.rustc_apfloat.specs.declared.Round.{Round}
+use Rattle.fast_bits.specs.lanes.{Targets.IsSingleFormat, FewCounts.FewAreAtMost}
 use Rattle.fast_bits.specs.declared.lanes.few_counts.FewCounts.{FewCounts}
-use Rattle.fast_bits.specs.lanes.FewCounts.{FewAreAtMost}
+use Rattle.rustc_apfloat.specs.{Lawful.Constants, Lawful.format_with, Lawful.layout_with, declared.Round.Round}
 use Rattle.small_formats.specs.declared.saturation.saturation.Overflow.{Overflow}
-use Rattle.apfloat_arrays.specs.Rows.{AreTaken, IsRow}
-use Rattle.apfloat_arrays.specs.Singles.{counts_with}
-use Rattle.apfloat_arrays.specs.Values.{IsConvertedBy}
+use Rattle.apfloat_arrays.specs.{Rows.AreTaken, Rows.IsRow, Singles.counts_with, Values.IsConvertedBy}
 use Rattle.apfloat_arrays.proofs.singles.convert_halves.Given as goal
 
 pub record AreConverted (IsFor : Overflow → Constants → Round → Type 0) (Takes : ℕ → ℕ → ℕ → Type 0)

@@ -1,6 +1,5 @@
 use Rattle.std.specs.Prelude.{ℕ, ◌*◌, ◌%◌, ◌^◌, ◌<◌, IsTrue}
-use Rattle.apfloat_arrays.specs.Blocks.{value_at}
-use Rattle.apfloat_arrays.specs.Bytes.{number_of}
+use Rattle.apfloat_arrays.specs.{Blocks.value_at, Bytes.number_of}
 use Rattle.apfloat_arrays.proofs.specials.are_numbers.Given as goal
 
 abbrev pub invariant-loop-index : goal.invariant-loop-index

@@ -1,9 +1,7 @@
-use Rattle.std.proofs.Common.{◌≡◌, ℕ, ◌+◌, ◌*◌, ◌%◌, ◌^◌, ◌<◌, length, false, ltb, ap, ◌∙◌, sym, subst, List, arith}
+use Rattle.std.proofs.Common.{◌≡◌, ℕ, ◌+◌, ◌*◌, ◌%◌, ◌^◌, ◌<◌, length, false, ltb, ap}
+use Rattle.std.proofs.Common.{◌∙◌, sym, subst, List, arith}
 use Rattle.rustc_apfloat.specs.FlaggedTypes.{constants_of}
-use Rattle.apfloat_arrays.specs.Blocks.{value_at}
-use Rattle.apfloat_arrays.specs.Bytes.{number_of}
-use Rattle.apfloat_arrays.specs.Rows.{IsRow, number_from}
-use Rattle.apfloat_arrays.specs.Values.{IsConvertedBy}
+use Rattle.apfloat_arrays.specs.{Blocks.value_at, Bytes.number_of, Rows.IsRow, Rows.number_from, Values.IsConvertedBy}
 use Rattle.apfloat_arrays.proofs.Places.{place_size}
 use Rattle.apfloat_arrays.proofs.Rows.{done_there, next_number, next_there, row_given, row_set, zero_quiet, zero_there}
 use Rattle.apfloat_arrays.proofs.specials.convert_group.Goals.{then-not-is_finite, else-not-is_finite}

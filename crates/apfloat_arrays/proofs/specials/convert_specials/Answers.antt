@@ -1,10 +1,7 @@
 use Rattle.std.proofs.Common.{◌≡◌, ℕ, ◌+◌, ◌*◌, ◌%◌, ◌^◌, ◌<◌, subst, List, arith}
 use Rattle.rustc_apfloat.specs.FlaggedTypes.{constants_of}
-use Rattle.apfloat_arrays.specs.Bytes.{number_of}
-use Rattle.apfloat_arrays.specs.Rows.{IsRow, number_from}
-use Rattle.apfloat_arrays.specs.Values.{IsConvertedBy}
-use Rattle.apfloat_arrays.proofs.Joined.{in_range}
-use Rattle.apfloat_arrays.proofs.Rows.{done_there, numbers_there, row_block, row_given}
+use Rattle.apfloat_arrays.specs.{Bytes.number_of, Rows.IsRow, Rows.number_from, Values.IsConvertedBy}
+use Rattle.apfloat_arrays.proofs.{Joined.in_range, Rows.done_there, Rows.numbers_there, Rows.row_block, Rows.row_given}
 use Rattle.apfloat_arrays.proofs.specials.convert_specials.Goals.{then-not-are_numbers, else-not-are_numbers}
 use Rattle.apfloat_arrays.proofs.specials.convert_specials.Goals as goal
 

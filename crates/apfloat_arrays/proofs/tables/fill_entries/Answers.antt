@@ -1,8 +1,7 @@
 use Rattle.std.proofs.Common.{◌≡◌, ◌*◌, ◌^◌, ◌<◌, length, ◌∙◌}
 use Rattle.rustc_apfloat.specs.Flags.{bits_of}
 use Rattle.apfloat_arrays.specs.Tables.{outcome_tally}
-use Rattle.apfloat_arrays.proofs.LittleEndian.{fits}
-use Rattle.apfloat_arrays.proofs.Places.{place_size}
+use Rattle.apfloat_arrays.proofs.{LittleEndian.fits, Places.place_size}
 use Rattle.apfloat_arrays.proofs.TalliedResults.{entries_more, no_entries, tally_most}
 use Rattle.apfloat_arrays.proofs.tables.fill_entries.Goals as goal
 

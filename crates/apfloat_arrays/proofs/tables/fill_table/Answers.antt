@@ -1,9 +1,6 @@
 use Rattle.std.proofs.Common.{◌≡◌, ℕ, ◌*◌, ◌^◌, ◌<◌, length, sym, subst, ◌∙◌}
-use Rattle.apfloat_arrays.specs.Bytes.{number_of}
-use Rattle.apfloat_arrays.specs.declared.counts.Outcome.{Outcome}
-use Rattle.apfloat_arrays.proofs.LittleEndian.{fits}
-use Rattle.apfloat_arrays.proofs.Places.{place_size, places_none}
-use Rattle.apfloat_arrays.proofs.TabledResults.{table_more}
+use Rattle.apfloat_arrays.specs.{Bytes.number_of, declared.counts.Outcome.Outcome}
+use Rattle.apfloat_arrays.proofs.{LittleEndian.fits, Places.place_size, Places.places_none, TabledResults.table_more}
 use Rattle.apfloat_arrays.proofs.tables.fill_table.Goals as goal
 
 pub loop-index-init : goal.loop-index-init

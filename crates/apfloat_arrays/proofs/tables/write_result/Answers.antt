@@ -1,7 +1,6 @@
 use Rattle.std.proofs.Common.{◌≡◌, ℕ, ◌+◌, ◌*◌, ◌^◌, ap, ◌∙◌}
 use Rattle.rustc_apfloat.specs.Flags.{bits_of}
-use Rattle.apfloat_arrays.specs.Tables.{outcome_tally}
-use Rattle.apfloat_arrays.specs.Tallies.{packed_of, tally_of}
+use Rattle.apfloat_arrays.specs.{Tables.outcome_tally, Tallies.packed_of, Tallies.tally_of}
 use Rattle.apfloat_arrays.proofs.tables.write_result.Goals as goal
 
 pub returns : goal.returns

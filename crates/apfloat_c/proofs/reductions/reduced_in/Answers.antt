@@ -1,7 +1,6 @@
 use Rattle.std.proofs.Common.{◌≤◌, arith, inr}
 use Rattle.rustc_apfloat.specs.{FlaggedTypes.constants_of, Flags.bits_of}
-use Rattle.apfloat_c.proofs.ElementCalls.{place_within}
-use Rattle.apfloat_c.proofs.ExactSums.{added_more, added_none, all_added}
+use Rattle.apfloat_c.proofs.{ElementCalls.place_within, ExactSums.added_more, ExactSums.added_none, ExactSums.all_added}
 use Rattle.apfloat_c.proofs.reductions.reduced_in.Goals as goal
 
 pub loop-index-init : goal.loop-index-init

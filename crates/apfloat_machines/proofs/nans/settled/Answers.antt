@@ -1,7 +1,6 @@
 use Rattle.std.proofs.Common.{◌∙◌}
 use Rattle.apfloat_ieee.specs.FlaggedTypes.{format_of}
-use Rattle.apfloat_machines.proofs.FlushedSettling.{are_flushed_and_settled}
-use Rattle.apfloat_machines.proofs.Settling.{are_settled}
+use Rattle.apfloat_machines.proofs.{FlushedSettling.are_flushed_and_settled, Settling.are_settled}
 use Rattle.apfloat_machines.proofs.nans.settled.Goals as goal
 
 pub returns-clause-operations : goal.returns-clause-operations

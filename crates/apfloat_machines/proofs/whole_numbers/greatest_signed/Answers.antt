@@ -1,6 +1,5 @@
 use Rattle.std.proofs.Common.{arith, ◌≤◌, ◌-◌}
-use Rattle.std.proofs.Math.Pow.{pow_mono}
-use Rattle.std.proofs.lemmas.Nat.{pow_pos}
+use Rattle.std.proofs.{Math.Pow.pow_mono, lemmas.Nat.pow_pos}
 use Rattle.apfloat_machines.proofs.whole_numbers.greatest_signed.Goals as goal
 
 pub signed-requires : goal.signed-requires

@@ -1,7 +1,5 @@
-use Rattle.std.proofs.Common.{ap, sym}
-use Rattle.std.proofs.Math.Path.{subst₃}
+use Rattle.std.proofs.{Common.ap, Common.sym, Math.Path.subst₃, lemmas.Int.to_z-of_z}
 use Rattle.std.specs.Int.{w32}
-use Rattle.std.proofs.lemmas.Int.{to_z-of_z}
 use Rattle.rustc_apfloat.specs.Flags.{bits_of}
 use Rattle.coded_calls.proofs.answers.scaled.Goals as goal
 

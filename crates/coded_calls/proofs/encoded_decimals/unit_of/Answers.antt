@@ -1,5 +1,4 @@
-use Rattle.std.proofs.Common.{arith}
-use Rattle.std.proofs.lemmas.Int.{ints}
+use Rattle.std.proofs.{Common.arith, lemmas.Int.ints}
 use Rattle.coded_calls.proofs.encoded_decimals.unit_of.Goals as goal
 
 pub returns-clause-value : goal.returns-clause-value

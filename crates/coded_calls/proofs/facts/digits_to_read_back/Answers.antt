@@ -1,7 +1,6 @@
 use Rattle.std.proofs.Common.{◌≡◌, ◌<◌, ◌∙◌, ◌+◌, ◌-◌, ◌*◌, ◌^◌, ◌%◌, arith}
+use Rattle.std.proofs.Math.{Nat.mod-eq_of_lt, Pow.pow-lt}
 use native.Mathlib.Numerals.{unary_clauses}
-use Rattle.std.proofs.Math.Nat.{mod-eq_of_lt}
-use Rattle.std.proofs.Math.Pow.{pow-lt}
 use Rattle.coded_calls.proofs.facts.digits_to_read_back.Goals as goal
 
 pub returns : goal.returns

@@ -1,10 +1,7 @@
 use Rattle.std.proofs.Common.{◌≡◌, Some, ap, rules, ◌∙◌}
-use Rattle.std.proofs.Math.Path.{subst₂}
-use Rattle.std.specs.Int.{w32}
-use Rattle.std.proofs.lemmas.Int.{to_z-of_z}
-use Rattle.std.specs.declared.cmp.Ordering.{Ordering}
-use Rattle.rustc_apfloat.specs.FlaggedTypes.{constants_of}
-use Rattle.rustc_apfloat.specs.Lawful.{format_with}
+use Rattle.std.proofs.{Math.Path.subst₂, lemmas.Int.to_z-of_z}
+use Rattle.std.specs.{Int.w32, declared.cmp.Ordering.Ordering}
+use Rattle.rustc_apfloat.specs.{FlaggedTypes.constants_of, Lawful.format_with}
 use Rattle.ieee_operations.specs.TotalOrder.{total_cmp}
 use Rattle.coded_calls.specs.Answers.{order_code}
 use Rattle.coded_calls.proofs.ieee_answers.in_total_order.Goals as goal

@@ -1,9 +1,6 @@
-use Rattle.std.proofs.Math.Path.{subst₂}
+use Rattle.std.proofs.{Math.Path.subst₂, lemmas.Int.to_z-of_z}
 use Rattle.std.specs.Int.{w32}
-use Rattle.std.proofs.lemmas.Int.{to_z-of_z}
-use Rattle.rustc_apfloat.specs.FlaggedTypes.{constants_of}
-use Rattle.rustc_apfloat.specs.Flags.{Gives}
-use Rattle.rustc_apfloat.specs.Lawful.{format_with}
+use Rattle.rustc_apfloat.specs.{FlaggedTypes.constants_of, Flags.Gives, Lawful.format_with}
 use Rattle.apfloat_conversions.specs.Scalings.{IsScaled}
 use Rattle.coded_calls.proofs.ieee_answers.scaled_by.Goals as goal
 

@@ -1,8 +1,6 @@
 use Rattle.std.proofs.Common.{ℕ, Result, subst}
-use Rattle.formats_at_run_time.specs.FlaggedKinds.{flagged_kind_coded}
-use Rattle.formats_at_run_time.specs.Modes.{mode_coded}
-use Rattle.coded_calls.specs.Answers.{whole}
-use Rattle.coded_calls.specs.declared.machine_call.MachineCall.{MachineCall}
+use Rattle.formats_at_run_time.specs.{FlaggedKinds.flagged_kind_coded, Modes.mode_coded}
+use Rattle.coded_calls.specs.{Answers.whole, declared.machine_call.MachineCall.MachineCall}
 use Rattle.coded_calls.specs.MachineCalls.{IsMachineReply, known_machine_call, machine_coded}
 use Rattle.coded_calls.proofs.machine_operations.any_of_two.Goals as goal
 

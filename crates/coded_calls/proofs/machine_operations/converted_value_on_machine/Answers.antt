@@ -1,9 +1,7 @@
 use Rattle.std.proofs.Common.{ℕ, Some, subst}
-use Rattle.formats_at_run_time.specs.FlaggedKinds.{flagged_kind_coded}
-use Rattle.formats_at_run_time.specs.Modes.{mode_coded}
-use Rattle.coded_calls.specs.Answers.{whole}
-use Rattle.coded_calls.specs.MachineCalls.{IsFilledIn, IsMachineConversionLeft, kind_on, kind_without_rule}
-use Rattle.coded_calls.specs.MachineCalls.{machine_coded, machine_format_coded}
+use Rattle.formats_at_run_time.specs.{FlaggedKinds.flagged_kind_coded, Modes.mode_coded}
+use Rattle.coded_calls.specs.{Answers.whole, MachineCalls.IsFilledIn, MachineCalls.IsMachineConversionLeft}
+use Rattle.coded_calls.specs.MachineCalls.{kind_on, kind_without_rule, machine_coded, machine_format_coded}
 use Rattle.coded_calls.proofs.KnownRequests.{conversion_filled}
 use Rattle.coded_calls.proofs.machine_operations.converted_value_on_machine.Goals as goal
 

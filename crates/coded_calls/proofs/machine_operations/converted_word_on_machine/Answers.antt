@@ -1,5 +1,4 @@
-use Rattle.formats_at_run_time.specs.FlaggedKinds.{flagged_kind_coded}
-use Rattle.formats_at_run_time.specs.Modes.{mode_coded}
+use Rattle.formats_at_run_time.specs.{FlaggedKinds.flagged_kind_coded, Modes.mode_coded}
 use Rattle.coded_calls.specs.MachineCalls.{machine_coded}
 use Rattle.coded_calls.proofs.KnownRequests.{conversion_filled}
 use Rattle.coded_calls.proofs.machine_operations.converted_word_on_machine.Goals as goal

@@ -1,10 +1,7 @@
 use Rattle.std.proofs.Common.{ℕ, Some, subst}
-use Rattle.formats_at_run_time.specs.FlaggedKinds.{flagged_kind_coded}
-use Rattle.formats_at_run_time.specs.Modes.{mode_coded}
-use Rattle.coded_calls.specs.Answers.{whole}
-use Rattle.coded_calls.specs.declared.machine_call.MachineOperation.TheVariants.{FusedSum}
-use Rattle.coded_calls.specs.MachineCalls.{IsFilledIn, IsMachineLeftIn, kind_on, machine_coded}
-use Rattle.coded_calls.specs.MachineCalls.{machine_format_coded}
+use Rattle.formats_at_run_time.specs.{FlaggedKinds.flagged_kind_coded, Modes.mode_coded}
+use Rattle.coded_calls.specs.{Answers.whole, declared.machine_call.MachineOperation.TheVariants.FusedSum}
+use Rattle.coded_calls.specs.MachineCalls.{IsFilledIn, IsMachineLeftIn, kind_on, machine_coded, machine_format_coded}
 use Rattle.coded_calls.proofs.KnownRequests.{operation_filled}
 use Rattle.coded_calls.proofs.machine_operations.fused_values_on_machine.Goals as goal
 

@@ -1,7 +1,5 @@
-use Rattle.formats_at_run_time.specs.FlaggedKinds.{flagged_kind_coded}
-use Rattle.formats_at_run_time.specs.Modes.{mode_coded}
-use Rattle.coded_calls.specs.declared.machine_call.MachineOperation.TheVariants.{FusedSum}
-use Rattle.coded_calls.specs.MachineCalls.{machine_coded}
+use Rattle.formats_at_run_time.specs.{FlaggedKinds.flagged_kind_coded, Modes.mode_coded}
+use Rattle.coded_calls.specs.{declared.machine_call.MachineOperation.TheVariants.FusedSum, MachineCalls.machine_coded}
 use Rattle.coded_calls.proofs.KnownRequests.{operation_filled}
 use Rattle.coded_calls.proofs.machine_operations.fused_words_on_machine.Goals as goal
 

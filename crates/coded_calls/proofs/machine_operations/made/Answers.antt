@@ -1,8 +1,6 @@
 use Rattle.std.proofs.Common.{subst}
-use Rattle.formats_at_run_time.specs.declared.BuiltInFormat.{BuiltInFormat}
-use Rattle.formats_at_run_time.specs.BuiltIns.{constants_in}
-use Rattle.formats_at_run_time.specs.FlaggedKinds.{flagged_constants}
-use Rattle.formats_at_run_time.specs.ValueKinds.{of_format}
+use Rattle.formats_at_run_time.specs.{declared.BuiltInFormat.BuiltInFormat, BuiltIns.constants_in}
+use Rattle.formats_at_run_time.specs.{FlaggedKinds.flagged_constants, ValueKinds.of_format}
 use Rattle.coded_calls.specs.MachineCalls.{IsMachineConversionLeft, format_on}
 use Rattle.coded_calls.proofs.machine_operations.made.Goals as goal
 

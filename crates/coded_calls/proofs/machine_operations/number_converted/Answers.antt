@@ -1,12 +1,8 @@
 use Rattle.std.proofs.Common.{subst}
-use Rattle.rustc_apfloat.specs.FlaggedTypes.{constants_of}
-use Rattle.rustc_apfloat.specs.Datum.{Datum}
-use Rattle.rustc_apfloat.specs.Flags.{bits_of}
-use Rattle.rustc_apfloat.specs.Lawful.{format_with}
+use Rattle.rustc_apfloat.specs.{FlaggedTypes.constants_of, Datum.Datum, Flags.bits_of, Lawful.format_with}
 use Rattle.apfloat_model.specs.arithmetic.Conversions.{IsConversion}
 use Rattle.formats_at_run_time.specs.ValueKinds.{value_of}
-use Rattle.coded_calls.proofs.MachineAnswers.{finite_on_machine}
-use Rattle.coded_calls.proofs.UsualAnswers.{fits_and_finite}
+use Rattle.coded_calls.proofs.{MachineAnswers.finite_on_machine, UsualAnswers.fits_and_finite}
 use Rattle.coded_calls.proofs.machine_operations.number_converted.Goals as goal
 
 pub returns : goal.returns

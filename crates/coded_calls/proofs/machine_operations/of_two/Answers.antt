@@ -1,8 +1,6 @@
 use Rattle.std.proofs.Common.{refl, subst, sym}
-use Rattle.rustc_apfloat.specs.FlaggedTypes.{constants_of}
-use Rattle.rustc_apfloat.specs.Lawful.{format_with}
-use Rattle.apfloat_machines.specs.declared.machine.Machine.{Machine}
-use Rattle.apfloat_machines.specs.Operations.{AreSettled}
+use Rattle.rustc_apfloat.specs.{FlaggedTypes.constants_of, Lawful.format_with}
+use Rattle.apfloat_machines.specs.{declared.machine.Machine.Machine, Operations.AreSettled}
 use Rattle.coded_calls.proofs.MachineAnswers.{settled_of_two}
 use Rattle.coded_calls.proofs.machine_operations.of_two.Goals as goal
 

@@ -1,5 +1,4 @@
-use Rattle.formats_at_run_time.specs.FlaggedKinds.{flagged_kind_coded}
-use Rattle.formats_at_run_time.specs.Modes.{mode_coded}
+use Rattle.formats_at_run_time.specs.{FlaggedKinds.flagged_kind_coded, Modes.mode_coded}
 use Rattle.coded_calls.specs.MachineCalls.{machine_coded, of_one}
 use Rattle.coded_calls.proofs.KnownRequests.{operation_filled}
 use Rattle.coded_calls.proofs.machine_operations.one_word_on_machine.Goals as goal

@@ -1,7 +1,5 @@
 use Rattle.std.proofs.Common.{ap, sym, ◌∙◌}
-use Rattle.rustc_apfloat.specs.Flags.{bits_of}
-use Rattle.rustc_apfloat.specs.FlaggedTypes.{constants_of}
-use Rattle.rustc_apfloat.specs.Lawful.{format_with}
+use Rattle.rustc_apfloat.specs.{Flags.bits_of, FlaggedTypes.constants_of, Lawful.format_with}
 use Rattle.apfloat_machines.specs.Nans.{default_nan}
 use Rattle.coded_calls.proofs.UsualAnswers.{negative_root, usual_root}
 use Rattle.coded_calls.proofs.machine_operations.root_in.Goals as goal

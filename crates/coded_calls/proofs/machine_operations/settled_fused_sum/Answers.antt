@@ -1,8 +1,6 @@
 use Rattle.std.proofs.Common.{◌≡◌, true, refl, subst, sym}
-use Rattle.rustc_apfloat.specs.Flags.{Gives}
-use Rattle.rustc_apfloat.specs.FlaggedTypes.{format_of}
-use Rattle.apfloat_machines.specs.declared.machine.Machine.{Machine}
-use Rattle.apfloat_machines.specs.Operations.{IsMachineFusedSum}
+use Rattle.rustc_apfloat.specs.{Flags.Gives, FlaggedTypes.format_of}
+use Rattle.apfloat_machines.specs.{declared.machine.Machine.Machine, Operations.IsMachineFusedSum}
 use Rattle.coded_calls.proofs.machine_operations.settled_fused_sum.Goals as goal
 
 pub returns-in-None : goal.returns-in-None

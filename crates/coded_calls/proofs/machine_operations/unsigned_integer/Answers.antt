@@ -1,10 +1,7 @@
 use Rattle.std.proofs.Common.{ℕ, subst}
-use Rattle.rustc_apfloat.specs.FlaggedTypes.{constants_of}
-use Rattle.rustc_apfloat.specs.Flags.{Gives}
-use Rattle.rustc_apfloat.specs.Lawful.{format_with}
+use Rattle.rustc_apfloat.specs.{FlaggedTypes.constants_of, Flags.Gives, Lawful.format_with}
 use Rattle.rustc_apfloat.specs.declared.StatusAnd.{StatusAnd}
-use Rattle.apfloat_machines.specs.declared.machine.Machine.{Machine}
-use Rattle.apfloat_machines.specs.Operations.{IsOffered}
+use Rattle.apfloat_machines.specs.{declared.machine.Machine.Machine, Operations.IsOffered}
 use Rattle.apfloat_machines.specs.WholeNumbers.{IsMachineUnsigned, IsSettledUnsigned}
 use Rattle.formats_at_run_time.specs.ValueKinds.{value_of}
 use Rattle.coded_calls.proofs.MachineAnswers.{offered}

@@ -1,7 +1,6 @@
 use Rattle.std.proofs.Common.{Bool, ℕ, ap, ◌∙◌, sym, subst, arith}
 use Rattle.apfloat_model.specs.rounding.Flags.{bits_of}
-use Rattle.p3109_formats.specs.Picks.{IsProjectedAt}
-use Rattle.p3109_formats.specs.Projections.{projected_datum}
+use Rattle.p3109_formats.specs.{Picks.IsProjectedAt, Projections.projected_datum}
 use Rattle.p3109_formats.proofs.Values.{lacked_sign, lacking_projected, lacks_no_sign, zero_projected}
 use Rattle.p3109_formats.proofs.from_value.deliver_pick.Goals as goal
 

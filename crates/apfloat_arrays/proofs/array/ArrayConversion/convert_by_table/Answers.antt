@@ -1,11 +1,7 @@
 use Rattle.std.proofs.Common.{ℕ, ◌*◌, ◌≤◌, sym, subst, ap, ◌∙◌}
-use Rattle.formats_at_run_time.specs.BuiltIns.{constants_in}
-use Rattle.formats_at_run_time.specs.FlaggedKinds.{flagged_constants}
-use Rattle.apfloat_arrays.specs.declared.widths.Widths.{Widths}
-use Rattle.apfloat_arrays.specs.Blocks.{IsBlock}
-use Rattle.apfloat_arrays.specs.Values.{IsAnswerAt, IsConvertedBy}
-use Rattle.apfloat_arrays.proofs.TabledResults.{block_looked_up, entries_of}
-use Rattle.apfloat_arrays.proofs.WidthBounds.{flagged_room}
+use Rattle.formats_at_run_time.specs.{BuiltIns.constants_in, FlaggedKinds.flagged_constants}
+use Rattle.apfloat_arrays.specs.{declared.widths.Widths.Widths, Blocks.IsBlock, Values.IsAnswerAt, Values.IsConvertedBy}
+use Rattle.apfloat_arrays.proofs.{TabledResults.block_looked_up, TabledResults.entries_of, WidthBounds.flagged_room}
 use Rattle.apfloat_arrays.proofs.array.ArrayConversion.convert_by_table.Goals as goal
 
 pub look_up-requires-clause-table : goal.look_up-requires-clause-table

@@ -1,5 +1,4 @@
-use Rattle.std.proofs.Common.{sym}
-use Rattle.std.proofs.lemmas.List.{length-take-le}
+use Rattle.std.proofs.{Common.sym, lemmas.List.length-take-le}
 use Rattle.apfloat_arrays.proofs.array.ArrayConversion.convert_with.Goals as goal
 
 pub slice_bounds-convert_by_table-end-then-has_table : goal.slice_bounds-convert_by_table-end-then-has_table

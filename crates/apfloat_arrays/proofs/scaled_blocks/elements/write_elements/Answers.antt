@@ -1,7 +1,6 @@
 use Rattle.std.proofs.Common.{subst, sym}
-use Rattle.small_formats.specs.declared.blocks.ElementFormat.{ElementFormat}
 use Rattle.std.specs.Prelude.{negsuc}
-use Rattle.small_formats.specs.Storage.{constants_with}
+use Rattle.small_formats.specs.{declared.blocks.ElementFormat.ElementFormat, Storage.constants_with}
 use Rattle.small_formats.specs.blocks.Elements.{e2m1fn, e2m3fn, e3m2fn}
 use Rattle.apfloat_arrays.specs.scaled_blocks.Elements.{IsCodedIn}
 use Rattle.apfloat_arrays.proofs.scaled_blocks_lemmas.Elements.{coded_e2m1fn, coded_e2m3fn, coded_e3m2fn, coded_e4m3fn}

@@ -1,29 +1,22 @@
-use Rattle.std.proofs.Common.{◌≡◌, ℕ, ◌+◌, ◌-◌, ◌*◌, ◌/◌, ◌^◌, ◌<◌, ◌≤◌, true, List, length, ap, sym}
-use Rattle.std.proofs.Common.{◌∙◌, subst, arith, pos, ◌-ℤ◌}
+use Rattle.std.proofs.Common.{◌≡◌, ℕ, ◌+◌, ◌-◌, ◌*◌, ◌/◌, ◌^◌, ◌<◌, ◌≤◌, true}
+use Rattle.std.proofs.Common.{List, length, ap, sym, ◌∙◌, subst, arith, pos, ◌-ℤ◌}
 use Rattle.std.proofs.lemmas.Int.{ints}
 use Rattle.std.specs.Prelude.{slice_set}
-use Rattle.rustc_apfloat.specs.declared.Round.{Round}
-use Rattle.rustc_apfloat.specs.Datum.{Datum, finite}
-use Rattle.rustc_apfloat.specs.Flags.{bits_of}
+use Rattle.rustc_apfloat.specs.{declared.Round.Round, Datum.Datum, Datum.finite, Flags.bits_of}
 use Rattle.rustc_apfloat.specs.Types.{constants_of, format_of}
 use Rattle.apfloat_model.specs.order.Classes.{is_finite}
 use Rattle.formats_at_run_time.specs.ValueKinds.{value_of}
 use Rattle.small_formats.specs.Storage.{format_with as stored_format}
 use Rattle.small_formats.specs.Types.{constants_of as storage_constants_of}
-use Rattle.small_formats.specs.blocks.Elements.{IsQuotientBy}
-use Rattle.small_formats.specs.blocks.Places.{AreCounted}
+use Rattle.small_formats.specs.blocks.{Elements.IsQuotientBy, Places.AreCounted}
 use Rattle.small_formats.proofs.blocks_lemmas.Greatest.{finite_at}
 use Rattle.small_formats.proofs.blocks_lemmas.Places.{AreWritten, all_written, length_set, one_written, room_for}
-use Rattle.apfloat_arrays.specs.Blocks.{value_at}
-use Rattle.apfloat_arrays.specs.Bytes.{number_of}
+use Rattle.apfloat_arrays.specs.{Blocks.value_at, Bytes.number_of}
 use Rattle.apfloat_arrays.specs.scaled_blocks.Values.{value_in, values_in}
 use Rattle.apfloat_arrays.specs.stored.NumberCodes.{IsCodedNumber, is_minus, quanta_in}
-use Rattle.apfloat_arrays.proofs.FarNumbers.{scale_is}
-use Rattle.apfloat_arrays.proofs.scaled_blocks_lemmas.Elements.{coded_quotient}
-use Rattle.apfloat_arrays.proofs.scaled_blocks_lemmas.Fitting.{value_within}
-use Rattle.apfloat_arrays.proofs.scaled_blocks_lemmas.Listed.{values_at, values_length}
-use Rattle.apfloat_arrays.proofs.scaled_blocks_lemmas.Numbers.{number_if}
-use Rattle.apfloat_arrays.proofs.stored_lemmas.Numbers.{number_read}
+use Rattle.apfloat_arrays.proofs.{FarNumbers.scale_is, scaled_blocks_lemmas.Elements.coded_quotient}
+use Rattle.apfloat_arrays.proofs.scaled_blocks_lemmas.{Fitting.value_within, Listed.values_at, Listed.values_length}
+use Rattle.apfloat_arrays.proofs.{scaled_blocks_lemmas.Numbers.number_if, stored_lemmas.Numbers.number_read}
 use Rattle.apfloat_arrays.proofs.scaled_blocks.elements.write_numbers.Goals as goal
 
 pub slice_bounds-bits_in-end : goal.slice_bounds-bits_in-end

@@ -1,14 +1,12 @@
-use Rattle.std.proofs.Common.{◌≡◌, ℕ, ◌+◌, ◌^◌, ◌<◌, List, length, refl, ap, sym, ◌∙◌, subst, arith}
+use Rattle.std.proofs.Common.{◌≡◌, ℕ, ◌+◌, ◌^◌, ◌<◌, List, length, refl, ap, sym, ◌∙◌, subst}
+use Rattle.std.proofs.Common.{arith}
 use Rattle.std.specs.Prelude.{slice_set}
-use Rattle.rustc_apfloat.specs.Datum.{Datum}
-use Rattle.rustc_apfloat.specs.Flags.{bits_of}
-use Rattle.rustc_apfloat.specs.Types.{constants_of, format_of}
+use Rattle.rustc_apfloat.specs.{Datum.Datum, Flags.bits_of, Types.constants_of, Types.format_of}
 use Rattle.apfloat_model.specs.order.Classes.{is_finite, quanta_of}
 use Rattle.formats_at_run_time.specs.ValueKinds.{value_of}
-use Rattle.small_formats.specs.blocks.Elements.{IsQuotientBy}
-use Rattle.small_formats.specs.blocks.Places.{AreCounted}
-use Rattle.small_formats.proofs.blocks_lemmas.Greatest.{finite_at}
-use Rattle.small_formats.proofs.blocks_lemmas.Places.{AreWritten, all_written, length_set, none_written, one_written, room_for}
+use Rattle.small_formats.specs.blocks.{Elements.IsQuotientBy, Places.AreCounted}
+use Rattle.small_formats.proofs.blocks_lemmas.{Greatest.finite_at, Places.AreWritten}
+use Rattle.small_formats.proofs.blocks_lemmas.Places.{all_written, length_set, none_written, one_written, room_for}
 use Rattle.apfloat_arrays.specs.scaled_blocks.Values.{value_in, values_in}
 use Rattle.apfloat_arrays.proofs.scaled_blocks_lemmas.Fitting.{index_within, value_within}
 use Rattle.apfloat_arrays.proofs.scaled_blocks_lemmas.Listed.{values_at, values_length}

@@ -1,14 +1,10 @@
-use Rattle.std.proofs.Common.{◌≡◌, ℕ, ◌+◌, ◌-◌, ◌/◌, ◌%◌, ◌^◌, max, List, ◌++◌, ◌∷◌, [], length, ap, sym, ◌∙◌}
-use Rattle.std.proofs.Common.{subst, arith}
-use Rattle.rustc_apfloat.specs.Datum.{Datum}
-use Rattle.rustc_apfloat.specs.Types.{constants_of}
+use Rattle.std.proofs.Common.{◌≡◌, ℕ, ◌+◌, ◌-◌, ◌/◌, ◌%◌, ◌^◌, max, List, ◌++◌}
+use Rattle.std.proofs.Common.{◌∷◌, [], length, ap, sym, ◌∙◌, subst, arith}
+use Rattle.rustc_apfloat.specs.{Datum.Datum, Types.constants_of}
 use Rattle.formats_at_run_time.specs.ValueKinds.{value_of}
-use Rattle.apfloat_arrays.specs.Blocks.{value_at}
-use Rattle.apfloat_arrays.specs.Bytes.{number_of}
-use Rattle.apfloat_arrays.specs.scaled_blocks.Greatest.{AreAtMost}
-use Rattle.apfloat_arrays.specs.scaled_blocks.Values.{values_in}
-use Rattle.apfloat_arrays.proofs.scaled_blocks_lemmas.Fitting.{index_within}
-use Rattle.apfloat_arrays.proofs.scaled_blocks_lemmas.Listed.{values_next}
+use Rattle.apfloat_arrays.specs.{Blocks.value_at, Bytes.number_of}
+use Rattle.apfloat_arrays.specs.scaled_blocks.{Greatest.AreAtMost, Values.values_in}
+use Rattle.apfloat_arrays.proofs.scaled_blocks_lemmas.{Fitting.index_within, Listed.values_next}
 use Rattle.apfloat_arrays.proofs.scaled_blocks_lemmas.Numbers.{more_at_most, none_at_most, some_special, whole_bits}
 use Rattle.apfloat_arrays.proofs.scaled_blocks.scales.greatest_bits.Goals as goal
 

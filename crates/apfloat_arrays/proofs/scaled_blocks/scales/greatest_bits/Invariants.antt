@@ -1,7 +1,6 @@
 use Rattle.std.proofs.Common.{◌/◌}
 use Rattle.rustc_apfloat.specs.Types.{constants_of}
-use Rattle.apfloat_arrays.specs.scaled_blocks.Greatest.{AreAtMost}
-use Rattle.apfloat_arrays.specs.scaled_blocks.Values.{values_in}
+use Rattle.apfloat_arrays.specs.scaled_blocks.{Greatest.AreAtMost, Values.values_in}
 use Rattle.apfloat_arrays.proofs.scaled_blocks.scales.greatest_bits.Given as goal
 
 -- the greatest bits of the values before the index

@@ -1,11 +1,9 @@
 use Rattle.std.proofs.Common.{◌≡◌, ◌<◌, false, sym, ap, ◌∙◌, subst, arith}
-use Rattle.apfloat_model.specs.declared.kinds.NonfiniteBehavior.{NonfiniteBehavior}
-use Rattle.apfloat_model.specs.formats.Members.{IsMember}
+use Rattle.apfloat_model.specs.{declared.kinds.NonfiniteBehavior.NonfiniteBehavior, formats.Members.IsMember}
 use Rattle.apfloat_model.specs.rounding.Rounding.{zero_sign}
 use Rattle.apfloat_model.proofs.bits.Encodings.{lawful_interchange}
 use Rattle.formats_at_run_time.specs.ValueKinds.{value_of}
-use Rattle.rustc_apfloat.specs.Datum.{Datum, finite}
-use Rattle.rustc_apfloat.specs.Types.{constants_of, format_of}
+use Rattle.rustc_apfloat.specs.{Datum.Datum, Datum.finite, Types.constants_of, Types.format_of}
 use Rattle.small_formats.specs.Codes.{point}
 use Rattle.apfloat_arrays.specs.scaled_blocks.Greatest.{special_bits}
 use Rattle.apfloat_arrays.proofs.scaled_blocks_lemmas.Numbers.{whole_bits, word_of_index}

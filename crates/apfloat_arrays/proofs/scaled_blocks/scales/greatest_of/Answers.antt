@@ -1,15 +1,12 @@
-use Rattle.std.proofs.Common.{◌≡◌, ℕ, ◌+◌, ◌/◌, List, ◌∷◌, [], ◌++◌, length, true, false, max, Some}
-use Rattle.std.proofs.Common.{ap, sym, ◌∙◌, refl, subst, arith}
-use Rattle.rustc_apfloat.specs.Datum.{Datum, finite}
-use Rattle.rustc_apfloat.specs.Types.{constants_of, format_of}
-use Rattle.apfloat_model.specs.formats.Members.{IsMember}
-use Rattle.apfloat_model.specs.order.Classes.{quanta_of}
+use Rattle.std.proofs.Common.{◌≡◌, ℕ, ◌+◌, ◌/◌, List, ◌∷◌, [], ◌++◌, length, true, false, max}
+use Rattle.std.proofs.Common.{Some, ap, sym, ◌∙◌, refl, subst, arith}
+use Rattle.rustc_apfloat.specs.{Datum.Datum, Datum.finite, Types.constants_of, Types.format_of}
+use Rattle.apfloat_model.specs.{formats.Members.IsMember, order.Classes.quanta_of}
 use Rattle.apfloat_model.proofs.order.PredicatesAgree.{finite_agrees}
 use Rattle.formats_at_run_time.specs.ValueKinds.{value_of}
 use Rattle.small_formats.specs.blocks.Magnitudes.{are_finite, greatest_magnitude}
 use Rattle.small_formats.proofs.blocks_lemmas.Greatest.{greatest_more, one_not_finite, own_quanta, zero_member}
-use Rattle.apfloat_arrays.specs.scaled_blocks.Greatest.{IsGreatest}
-use Rattle.apfloat_arrays.specs.scaled_blocks.Values.{value_in, values_in}
+use Rattle.apfloat_arrays.specs.scaled_blocks.{Greatest.IsGreatest, Values.value_in, Values.values_in}
 use Rattle.apfloat_arrays.proofs.scaled_blocks_lemmas.Fitting.{index_within, value_within}
 use Rattle.apfloat_arrays.proofs.scaled_blocks_lemmas.Listed.{finite_push, values_at, values_next}
 use Rattle.apfloat_arrays.proofs.scaled_blocks.scales.greatest_of.Goals as goal

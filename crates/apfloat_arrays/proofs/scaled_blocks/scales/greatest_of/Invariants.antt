@@ -1,6 +1,5 @@
 use Rattle.std.proofs.Common.{◌≡◌, true, false}
-use Rattle.rustc_apfloat.specs.Datum.{finite}
-use Rattle.rustc_apfloat.specs.Types.{constants_of, format_of}
+use Rattle.rustc_apfloat.specs.{Datum.finite, Types.constants_of, Types.format_of}
 use Rattle.apfloat_model.specs.formats.Members.{IsMember}
 use Rattle.small_formats.specs.blocks.Magnitudes.{are_finite, greatest_magnitude}
 use Rattle.apfloat_arrays.specs.scaled_blocks.Values.{values_in}

@@ -1,9 +1,6 @@
 use Rattle.std.proofs.Common.{ℕ, ◌*◌, ◌^◌, subst}
-use Rattle.std.proofs.Math.Nat.{mul-pos}
-use Rattle.std.proofs.lemmas.Nat.{pow_pos}
-use Rattle.rustc_apfloat.specs.Datum.{Datum}
-use Rattle.rustc_apfloat.specs.Flags.{bits_of}
-use Rattle.rustc_apfloat.specs.Types.{format_of}
+use Rattle.std.proofs.{Math.Nat.mul-pos, lemmas.Nat.pow_pos}
+use Rattle.rustc_apfloat.specs.{Datum.Datum, Flags.bits_of, Types.format_of}
 use Rattle.apfloat_model.specs.order.Classes.{quanta_of}
 use Rattle.small_formats.specs.blocks.Elements.{IsQuotientBy, format_of_element}
 use Rattle.small_formats.proofs.blocks_lemmas.Fractions.{element_fraction}

@@ -1,6 +1,5 @@
-use Rattle.std.proofs.Common.{◌≡◌, ℕ, ◌+◌, ◌-◌, ◌*◌, ◌^◌, ◌<◌, ◌≤◌, ap, ◌∙◌, arith}
-use Rattle.std.proofs.Math.Nat.{pow-le-pow_right}
-use Rattle.std.proofs.lemmas.Nat.{pow_pos}
+use Rattle.std.proofs.Common.{◌≡◌, ℕ, ◌+◌, ◌-◌, ◌*◌, ◌^◌, ◌<◌, ◌≤◌, ap, ◌∙◌}
+use Rattle.std.proofs.{Common.arith, Math.Nat.pow-le-pow_right, lemmas.Nat.pow_pos}
 use Rattle.apfloat_model.proofs.general.Powers.{two_pos}
 use Rattle.rustc_apfloat.specs.Types.{constants_of}
 use Rattle.apfloat_arrays.proofs.scaled_blocks_lemmas.Numbers.{half_of, whole_bits}

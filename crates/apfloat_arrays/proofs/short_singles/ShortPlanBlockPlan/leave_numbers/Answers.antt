@@ -1,10 +1,7 @@
 use Rattle.std.proofs.Common.{◌≡◌, ℕ, List, ◌%◌, ◌^◌, ◌<◌, ◌*◌, sym, subst, ap, ◌∙◌}
 use Rattle.std.proofs.lemmas.Bool.{true≢false}
 use Rattle.apfloat_model.specs.rounding.RoundingToOdd.{odd_quotient}
-use Rattle.apfloat_arrays.specs.Blocks.{value_at}
-use Rattle.apfloat_arrays.specs.Bytes.{number_of}
-use Rattle.apfloat_arrays.specs.Rows.{AreTaken, number_from}
-use Rattle.apfloat_arrays.specs.Singles.{IsShortHalf}
+use Rattle.apfloat_arrays.specs.{Blocks.value_at, Bytes.number_of, Rows.AreTaken, Rows.number_from, Singles.IsShortHalf}
 use Rattle.apfloat_arrays.proofs.Rows.{finite_there, half_alike, halves_there}
 use Rattle.apfloat_arrays.proofs.short_singles.ShortPlanBlockPlan.leave_numbers.Goals as goal
 

@@ -1,7 +1,6 @@
 use Rattle.std.specs.Prelude.{◌≡◌, ℕ, ◌^◌, ◌<◌, List, length, slice_index}
 use Rattle.apfloat_model.specs.rounding.RoundingToOdd.{odd_quotient}
-use Rattle.apfloat_arrays.specs.Blocks.{value_at}
-use Rattle.apfloat_arrays.specs.Bytes.{number_of}
+use Rattle.apfloat_arrays.specs.{Blocks.value_at, Bytes.number_of}
 use Rattle.apfloat_arrays.proofs.short_singles.ShortPlanBlockPlan.read_halves.Given as goal
 
 pub record AreRead (halves bytes : List ℕ) (count index : ℕ) : Type 0 where

@@ -1,10 +1,7 @@
 use Rattle.std.proofs.Common.{◌≡◌, ℕ, false, length, ◌^◌, sym, subst, ◌∙◌}
 use Rattle.rustc_apfloat.specs.FlaggedTypes.{constants_of}
-use Rattle.apfloat_arrays.specs.Bytes.{number_of}
-use Rattle.apfloat_arrays.specs.ShortSources.{is_nan_of}
-use Rattle.apfloat_arrays.specs.Values.{IsAnswerAt}
-use Rattle.apfloat_arrays.proofs.ShortSources.{short_answers}
-use Rattle.apfloat_arrays.proofs.TabledResults.{looked_up}
+use Rattle.apfloat_arrays.specs.{Bytes.number_of, ShortSources.is_nan_of, Values.IsAnswerAt}
+use Rattle.apfloat_arrays.proofs.{ShortSources.short_answers, TabledResults.looked_up}
 use Rattle.apfloat_arrays.proofs.short_sources.ShortenedValueConversion.convert.Goals as goal
 
 pub returns-else-is_nan : goal.returns-else-is_nan

@@ -1,6 +1,5 @@
 use Rattle.std.specs.Prelude.{◌≡◌, ℕ, ◌/◌, ◌%◌, ◌^◌, ◌<◌, List, length, slice_index}
-use Rattle.apfloat_arrays.specs.Blocks.{value_at}
-use Rattle.apfloat_arrays.specs.Bytes.{number_of}
+use Rattle.apfloat_arrays.specs.{Blocks.value_at, Bytes.number_of}
 use Rattle.apfloat_arrays.proofs.singles.PlanBlockPlan.read_halves.Given as goal
 
 pub record AreRead (uppers lowers bytes : List ℕ) (count index : ℕ) : Type 0 where

@@ -1,7 +1,5 @@
 use Rattle.std.proofs.Common.{ap, ◌∙◌, subst}
-use Rattle.rustc_apfloat.specs.Datum.{Datum}
-use Rattle.rustc_apfloat.specs.Flags.{bits_of}
-use Rattle.rustc_apfloat.specs.Types.{constants_of, format_of}
+use Rattle.rustc_apfloat.specs.{Datum.Datum, Flags.bits_of, Types.constants_of, Types.format_of}
 use Rattle.formats_at_run_time.specs.ValueKinds.{value_of}
 use Rattle.apfloat_arrays.specs.stored.Stored.{IsStoredBy}
 use Rattle.apfloat_arrays.proofs.stored.array.store_value.Goals as goal

@@ -1,7 +1,6 @@
 use Rattle.std.proofs.Common.{◌≡◌, ◌+◌, ◌-◌, ◌*◌, length, ◌∙◌, arith}
+use Rattle.apfloat_arrays.proofs.{Places.place_size, stored_lemmas.CodeTables.entry_copied}
 use borrow.Rule.Slice.PartMut.{same_len_mid}
-use Rattle.apfloat_arrays.proofs.Places.{place_size}
-use Rattle.apfloat_arrays.proofs.stored_lemmas.CodeTables.{entry_copied}
 use Rattle.apfloat_arrays.proofs.stored.code_tables.copy_codes.Goals as goal
 
 pub loop-place-preserved : goal.loop-place-preserved

@@ -1,10 +1,8 @@
 use Rattle.std.proofs.Common.{◌≡◌, ◌*◌, ◌^◌, ◌≤◌, length}
-use Rattle.rustc_apfloat.specs.Lawful.{Constants}
-use Rattle.rustc_apfloat.specs.declared.Round.{Round}
+use Rattle.rustc_apfloat.specs.{Lawful.Constants, declared.Round.Round}
 use Rattle.small_formats.specs.declared.saturation.Overflow.{Overflow}
 use Rattle.apfloat_arrays.specs.declared.stored.formats.StoredFormat.{StoredFormat}
-use Rattle.apfloat_arrays.specs.stored.CodeTables.{AreCodeEntries}
-use Rattle.apfloat_arrays.specs.stored.Formats.{bits_in}
+use Rattle.apfloat_arrays.specs.stored.{CodeTables.AreCodeEntries, Formats.bits_in}
 use Rattle.apfloat_arrays.proofs.stored.code_tables.copy_codes.Given as goal
 
 abbrev pub invariant-loop-place : goal.invariant-loop-place

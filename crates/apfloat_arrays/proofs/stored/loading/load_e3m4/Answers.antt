@@ -1,8 +1,6 @@
 use Rattle.std.proofs.Common.{sym, subst, ℕ}
-use Rattle.rustc_apfloat.specs.FlaggedTypes.{format_of}
-use Rattle.rustc_apfloat.specs.Flags.{bits_of}
-use Rattle.small_formats.specs.Float8E3M4.{e3m4_datum, e3m4_format}
-use Rattle.small_formats.specs.saturation.Saturation.{IsConversionBy}
+use Rattle.rustc_apfloat.specs.{FlaggedTypes.format_of, Flags.bits_of}
+use Rattle.small_formats.specs.{Float8E3M4.e3m4_datum, Float8E3M4.e3m4_format, saturation.Saturation.IsConversionBy}
 use Rattle.apfloat_arrays.proofs.stored.loading.load_e3m4.Goals as goal
 
 pub returns : goal.returns

@@ -1,9 +1,6 @@
 use Rattle.std.proofs.Common.{sym, subst, refl, ℕ}
-use Rattle.rustc_apfloat.specs.FlaggedTypes.{format_of}
-use Rattle.rustc_apfloat.specs.Flags.{bits_of}
-use Rattle.small_formats.specs.Codes.{datum_of}
-use Rattle.small_formats.specs.Storage.{format_with}
-use Rattle.small_formats.specs.Types.{constants_of}
+use Rattle.rustc_apfloat.specs.{FlaggedTypes.format_of, Flags.bits_of}
+use Rattle.small_formats.specs.{Codes.datum_of, Storage.format_with, Types.constants_of}
 use Rattle.small_formats.specs.saturation.Saturation.{IsConversionBy}
 use Rattle.apfloat_arrays.proofs.stored.loading.load_element.Goals as goal
 

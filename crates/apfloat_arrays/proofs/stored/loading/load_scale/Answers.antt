@@ -1,8 +1,6 @@
 use Rattle.std.proofs.Common.{sym, subst, ℕ}
-use Rattle.rustc_apfloat.specs.FlaggedTypes.{format_of}
-use Rattle.rustc_apfloat.specs.Flags.{bits_of}
-use Rattle.small_formats.specs.Scales.{scale_format, scale_of}
-use Rattle.small_formats.specs.saturation.Saturation.{IsConversionBy}
+use Rattle.rustc_apfloat.specs.{FlaggedTypes.format_of, Flags.bits_of}
+use Rattle.small_formats.specs.{Scales.scale_format, Scales.scale_of, saturation.Saturation.IsConversionBy}
 use Rattle.apfloat_arrays.proofs.stored_lemmas.ScaleClasses.{scale_sign}
 use Rattle.apfloat_arrays.proofs.stored.loading.load_scale.Goals as goal
 

@@ -1,9 +1,7 @@
 use Rattle.std.proofs.Common.{◌≡◌, ℕ, ◌/◌, refl, ◌∙◌, arith}
 use Rattle.std.proofs.Math.Path.{subst₂}
-use Rattle.rustc_apfloat.specs.declared.Round.{Round}
-use Rattle.rustc_apfloat.specs.Types.{constants_of}
-use Rattle.apfloat_arrays.specs.Blocks.{IsBlock}
-use Rattle.apfloat_arrays.specs.stored.Arrays.{IsStoredIn}
+use Rattle.rustc_apfloat.specs.{declared.Round.Round, Types.constants_of}
+use Rattle.apfloat_arrays.specs.{Blocks.IsBlock, stored.Arrays.IsStoredIn}
 use Rattle.apfloat_arrays.proofs.stored.number_arrays.store_each.Goals as goal
 
 pub convert_each-requires-clause-can : goal.convert_each-requires-clause-can

@@ -1,12 +1,9 @@
-use Rattle.std.proofs.Common.{◌≡◌, ℕ, ◌+◌, ◌-◌, ◌^◌, ◌<◌, eqb, not, sym, ap, subst, arith, pos, ◌-ℤ◌}
-use Rattle.std.proofs.lemmas.Int.{ints}
-use Rattle.std.proofs.lemmas.Nat.{pow_pos}
-use Rattle.apfloat_model.specs.formats.Datum.{Datum}
-use Rattle.rustc_apfloat.specs.Flags.{bits_of}
-use Rattle.apfloat_model.specs.rounding.Rounding.{leads_out}
-use Rattle.rustc_apfloat.specs.Types.{constants_of, format_of}
-use Rattle.small_formats.specs.Conversions.{IsInto}
-use Rattle.small_formats.specs.Storage.{format_with}
+use Rattle.std.proofs.Common.{◌≡◌, ℕ, ◌+◌, ◌-◌, ◌^◌, ◌<◌, eqb, not, sym, ap, subst, arith, pos}
+use Rattle.std.proofs.Common.{◌-ℤ◌}
+use Rattle.std.proofs.lemmas.{Int.ints, Nat.pow_pos}
+use Rattle.apfloat_model.specs.{formats.Datum.Datum, rounding.Rounding.leads_out}
+use Rattle.rustc_apfloat.specs.{Flags.bits_of, Types.constants_of, Types.format_of}
+use Rattle.small_formats.specs.{Conversions.IsInto, Storage.format_with}
 use Rattle.small_formats.specs.Types.{constants_of as storage_constants_of}
 use Rattle.apfloat_arrays.specs.stored.NumberCodes.{IsCodedNumber, is_minus}
 use Rattle.apfloat_arrays.proofs.FarNumbers.{scale_is}

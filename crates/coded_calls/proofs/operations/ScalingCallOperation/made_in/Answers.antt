@@ -1,6 +1,5 @@
-use Rattle.std.proofs.Common.{refl, rules}
+use Rattle.std.proofs.{Common.refl, Common.rules, lemmas.Int.to_z-of_z}
 use Rattle.std.specs.Int.{w32}
-use Rattle.std.proofs.lemmas.Int.{to_z-of_z}
 use Rattle.coded_calls.proofs.operations.ScalingCallOperation.made_in.Goals as goal
 
 pub returns : goal.returns

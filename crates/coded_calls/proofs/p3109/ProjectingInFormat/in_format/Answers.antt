@@ -1,9 +1,7 @@
 use Rattle.std.proofs.Common.{subst, ◌∙◌}
-use Rattle.std.specs.Int.{w32}
 use Rattle.std.proofs.lemmas.Int.{to_z-of_z}
-use Rattle.rustc_apfloat.specs.Datum.{Datum}
-use Rattle.rustc_apfloat.specs.Flags.{bits_of}
-use Rattle.rustc_apfloat.specs.Types.{format_of}
+use Rattle.std.specs.Int.{w32}
+use Rattle.rustc_apfloat.specs.{Datum.Datum, Flags.bits_of, Types.format_of}
 use Rattle.p3109_formats.specs.ModeConversions.{IsIntoProjectionBy}
 use Rattle.coded_calls.proofs.p3109.ProjectingInFormat.in_format.Goals as goal
 

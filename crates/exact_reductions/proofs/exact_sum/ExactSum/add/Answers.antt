@@ -1,13 +1,10 @@
 use Rattle.std.proofs.Common.{◌+◌, ◌^◌, sym, ◌∙◌, arith}
-use Rattle.apfloat_model.specs.declared.kinds.Round.TheVariants.{TowardZero}
-use Rattle.apfloat_model.specs.rounding.Flags.{bits_of}
+use Rattle.apfloat_model.specs.{declared.kinds.Round.TheVariants.TowardZero, rounding.Flags.bits_of}
 use Rattle.apfloat_model.specs.order.Classes.{quanta_of}
-use Rattle.apfloat_model.proofs.formats.LawfulRanges.{ranges_of}
-use Rattle.apfloat_model.proofs.order.PredicatesAgree.{finite_agrees}
+use Rattle.apfloat_model.proofs.{formats.LawfulRanges.ranges_of, order.PredicatesAgree.finite_agrees}
 use Rattle.apfloat_ieee.specs.FlaggedTypes.{constants_of, format_of}
 use Rattle.exact_reductions.proofs.Placed.{few_digits, power_few, value_units}
-use Rattle.exact_reductions.proofs.Sizes.{sum_size}
-use Rattle.exact_reductions.proofs.Tallies.{finite_value, special_value}
+use Rattle.exact_reductions.proofs.{Sizes.sum_size, Tallies.finite_value, Tallies.special_value}
 use Rattle.exact_reductions.proofs.exact_sum.ExactSum.add.Goals as goal
 
 pub in_quanta-value-requires : goal.in_quanta-value-requires

@@ -1,7 +1,6 @@
 use Rattle.std.proofs.Common.{◌*◌, ◌^◌, refl, sym}
 use Rattle.std.proofs.Math.Bool.{or-false}
-use Rattle.exact_reductions.proofs.Rooms.{one_fits, one_more}
-use Rattle.exact_reductions.proofs.Sizes.{sides_size}
+use Rattle.exact_reductions.proofs.{Rooms.one_fits, Rooms.one_more, Sizes.sides_size}
 use Rattle.exact_reductions.proofs.Tallies.{amount_added, first_none, gross_added, same_tally}
 use Rattle.exact_reductions.proofs.exact_sum.ExactSum.add_number.Goals as goal
 

@@ -1,21 +1,16 @@
-use Rattle.std.proofs.Common.{◌≡◌, ℕ, ◌+◌, ◌*◌, ◌^◌, Bool, false, ◌&&◌, sym, ap, ◌∙◌, arith}
-use Rattle.std.proofs.lemmas.Bool.{and_parts}
-use Rattle.apfloat_model.specs.arithmetic.Exact.{product_sign}
-use Rattle.apfloat_model.specs.declared.kinds.Round.TheVariants.{TowardZero}
-use Rattle.apfloat_model.specs.order.Classes.{is_finite, is_negative, quanta_of}
-use Rattle.apfloat_model.specs.rounding.Flags.{bits_of}
-use Rattle.apfloat_model.proofs.formats.LawfulRanges.{ranges_of}
-use Rattle.apfloat_model.proofs.general.Powers.{fits_longer}
+use Rattle.std.proofs.Common.{◌≡◌, ℕ, ◌+◌, ◌*◌, ◌^◌, Bool, false, ◌&&◌, sym, ap, ◌∙◌}
+use Rattle.std.proofs.{Common.arith, lemmas.Bool.and_parts}
+use Rattle.apfloat_model.specs.arithmetic.{Exact.product_sign, Products.product}
+use Rattle.apfloat_model.specs.{declared.kinds.Round.TheVariants.TowardZero, order.Classes.is_finite}
+use Rattle.apfloat_model.specs.{order.Classes.is_negative, order.Classes.quanta_of, rounding.Flags.bits_of}
+use Rattle.apfloat_model.proofs.{formats.LawfulRanges.ranges_of, general.Powers.fits_longer}
 use Rattle.apfloat_model.proofs.order.PredicatesAgree.{finite_agrees}
 use Rattle.apfloat_words.specs.Wides.{whole}
 use Rattle.apfloat_ieee.specs.FlaggedTypes.{constants_of, format_of}
-use Rattle.apfloat_model.specs.arithmetic.Products.{product}
 use Rattle.exact_reductions.specs.Reductions.{Tally, joined, number_tally, tally_of}
-use Rattle.exact_reductions.proofs.Placed.{few_digits, product_units}
-use Rattle.exact_reductions.proofs.Sizes.{sum_size}
+use Rattle.exact_reductions.proofs.{Placed.few_digits, Placed.product_units, Sizes.sum_size}
 use Rattle.exact_reductions.proofs.Tallies.{finite_product, special_product}
-use Rattle.exact_reductions.proofs.exact_sum.ExactSum.add_product.Given.{Over}
-use Rattle.exact_reductions.proofs.exact_sum.ExactSum.add_product.Goals.{After-product_sign-negative}
+use Rattle.exact_reductions.proofs.exact_sum.ExactSum.add_product.{Given.Over, Goals.After-product_sign-negative}
 use Rattle.exact_reductions.proofs.exact_sum.ExactSum.add_product.Goals as goal
 
 pub in_quanta-left-requires : goal.in_quanta-left-requires

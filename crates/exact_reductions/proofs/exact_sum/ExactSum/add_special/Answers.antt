@@ -1,8 +1,6 @@
 use Rattle.std.proofs.Common.{◌≡◌, eqb, not, refl, sym, ◌∙◌}
 use Rattle.std.proofs.Math.Bool.{or-false}
-use Rattle.apfloat_model.specs.order.Classes.{is_negative}
-use Rattle.apfloat_model.specs.rounding.Flags.{bits_of}
-use Rattle.apfloat_model.specs.rounding.Rounding.{ok_bits}
+use Rattle.apfloat_model.specs.{order.Classes.is_negative, rounding.Flags.bits_of, rounding.Rounding.ok_bits}
 use Rattle.exact_reductions.specs.Amounts.{difference}
 use Rattle.exact_reductions.proofs.Tallies.{first_none, infinite_tally, nan_tally, none_more, same_tally}
 use Rattle.exact_reductions.proofs.exact_sum.ExactSum.add_special.Goals as goal

@@ -2,12 +2,9 @@ use Rattle.std.proofs.Common.{◌≡◌, ◌*◌, ◌^◌, refl, sym, arith}
 use Rattle.std.proofs.Math.Bool.{or-false}
 use Rattle.apfloat_words.specs.Wides.{whole}
 use Rattle.exact_reductions.specs.Amounts.{with_amount}
-use Rattle.exact_reductions.proofs.Placed.{two_parts}
-use Rattle.exact_reductions.proofs.Rooms.{one_fits, one_more}
-use Rattle.exact_reductions.proofs.Sizes.{sides_size}
+use Rattle.exact_reductions.proofs.{Placed.two_parts, Rooms.one_fits, Rooms.one_more, Sizes.sides_size}
 use Rattle.exact_reductions.proofs.Tallies.{amount_added, amount_twice, first_none, gross_added, same_tally}
-use Rattle.exact_reductions.proofs.exact_sum.ExactSum.add_wide_number.Given.{Over}
-use Rattle.exact_reductions.proofs.exact_sum.ExactSum.add_wide_number.Goals.{After-add-2}
+use Rattle.exact_reductions.proofs.exact_sum.ExactSum.add_wide_number.{Given.Over, Goals.After-add-2}
 use Rattle.exact_reductions.proofs.exact_sum.ExactSum.add_wide_number.Goals as goal
 
 pub add-requires : goal.add-requires

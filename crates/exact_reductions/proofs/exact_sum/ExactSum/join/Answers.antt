@@ -1,6 +1,5 @@
 use Rattle.std.proofs.Common.{refl, arith}
-use Rattle.exact_reductions.proofs.Rooms.{both_fit, both_more}
-use Rattle.exact_reductions.proofs.Sizes.{sides_size}
+use Rattle.exact_reductions.proofs.{Rooms.both_fit, Rooms.both_more, Sizes.sides_size}
 use Rattle.exact_reductions.proofs.Tallies.{amounts_joined, either_part, same_tally}
 use Rattle.exact_reductions.proofs.exact_sum.ExactSum.join.Goals as goal
 

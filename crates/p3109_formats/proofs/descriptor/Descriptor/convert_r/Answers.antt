@@ -1,6 +1,5 @@
 use Rattle.std.proofs.Common.{◌≡◌, ℕ, ◌-◌, ◌*◌, ◌/◌, ◌^◌, ◌<◌, false, ap, ◌∙◌, arith}
-use Rattle.apfloat_model.specs.formats.Datum.{nan}
-use Rattle.apfloat_model.specs.formats.Nan.{nan_sign, quiet_significand}
+use Rattle.apfloat_model.specs.formats.{Datum.nan, Nan.nan_sign, Nan.quiet_significand}
 use Rattle.apfloat_model.specs.rounding.Flags.{bits_of}
 use Rattle.apfloat_ieee.specs.FlaggedTypes.{format_of}
 use Rattle.p3109_formats.specs.Projections.{magnitude_of, projected_format}

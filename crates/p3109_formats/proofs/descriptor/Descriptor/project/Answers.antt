@@ -1,7 +1,6 @@
 use Rattle.std.proofs.Common.{◌≡◌, ℕ, ◌*◌, ◌^◌, not, eqb, sym, ap, ◌∙◌, subst}
 use Rattle.apfloat_model.specs.declared.kinds.Category.TheVariants.{NaN, Normal}
-use Rattle.apfloat_model.specs.order.Classes.{category_of, quanta_of}
-use Rattle.apfloat_model.specs.rounding.Flags.{bits_of}
+use Rattle.apfloat_model.specs.{order.Classes.category_of, order.Classes.quanta_of, rounding.Flags.bits_of}
 use Rattle.apfloat_ieee.specs.Types.{format_of}
 use Rattle.p3109_formats.specs.ModeConversions.{IsProjectedBy}
 use Rattle.p3109_formats.specs.Projections.{projected_datum, projected_format}

@@ -1,7 +1,6 @@
 use Rattle.std.proofs.Common.{ap, ◌∙◌, sym, arith, refl}
 use Rattle.apfloat_model.specs.order.Classes.{category_of}
-use Rattle.p3109_formats.specs.Types.{projection_of}
-use Rattle.p3109_formats.specs.Projections.{is_negative_code, magnitude_of}
+use Rattle.p3109_formats.specs.{Types.projection_of, Projections.is_negative_code, Projections.magnitude_of}
 use Rattle.p3109_formats.proofs.Codes.{infinity_at, nan_at, number_at, zero_at}
 use Rattle.p3109_formats.proofs.Values.{normal_category}
 use Rattle.p3109_formats.proofs.projected.Projected.category.Goals as goal

@@ -1,13 +1,9 @@
 use Rattle.std.proofs.Common.{ap, ◌∙◌, sym, w32, ℤ, int_cmp, Some}
 use Rattle.std.proofs.lemmas.Int.{to_z-of_z}
 use Rattle.std.specs.declared.cmp.Ordering.{Ordering}
-use Rattle.apfloat_model.specs.formats.Datum.{Datum}
-use Rattle.apfloat_model.specs.order.Order.{compared}
-use Rattle.p3109_formats.specs.Types.{projection_of}
-use Rattle.p3109_formats.specs.Projections.{projected_datum}
-use Rattle.p3109_formats.proofs.Codes.{nan_at}
-use Rattle.p3109_formats.proofs.Neighbours.{by_ranks, rank_of}
-use Rattle.p3109_formats.proofs.Order.{left_nan, right_nan}
+use Rattle.apfloat_model.specs.{formats.Datum.Datum, order.Order.compared}
+use Rattle.p3109_formats.specs.{Types.projection_of, Projections.projected_datum}
+use Rattle.p3109_formats.proofs.{Codes.nan_at, Neighbours.by_ranks, Neighbours.rank_of, Order.left_nan, Order.right_nan}
 use Rattle.p3109_formats.proofs.projected.Projected.compare.Goals as goal
 
 pub returns-then-is_nan : goal.returns-then-is_nan

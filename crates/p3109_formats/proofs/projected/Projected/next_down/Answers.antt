@@ -1,7 +1,6 @@
 use Rattle.std.proofs.Common.{arith}
 use Rattle.p3109_formats.specs.Types.{projection_of}
-use Rattle.p3109_formats.proofs.Codes.{apart}
-use Rattle.p3109_formats.proofs.Values.{largest_some}
+use Rattle.p3109_formats.proofs.{Codes.apart, Values.largest_some}
 use Rattle.p3109_formats.proofs.projected.Projected.next_down.Goals as goal
 
 pub of_index-requires-clause-index : goal.of_index-requires-clause-index

@@ -1,8 +1,7 @@
 use Rattle.std.proofs.Common.{ℕ, ◌*◌, length, refl, ap, sym, ◌∙◌, subst}
 use Rattle.std.specs.Prelude.{Result, Ok, Err}
 use Rattle.apfloat_arrays.specs.declared.scaled_blocks.errors.ArrayError.{ArrayError}
-use Rattle.apfloat_arrays.specs.scaled_blocks.Dequantized.{IsDequantizedArray}
-use Rattle.apfloat_arrays.specs.scaled_blocks.Lengths.{blocks_in}
+use Rattle.apfloat_arrays.specs.scaled_blocks.{Dequantized.IsDequantizedArray, Lengths.blocks_in}
 use Rattle.apfloat_arrays.proofs.scaled_blocks_lemmas.Fitting.{fitting}
 use Rattle.apfloat_arrays.proofs.scaled_blocks.dequantizing.Dequantization.dequantize.Goals as goal
 

@@ -1,10 +1,8 @@
 use Rattle.std.proofs.Common.{ℕ, ◌*◌, ◌≤◌, refl, sym, subst}
 use Rattle.formats_at_run_time.specs.FlaggedKinds.{flagged_constants, format_without_rule}
-use Rattle.apfloat_arrays.specs.declared.widths.Extended.TheVariants.{Packed}
-use Rattle.apfloat_arrays.specs.Widths.{width_of}
-use Rattle.apfloat_arrays.proofs.WidthBounds.{width_room}
+use Rattle.apfloat_arrays.specs.{declared.widths.Extended.TheVariants.Packed, Widths.width_of}
 use Rattle.apfloat_arrays.specs.scaled_blocks.Dequantized.{AreDequantized}
-use Rattle.apfloat_arrays.proofs.scaled_blocks_lemmas.Scaled.{same_bits}
+use Rattle.apfloat_arrays.proofs.{WidthBounds.width_room, scaled_blocks_lemmas.Scaled.same_bits}
 use Rattle.apfloat_arrays.proofs.scaled_blocks.dequantizing.Dequantization.dequantize_each.Goals as goal
 
 pub returns-then-not-are_narrow : goal.returns-then-not-are_narrow

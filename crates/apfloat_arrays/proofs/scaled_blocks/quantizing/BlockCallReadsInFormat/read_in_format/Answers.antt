@@ -3,9 +3,7 @@ use Rattle.apfloat_model.specs.order.Classes.{quanta_of}
 use Rattle.rustc_apfloat.specs.Types.{constants_of, format_of}
 use Rattle.small_formats.specs.blocks.MxScales.{IsScaleBy}
 use Rattle.small_formats.specs.blocks.Nvfp4.{IsNvScale, scale_quanta as quanta_of_scale}
-use Rattle.small_formats.proofs.blocks_lemmas.Counted.{none_counted}
-use Rattle.small_formats.proofs.blocks_lemmas.Greatest.{own_quanta}
-use Rattle.small_formats.proofs.blocks_lemmas.NvScales.{divisor_some}
+use Rattle.small_formats.proofs.blocks_lemmas.{Counted.none_counted, Greatest.own_quanta, NvScales.divisor_some}
 use Rattle.apfloat_arrays.proofs.scaled_blocks_lemmas.Formats.{mx_block, nan_block, nvfp4_block, tensor_positive}
 use Rattle.apfloat_arrays.proofs.scaled_blocks_lemmas.Listed.{values_length}
 use Rattle.apfloat_arrays.proofs.scaled_blocks.quantizing.BlockCallReadsInFormat.read_in_format.Goals as goal

@@ -2,14 +2,11 @@ use Rattle.std.proofs.Common.{◌≡◌, ℕ, ◌*◌, List, length, sym, ◌∙
 use Rattle.std.proofs.lemmas.List.{take_all}
 use Rattle.rustc_apfloat.specs.Lawful.{format_with}
 use Rattle.formats_at_run_time.specs.BuiltIns.{constants_in}
-use Rattle.apfloat_arrays.specs.Blocks.{AreInPlaces, value_at}
+use Rattle.apfloat_arrays.specs.{Blocks.AreInPlaces, Blocks.value_at, scaled_blocks.Formats.IsBlockIn}
+use Rattle.apfloat_arrays.specs.scaled_blocks.{Quantized.IsBlockOf, Quantized.width_in, Values.values_in}
 use Rattle.apfloat_arrays.proofs.Places.{place_size}
+use Rattle.apfloat_arrays.proofs.scaled_blocks_lemmas.{Fitting.block_within, Made.made_more, Made.made_none}
 use Rattle.small_formats.proofs.blocks_lemmas.Places.{length_set}
-use Rattle.apfloat_arrays.specs.scaled_blocks.Formats.{IsBlockIn}
-use Rattle.apfloat_arrays.specs.scaled_blocks.Quantized.{IsBlockOf, width_in}
-use Rattle.apfloat_arrays.specs.scaled_blocks.Values.{values_in}
-use Rattle.apfloat_arrays.proofs.scaled_blocks_lemmas.Fitting.{block_within}
-use Rattle.apfloat_arrays.proofs.scaled_blocks_lemmas.Made.{made_more, made_none}
 use Rattle.apfloat_arrays.proofs.scaled_blocks.quantizing.Quantization.quantize_each.Goals as goal
 
 pub loop-index-init : goal.loop-index-init

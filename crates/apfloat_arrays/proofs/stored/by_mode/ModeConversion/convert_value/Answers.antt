@@ -1,7 +1,6 @@
 use Rattle.std.proofs.Common.{ℕ, ◌^◌, ◌<◌, sym, subst}
-use Rattle.apfloat_arrays.proofs.LittleEndian.{fits}
+use Rattle.apfloat_arrays.proofs.{LittleEndian.fits, stored_lemmas.ByMode.narrow}
 use Rattle.apfloat_arrays.specs.stored.Formats.{bits_in}
-use Rattle.apfloat_arrays.proofs.stored_lemmas.ByMode.{narrow}
 use Rattle.apfloat_arrays.proofs.stored.by_mode.ModeConversion.convert_value.Goals as goal
 
 pub write_number-requires : goal.write_number-requires

@@ -1,7 +1,6 @@
-use Rattle.std.proofs.Common.{◌≡◌, ℕ, ◌-◌, ◌^◌, ◌<◌, ◌∙◌, sym, ap, subst, Bool, true, not, eqb}
-use Rattle.std.proofs.lemmas.Bool.{eq-eqb, true≢false}
-use Rattle.rustc_apfloat.specs.Flags.{bits_of}
-use Rattle.rustc_apfloat.specs.Types.{constants_of}
+use Rattle.std.proofs.Common.{◌≡◌, ℕ, ◌-◌, ◌^◌, ◌<◌, ◌∙◌, sym, ap, subst, Bool, true, not}
+use Rattle.std.proofs.{Common.eqb, lemmas.Bool.eq-eqb, lemmas.Bool.true≢false}
+use Rattle.rustc_apfloat.specs.{Flags.bits_of, Types.constants_of}
 use Rattle.small_formats.specs.Types.{constants_of as storage_constants_of}
 use Rattle.apfloat_arrays.specs.stored.NumberCodes.{biased_of}
 use Rattle.apfloat_arrays.proofs.stored_lemmas.NumberCodes.{stored_bits}

@@ -1,7 +1,5 @@
 use Rattle.std.proofs.Common.{subst}
-use Rattle.rustc_apfloat.specs.Datum.{Datum}
-use Rattle.rustc_apfloat.specs.Flags.{bits_of}
-use Rattle.rustc_apfloat.specs.Types.{format_of}
+use Rattle.rustc_apfloat.specs.{Datum.Datum, Flags.bits_of, Types.format_of}
 use Rattle.apfloat_arrays.specs.stored.Stored.{IsStoredBy}
 use Rattle.apfloat_arrays.proofs.stored.numbers.StoreBitsInFormat.in_format.Goals as goal
 
