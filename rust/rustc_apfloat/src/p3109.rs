@@ -137,7 +137,8 @@ impl<F: Projection> Projected<F> {
     /// Past the largest number the result is the infinity, or the NaN in its place, with `OVERFLOW` and `INEXACT`,
     /// where the mode leads past it; otherwise the largest number, with `INEXACT`. In a format without infinities, an
     /// infinity is the NaN, with `INEXACT`. In a format without a sign, what is below zero once it is rounded is the
-    /// NaN, with `INVALID_OP`. -0 becomes the only zero, with `INEXACT`. A NaN is the NaN, with `INVALID_OP` if it is signaling.
+    /// NaN, with `INVALID_OP`. -0 becomes the only zero, with `INEXACT`. A NaN is the NaN, with `INVALID_OP` if it is
+    /// signaling.
     pub fn from_value<S: Semantics>(x: IeeeFloat<S>, round: Round, loses_info: &mut bool) -> StatusAnd<Self> {
         answered(library::Projected::from_value(x.plain(), round, loses_info)).map(Self)
     }
@@ -160,11 +161,6 @@ impl<F: Projection> Projected<F> {
     /// The largest number.
     pub fn largest() -> Self {
         Self(library::Projected::largest())
-    }
-
-    /// The smallest positive number.
-    pub fn smallest() -> Self {
-        Self(library::Projected::smallest())
     }
 
     /// The value in another format, rounded once (IEEE 754-2019 5.4.2), with the flags of that rounding; the NaN as
