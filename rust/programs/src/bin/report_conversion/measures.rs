@@ -1,6 +1,6 @@
 //! What is measured of a conversion.
 
-use crate::erased::exact_reductions::ExactSum;
+use crate::erased::exact_reductions::{ExactSum, NARROW_WORDS};
 use crate::erased::rustc_apfloat::ieee::{Double, DoubleS, Quad};
 use crate::erased::rustc_apfloat::{Category, Float, FloatConvert, Round, StatusAnd};
 use crate::target::{Converted, Digits};
@@ -49,8 +49,8 @@ pub struct Measures {
     pub error: Largest,
     /// The largest such error in units in the last place of the result, and the number.
     pub ulps: Largest,
-    signal: ExactSum<DoubleS>,
-    noise: ExactSum<DoubleS>,
+    signal: ExactSum<DoubleS, NARROW_WORDS>,
+    noise: ExactSum<DoubleS, NARROW_WORDS>,
 }
 
 impl Kinds {
