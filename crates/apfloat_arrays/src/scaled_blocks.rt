@@ -5,6 +5,8 @@
 //! Scales and codes take a byte each, codes its lowest bits; `small_formats::packing` packs codes of 4 and 6 bits.
 
 mod dequantizing;
+mod digits;
+mod elements;
 mod errors;
 mod formats;
 mod lengths;

@@ -6,7 +6,7 @@ mod code_tables;
 mod formats;
 mod loading;
 mod number_arrays;
-mod number_codes;
+pub(crate) mod number_codes;
 mod numbers;
 mod storing;
 

@@ -5,33 +5,39 @@ use Rattle.std.specs.Bool.{MatchBool}
 use Rattle.std.specs.Int.RustNames.{bit_and}
 use Rattle.std.proofs.Math.Nat.{add-mul-mod_self_right, div-eq_of_lt, min-eq_left, min-eq_right, min-le_right}
 use Rattle.std.proofs.Math.Nat.{mod-eq_of_lt, mul-le-mul_right, mul-lt-mul_of_pos_right, pow-le-pow_right}
-use Rattle.std.proofs.lemmas.Bool.{cases_eq, cases_lt, cond-false, eq-eqb, eqb-true, le-leb, le-ltb, lt-leb, lt-ltb, eqb-false}
+use Rattle.std.proofs.lemmas.Bool.{cases_eq, cases_lt, cond-false, eq-eqb, eqb-true, le-leb, le-ltb, lt-leb, lt-ltb}
+use Rattle.std.proofs.lemmas.Bool.{eqb-false}
 use Rattle.std.proofs.lemmas.Bool.{ne_eqb}
 use Rattle.std.proofs.lemmas.Nat.{div-add-mod', mod_below, pow-add, pow_pos}
 use Rattle.apfloat_model.specs.bits.Layout.{datum_of, datum_of_fields, trailing_bits}
 use Rattle.apfloat_model.specs.declared.kinds.NonfiniteBehavior.TheVariants.{IEEE754}
 use Rattle.apfloat_model.specs.declared.kinds.Round.{Round}
-use Rattle.apfloat_model.specs.formats.Datum.{finite}
+use Rattle.apfloat_model.specs.formats.Datum.{Datum, finite}
 use Rattle.apfloat_model.specs.formats.Format.{Format, largest}
 use Rattle.apfloat_model.specs.formats.Lawful.{Constants, format_with as constants_format, layout_with}
 use Rattle.apfloat_model.specs.rounding.Enclosure.{IsEnclosed, rounds_up}
-use Rattle.apfloat_model.specs.rounding.Rounding.{leads_out}
+use Rattle.apfloat_model.specs.rounding.Rounding.{IsPick, delivered_status, leads_out}
 use Rattle.apfloat_model.specs.rounding.Standing.{StandsFor}
 use Rattle.apfloat_model.proofs.bits.EncodedOnce.{fields_with}
 use Rattle.apfloat_model.proofs.general.Powers.{twice_half, two_pos}
+use Rattle.apfloat_model.proofs.rounding.Laws.{exact_is_picked, zero_on_grid}
+use Rattle.apfloat_model.proofs.rounding.Picks.{pick_unique}
 use Rattle.apfloat_model.proofs.rounding.KeptDigits.{enclosed_from, fits_cut, full_cut}
 use Rattle.apfloat_rounding.specs.Cuts.{loss_at}
 use Rattle.apfloat_rounding.proofs.CutRests.{loss_zero, rest_stands, loss_some}
 use Rattle.fast_bits.specs.Addends.{rounded_by}
 use Rattle.fast_bits.proofs.lanes_lemmas.Cuts.{far_below, in_quanta}
-use Rattle.fast_bits.proofs.lanes_lemmas.Singles.{fields_number, zero_factor}
+use Rattle.fast_bits.proofs.lanes_lemmas.Singles.{fields_number}
 use Rattle.small_formats.specs.Codes.{datum_of as number_of_code, largest_index, magnitude_of, point}
-use Rattle.small_formats.specs.Conversions.{IsGiven, IsInto, IsSaturated, IsStoredNumber}
+use Rattle.small_formats.specs.Conversions.{IsGiven, IsInto, IsStoredNumber, saturated_value}
 use Rattle.small_formats.specs.Picks.{IsPickedAt}
+use Rattle.small_formats.specs.blocks.Elements.{IsSaturatedIn}
 use Rattle.small_formats.specs.Storage.{IsLawfulStorage, StorageConstants, format_with}
-use Rattle.small_formats.proofs.Points.{low_point}
-use Rattle.small_formats.proofs.StoredPicks.{largest_point, past_delivered, picked_at, saturated, within_delivered}
-use Rattle.apfloat_arrays.specs.stored.NumberCodes.{biased_of, is_minus, significand_of}
+use Rattle.small_formats.proofs.Points.{points_in_order}
+use Rattle.small_formats.proofs.StoredPicks.{largest_point, not_greater, picked_at, tiny_is}
+use Rattle.apfloat_arrays.specs.stored.NumberCodes.{HasCodes, IsCodedNumber, biased_of, code_at, is_minus}
+use Rattle.apfloat_arrays.specs.stored.NumberCodes.{quanta_in, significand_of}
+use Rattle.apfloat_arrays.specs.stored.NumberCodes.{status_at}
 
 -- ---- the cut
 
@@ -203,64 +209,86 @@ sign_most : (negative : Bool) (half : ℕ) → cond negative half 0 ≤ half
 sign_most true half = omega arith
 sign_most false half = omega arith
 
-pub record IsCodeOf (c : StorageConstants) (negative : Bool) (index code : ℕ) : Type 0 where
-  pub is : code ≡ cond negative (2 ^ (c.bits - 1)) 0 + min index (2 ^ (c.bits - 1) - 1)
-
 -- the code has the bits of its format
-pub code_below : (c : StorageConstants) (negative : Bool) (index code : ℕ) → 1 ≤ c.bits
-    → IsCodeOf c negative index code
-    → code < 2 ^ c.bits
-code_below c negative index code some is =
+pub code_below : (c : StorageConstants) (negative : Bool) (most index code : ℕ) → 1 ≤ c.bits
+    → most < 2 ^ (c.bits - 1) → code ≡ code_at c negative most index → code < 2 ^ c.bits
+code_below c negative top index code some few is =
     let twice : 2 * 2 ^ (c.bits - 1) ≡ 2 ^ c.bits = twice_half c.bits some in
     let half : 0 < 2 ^ (c.bits - 1) = pow_pos (c.bits - 1) in
-    let most : min index (2 ^ (c.bits - 1) - 1) ≤ 2 ^ (c.bits - 1) - 1 = min-le_right index (2 ^ (c.bits - 1) - 1) in
+    let most : min index top ≤ top = min-le_right index top in
     let sign : cond negative (2 ^ (c.bits - 1)) 0 ≤ 2 ^ (c.bits - 1) = sign_most negative (2 ^ (c.bits - 1)) in
-    omega (arith, twice, half, most, sign, is.is)
-
-pub record IsStatusOf (c : StorageConstants) (leads : Bool) (index : ℕ) (exact : Bool) (status : ℕ) : Type 0 where
-  pub is : status ≡ cond (ltb (2 ^ (c.bits - 1) - 1) index) (cond leads 20 16)
-      (cond exact 0 (cond (ltb index (2 ^ (c.precision - 1))) 24 16))
+    omega (arith, twice, half, most, sign, few, is)
 
 -- the status of an index that is not past the largest one
-status_within : (c : StorageConstants) (leads exact : Bool) (index status : ℕ)
-    → IsStatusOf c leads index exact status → index ≤ largest_index c
-    → status ≡ cond exact 0 (cond (ltb index (2 ^ (c.precision - 1))) 24 16)
-status_within c leads exact index status flags within =
-    flags.is
-    ∙ ap (λ (b : Bool). cond b (cond leads 20 16) (cond exact 0 (cond (ltb index (2 ^ (c.precision - 1))) 24 16)))
-    (le-ltb (largest_index c) index within)
+status_within : (s : StorageConstants) (leads exact : Bool) (most index status : ℕ)
+    → status ≡ status_at s leads exact most index → index ≤ most
+    → status ≡ cond exact 0 (cond (ltb index (2 ^ (s.precision - 1))) 24 16)
+status_within s leads exact most index status flags within =
+    flags
+    ∙ ap (λ (b : Bool). cond b (cond leads 20 16) (cond exact 0 (cond (ltb index (2 ^ (s.precision - 1))) 24 16)))
+    (le-ltb most index within)
 
-pub number_saturated : (c : StorageConstants) (mode : Round) (negative leads exact : Bool)
-    (amount parts index code status : ℕ) → IsLawfulStorage c
-    → IsPickedAt c.precision mode negative amount parts index exact → leads ≡ leads_out mode negative
-    → IsCodeOf c negative index code → IsStatusOf c leads index exact status
-    → IsSaturated c mode negative amount parts code status
-number_saturated c mode negative leads exact amount parts index code status law at out is flags =
-    let top : 0 < 2 ^ (c.bits - 1) = pow_pos (c.bits - 1) in
-    ⊎_elim {C = IsSaturated c mode negative amount parts code status}
-    (λ (past : largest_index c < index).
-    let most : min index (2 ^ (c.bits - 1) - 1) ≡ largest_index c = min-eq_right (omega (arith, past)) in
-    let whole : code ≡ cond negative (2 ^ (c.bits - 1)) 0 + largest_index c =
-    is.is ∙ ap (λ (n : ℕ). cond negative (2 ^ (c.bits - 1)) 0 + n) most in
-    let value : number_of_code c code ≡ finite negative (largest (format_with c)) =
-    datum_is c (largest_index c) code negative (omega (arith, top)) whole
-    ∙ ap (finite negative) (largest_point c law) in
+pub saturated_by : (g : Format) (datum : ℕ → Datum) (s : StorageConstants) (mode : Round) (negative exact : Bool)
+    (amount parts most index code status : ℕ) → HasCodes g datum s most
+    → IsPickedAt s.precision mode negative amount parts index exact → code ≡ code_at s negative most index
+    → status ≡ status_at s (leads_out mode negative) exact most index
+    → IsSaturatedIn g mode negative amount parts (datum code) status
+saturated_by g datum s mode negative exact amount parts most index code status has at is flags =
+    let pick : ℕ = point s.precision index in
+    let picked : IsPick g.precision mode negative amount parts (point s.precision index) =
+    subst (λ (p : ℕ). IsPick p mode negative amount parts (point s.precision index)) (sym has.precision) at.is_pick in
+    let top = has.top in
+    ⊎_elim {C = IsSaturatedIn g mode negative amount parts (datum code) status}
+    (λ (past : most < index).
+    let least : min index most ≡ most = min-eq_right (omega (arith, past)) in
+    let whole : code ≡ cond negative (2 ^ (s.bits - 1)) 0 + most =
+    is ∙ ap (λ (n : ℕ). cond negative (2 ^ (s.bits - 1)) 0 + n) least in
+    let value : datum code ≡ finite negative (largest g) =
+    ap datum whole ∙ has.numbers negative most (omega arith) ∙ ap (finite negative) (sym top) in
+    let more = points_in_order s.precision most index has.some past in
+    let test : ltb (largest g) pick ≡ true = lt-ltb (largest g) pick (omega (arith, top, more)) in
     let raised : status ≡ cond (leads_out mode negative) 20 16 =
-    flags.is
-    ∙ ap (λ (b : Bool). cond b (cond leads 20 16) (cond exact 0 (cond (ltb index (2 ^ (c.precision - 1))) 24 16)))
-    (lt-ltb (largest_index c) index past) ∙ ap (λ (b : Bool). cond b 20 16) out in
-    saturated c mode negative amount parts index code status exact at
-    (past_delivered c mode negative amount parts index code status law past value raised))
-    (λ (within : index ≤ largest_index c).
-    let least : min index (2 ^ (c.bits - 1) - 1) ≡ index = min-eq_left within in
-    let whole : code ≡ cond negative (2 ^ (c.bits - 1)) 0 + index =
-    is.is ∙ ap (λ (n : ℕ). cond negative (2 ^ (c.bits - 1)) 0 + n) least in
-    let value : number_of_code c code ≡ finite negative (point c.precision index) =
-    datum_is c index code negative (omega (arith, top, within)) whole in
-    let raised = status_within c leads exact index status flags within in
-    saturated c mode negative amount parts index code status exact at
-    (within_delivered c mode negative amount parts index code status exact law at.exact_is within value raised))
-    (cases_lt (largest_index c) index)
+    flags
+    ∙ ap (λ (b : Bool). cond b (cond (leads_out mode negative) 20 16)
+    (cond exact 0 (cond (ltb index (2 ^ (s.precision - 1))) 24 16))) (lt-ltb most index past) in
+    record { pick = pick; is_pick = picked; value_is = rw test value; status_is = rw (test, has.flags) raised })
+    (λ (within : index ≤ most).
+    let least : min index most ≡ index = min-eq_left within in
+    let whole : code ≡ cond negative (2 ^ (s.bits - 1)) 0 + index =
+    is ∙ ap (λ (n : ℕ). cond negative (2 ^ (s.bits - 1)) 0 + n) least in
+    let value : datum code ≡ finite negative (point s.precision index) =
+    ap datum whole ∙ has.numbers negative index within in
+    let below = not_greater s.precision index most has.some within in
+    let test : ltb (largest g) pick ≡ false = le-ltb (largest g) pick (omega (arith, top, below)) in
+    let raised : status ≡ cond (eqb (point s.precision index * parts) amount) 0
+    (cond (ltb (point s.precision index) (2 ^ (s.precision - 1))) 24 16) =
+    status_within s (leads_out mode negative) exact most index status flags within
+    ∙ ap (λ (b : Bool). cond b 0 (cond (ltb index (2 ^ (s.precision - 1))) 24 16)) at.exact_is
+    ∙ ap (λ (b : Bool). cond (eqb (point s.precision index * parts) amount) 0 (cond b 24 16))
+    (tiny_is s.precision index has.some) in
+    record {
+      pick = pick;
+      is_pick = picked;
+      value_is = rw test value;
+      status_is = rw (test, has.tiny, has.flags, has.precision) raised;
+    })
+    (cases_lt most index)
+
+-- those of a storage format
+pub stored_codes : (c : StorageConstants) → IsLawfulStorage c
+    → HasCodes (format_with c) (number_of_code c) c (largest_index c)
+stored_codes c law =
+    let two = law.precision_low in
+    let half : 0 < 2 ^ (c.bits - 1) = pow_pos (c.bits - 1) in
+    record {
+      some = omega (arith, two);
+      precision = refl;
+      tiny = refl;
+      flags = refl;
+      top = sym (largest_point c law);
+      numbers = λ negative index within.
+          datum_is c index (cond negative (2 ^ (c.bits - 1)) 0 + index) negative (omega (arith, half, within)) refl;
+    }
 
 no_overflow : (exact tiny : Bool) → bit_and (cond exact 0 (cond tiny 24 16)) 4 ≡ 0
 no_overflow true tiny = refl
@@ -268,94 +296,72 @@ no_overflow false true = refl
 no_overflow false false = refl
 
 -- a number that is not past the largest one raises no OVERFLOW
-pub overflow_only_past : (c : StorageConstants) (negative leads exact : Bool) (index code status : ℕ)
-    → IsCodeOf c negative index code → IsStatusOf c leads index exact status
-    → (bit_and status 4 ≡ 0) ⊎ (code ≡ cond negative (2 ^ (c.bits - 1)) 0 + (2 ^ (c.bits - 1) - 1))
-overflow_only_past c negative leads exact index code status is flags =
-    ⊎_elim {C = (bit_and status 4 ≡ 0) ⊎ (code ≡ cond negative (2 ^ (c.bits - 1)) 0 + (2 ^ (c.bits - 1) - 1))}
-    (λ (past : largest_index c < index).
-    let most : min index (2 ^ (c.bits - 1) - 1) ≡ 2 ^ (c.bits - 1) - 1 = min-eq_right (omega (arith, past)) in
-    inr (is.is ∙ ap (λ (n : ℕ). cond negative (2 ^ (c.bits - 1)) 0 + n) most))
-    (λ (within : index ≤ largest_index c).
-    let raised = status_within c leads exact index status flags within in
+pub overflow_only_past : (c : StorageConstants) (negative leads exact : Bool) (most index code status : ℕ)
+    → code ≡ code_at c negative most index → status ≡ status_at c leads exact most index
+    → (bit_and status 4 ≡ 0) ⊎ (code ≡ cond negative (2 ^ (c.bits - 1)) 0 + most)
+overflow_only_past c negative leads exact most index code status is flags =
+    ⊎_elim {C = (bit_and status 4 ≡ 0) ⊎ (code ≡ cond negative (2 ^ (c.bits - 1)) 0 + most)}
+    (λ (past : most < index).
+    inr (is ∙ ap (λ (n : ℕ). cond negative (2 ^ (c.bits - 1)) 0 + n) (min-eq_right (omega (arith, past)))))
+    (λ (within : index ≤ most).
+    let raised = status_within c leads exact most index status flags within in
     inl (ap (λ (n : ℕ). bit_and n 4) raised ∙ no_overflow exact (ltb index (2 ^ (c.precision - 1)))))
-    (cases_lt (largest_index c) index)
+    (cases_lt most index)
 
 -- ---- zeros and other numbers
 
-zero_rounded : (low : ℕ) (mode : Round) (negative : Bool) (t : ℕ) → t ≡ 0
-    → rounded_by low mode negative t ≡ 0
-zero_rounded low mode negative t none =
-    let some : 0 < 2 ^ low = pow_pos low in
-    let less : t < 2 ^ low = omega (arith, none, some) in
-    let quotient : t / 2 ^ low ≡ 0 = div-eq_of_lt less in
-    let remainder : t % 2 ^ low ≡ 0 = mod-eq_of_lt less ∙ none in
-    rw (quotient, remainder) refl
-
--- a number, rounded, is the code of a value
-pub number_into : (c : StorageConstants) (f : Format) (mode : Round) (negative leads : Bool)
-    (P low first e m index code status : ℕ) → IsLawfulStorage c → c.precision ≤ P → m < 2 ^ P
-    → (e ≡ 0) ⊎ (2 ^ (P - 1) ≤ m) → f.scale ≡ (format_with c).scale + (P - c.precision) + first
-    → low ≡ P - c.precision + 32
-    → index ≡ rounded_by low mode negative (m * 2 ^ (32 - min (first - e) 32)) + (e - first) * 2 ^ (c.precision - 1)
-    → leads ≡ leads_out mode negative → IsCodeOf c negative index code
-    → IsStatusOf c leads index (eqb (m * 2 ^ (32 - min (first - e) 32) % 2 ^ low) 0) status
-    → IsInto c f mode (finite negative (m * 2 ^ e)) code status (not (eqb status 0))
-number_into c f mode negative leads P low first e m index code status law more fits full scales low_is is out code_is
-    flags =
-    let t = m * 2 ^ (32 - min (first - e) 32) in
-    let exact = eqb (t % 2 ^ low) 0 in
-    let two = law.precision_low in
-    let bits = law.bits_high in
-    let above = law.exponent in
-    let some : 0 < c.precision = omega (arith, two) in
-    let few : c.precision ≤ 16 = omega (arith, bits, above) in
-    let amount = m * 2 ^ e * 2 ^ (format_with c).scale in
-    let cut : IsCutAt c.precision low (e - first) t amount (2 ^ f.scale) =
-    cut_at c.precision P low first e m (format_with c).scale f.scale some more few fits full scales low_is in
-    let at =
-    picked c.precision low (e - first) t amount (2 ^ f.scale) index mode negative some (pow_pos f.scale) cut is in
-    let rounded = number_saturated c mode negative leads exact amount (2 ^ f.scale) index code status law at out code_is
-    flags in
-    let Says : Bool → Type 0 = λ b. MatchBool b
-    (IsGiven c (finite negative 0) 0 false code status (not (eqb status 0)))
-    (IsStoredNumber c f mode negative (m * 2 ^ e) code status (not (eqb status 0))) in
-    ⊎_elim {C = Says (eqb (m * 2 ^ e) 0)}
-    (λ (none : m * 2 ^ e ≡ 0).
-    let unit : 0 < 2 ^ e = pow_pos e in
-    let zero : m ≡ 0 = zero_factor m (2 ^ e) unit none in
-    let last : e ≡ 0 =
-    ⊎_elim {C = e ≡ 0} (λ h. h) (λ (h : 2 ^ (P - 1) ≤ m). let top : 0 < 2 ^ (P - 1) = pow_pos (P - 1) in
-    absurd (omega (arith, h, top, zero))) full in
-    let nothing : t ≡ 0 = ap (λ (n : ℕ). n * 2 ^ (32 - min (first - e) 32)) zero ∙ omega arith in
-    let place : (e - first) * 2 ^ (c.precision - 1) ≡ 0 =
-    ap (λ (n : ℕ). n * 2 ^ (c.precision - 1)) (let d : e - first ≡ 0 = omega (arith, last) in d) ∙ omega arith in
-    let rounded_zero = zero_rounded low mode negative t nothing in
-    let first_index : index ≡ 0 = omega (arith, is, rounded_zero, place) in
-    let top : 0 < 2 ^ (c.bits - 1) = pow_pos (c.bits - 1) in
-    let whole : code ≡ cond negative (2 ^ (c.bits - 1)) 0 + 0 =
-    code_is.is ∙ ap (λ (n : ℕ). cond negative (2 ^ (c.bits - 1)) 0 + min n (2 ^ (c.bits - 1) - 1)) first_index
-    ∙ ap (λ (n : ℕ). cond negative (2 ^ (c.bits - 1)) 0 + n)
-    (min-eq_left (let z : 0 ≤ 2 ^ (c.bits - 1) - 1 = omega arith in z)) in
-    let half : 0 < 2 ^ (c.precision - 1) = pow_pos (c.precision - 1) in
-    let value : number_of_code c code ≡ finite negative 0 =
-    datum_is c 0 code negative top whole ∙ ap (finite negative) (low_point c.precision 0 half) in
-    let low_some : 0 < 2 ^ low = pow_pos low in
-    let remainder : t % 2 ^ low ≡ 0 = mod-eq_of_lt (let l : t < 2 ^ low = omega (arith, nothing, low_some) in l)
-    ∙ nothing in
+-- a zero that is rounded is that zero
+zero_given : (c : StorageConstants) (mode : Round) (negative : Bool) (amount parts code status : ℕ) → 0 < parts
+    → amount ≡ 0 → IsSaturatedIn (format_with c) mode negative amount parts (number_of_code c code) status
+    → IsGiven c (finite negative 0) 0 false code status (not (eqb status 0))
+zero_given c mode negative amount parts code status some none is =
+    let pick : is.pick ≡ 0 =
+    pick_unique c.precision mode negative amount parts is.pick 0 is.is_pick
+    (exact_is_picked c.precision mode negative 0 amount parts some (zero_on_grid c.precision) (omega (arith, none))) in
+    let within : ltb (largest (format_with c)) 0 ≡ false = le-ltb (largest (format_with c)) 0 (omega arith) in
+    let exact : eqb (0 * parts) amount ≡ true = eq-eqb (0 * parts) amount (omega (arith, none)) in
     let raised : status ≡ 0 =
-    status_within c leads exact index status flags (omega (arith, first_index))
-    ∙ ap (λ (b : Bool). cond b 0 (cond (ltb index (2 ^ (c.precision - 1))) 24 16))
-    (eq-eqb (t % 2 ^ low) 0 remainder) in
-    subst Says (sym (eq-eqb (m * 2 ^ e) 0 none))
-    (record {
-      value_is = value;
+    is.status_is ∙ ap (delivered_status (format_with c) mode negative amount parts) pick ∙ rw (within, exact) refl in
+    record {
+      value_is = is.value_is ∙ ap (saturated_value (format_with c) negative) pick ∙ rw within refl;
       status_is = raised;
       loses_is = ap (λ (n : ℕ). not (eqb n 0)) raised;
+    }
+
+-- a number, rounded, is the code of a value
+pub number_into : (c : StorageConstants) (k : Constants) (f : Format) (mode : Round) (first bits code status : ℕ)
+    → IsLawfulStorage c → f.scale ≡ (format_with c).scale + (k.precision - c.precision) + first
+    → IsCodedNumber k c mode first (largest_index c) bits code status
+    → IsInto c f mode (finite (is_minus k bits) (quanta_in k bits)) code status (not (eqb status 0))
+number_into c k f mode first bits code status law scales is =
+    let negative = is_minus k bits in
+    let n = quanta_in k bits in
+    let amount = n * 2 ^ (format_with c).scale in
+    let saturated : IsSaturatedIn (format_with c) mode (is_minus k bits) (n * 2 ^ (format_with c).scale) (2 ^ f.scale)
+    (number_of_code c code) status =
+    saturated_by (format_with c) (number_of_code c) c mode negative is.exact amount (2 ^ f.scale) (largest_index c)
+    is.index code status (stored_codes c law) (is.picked (format_with c).scale f.scale scales) is.code_is
+    is.status_is in
+    let Says : Bool → Type 0 = λ b. MatchBool b
+    (IsGiven c (finite negative 0) 0 false code status (not (eqb status 0)))
+    (IsStoredNumber c f mode negative n code status (not (eqb status 0))) in
+    ⊎_elim {C = Says (eqb n 0)}
+    (λ (none : n ≡ 0).
+    let nothing : amount ≡ 0 = ap (λ (m : ℕ). m * 2 ^ (format_with c).scale) none ∙ omega arith in
+    subst Says (sym (eq-eqb n 0 none))
+    (zero_given c mode negative amount (2 ^ f.scale) code status (pow_pos f.scale) nothing saturated))
+    (λ (other : n ≡ 0 → ⊥).
+    subst Says (sym (ne_eqb n 0 other))
+    (record {
+      is_rounded = record {
+        pick = saturated.pick;
+        is_pick = saturated.is_pick;
+        value_is = saturated.value_is;
+        status_is = saturated.status_is;
+      };
+      loses_is = refl;
     }))
-    (λ (other : m * 2 ^ e ≡ 0 → ⊥).
-    subst Says (sym (ne_eqb (m * 2 ^ e) 0 other)) (record { is_rounded = rounded; loses_is = refl }))
-    (cases_eq (m * 2 ^ e) 0)
+    (cases_eq n 0)
 
 -- ---- from bits
 

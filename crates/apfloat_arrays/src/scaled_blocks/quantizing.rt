@@ -14,6 +14,7 @@ ghost use Rattle.apfloat_arrays.specs.scaled_blocks.Lengths.{blocks_in};
 ghost use Rattle.apfloat_arrays.specs.scaled_blocks.Quantized.{AreQuantized, IsQuantizedArray, counts_with, width_in};
 ghost use Rattle.apfloat_arrays.specs.scaled_blocks.Values.{values_in};
 
+use crate::scaled_blocks::elements::{Quotients, write_elements};
 use crate::scaled_blocks::errors::ArrayError;
 use crate::scaled_blocks::formats::{BlockFormat, tensor_of};
 use crate::scaled_blocks::lengths::blocks_in;
@@ -22,9 +23,9 @@ use crate::scaled_blocks::values::bits_at;
 use crate::{Counts, Extended, width};
 use formats_at_run_time::{BuiltInFormat, ReadsInFormat};
 use rustc_apfloat::Round;
-use rustc_apfloat::ieee::{BFloatS, DoubleS, IeeeFloat, Semantics};
+use rustc_apfloat::ieee::{DoubleS, IeeeFloat, Semantics};
 use small_formats::blocks::{
-    Block, Counts as ElementCounts, ElementFormat, ScaleRule, nvfp4_scale, power_of, scale_by,
+    Block, Counts as ElementCounts, ElementFormat, ScaleRule, nvfp4_scale, scale_by,
 };
 
 /// How values become blocks.
@@ -168,10 +169,15 @@ impl ReadsInFormat for BlockCall<'_> {
             Some(greatest) => match format {
                 BlockFormat::Mx(element) => {
                     let scale = scale_by(rule, element, greatest);
-                    let by = power_of(scale);
-                    let counts = write_codes::<S, BFloatS>(
-                        element, round, width, first, by, values, bytes,
-                    );
+                    let quotients = Quotients {
+                        element,
+                        round,
+                        scale,
+                        width,
+                        first,
+                        values,
+                    };
+                    let counts = write_elements::<S>(quotients, bytes);
                     Block {
                         scale,
                         counts,
@@ -196,7 +202,7 @@ impl ReadsInFormat for BlockCall<'_> {
 }
 
 /// Writes the quotients of the values of a block by its scale.
-fn write_codes<S: Semantics, R: Semantics>(
+pub(crate) fn write_codes<S: Semantics, R: Semantics>(
     element: ElementFormat,
     round: Round,
     width: usize,

@@ -1,21 +1,78 @@
 //! The greatest magnitude of a block, and its elements by a scale.
 
-ghost use Rattle.std.specs.Prelude.{◌≡◌, ℕ, ◌+◌, ◌*◌, ◌^◌, ◌<◌, ◌≤◌, true, false, length, MatchOption};
-ghost use Rattle.rustc_apfloat.specs.Datum.{finite};
+ghost use Rattle.std.specs.Prelude.{◌≡◌, ℕ, ◌+◌, ◌*◌, ◌/◌, ◌%◌, ◌^◌, ◌<◌, ◌≤◌, true, length};
 ghost use Rattle.rustc_apfloat.specs.Flags.{bits_of};
 ghost use Rattle.rustc_apfloat.specs.Types.{constants_of, format_of};
-ghost use Rattle.apfloat_model.specs.formats.Members.{IsMember};
 ghost use Rattle.apfloat_model.specs.order.Classes.{is_finite, quanta_of};
 ghost use Rattle.apfloat_model.specs.order.Positive.{IsPositive};
 ghost use Rattle.formats_at_run_time.specs.ValueKinds.{value_of};
 ghost use Rattle.small_formats.specs.blocks.Elements.{IsQuotientBy};
-ghost use Rattle.small_formats.specs.blocks.Magnitudes.{are_finite, greatest_magnitude};
+ghost use Rattle.apfloat_arrays.specs.scaled_blocks.Greatest.{AreAtMost, IsGreatest, special_bits};
 ghost use Rattle.apfloat_arrays.specs.scaled_blocks.Values.{values_in};
+ghost use Rattle.apfloat_arrays.specs.stored.NumberCodes.{IsWordFormat};
 
+use crate::bytes::{bits_in, has_width};
 use crate::scaled_blocks::values::bits_at;
+use crate::stored::number_codes::has_words;
 use rustc_apfloat::ieee::{IeeeFloat, Semantics};
 use rustc_apfloat::{Float, Round, StatusAnd};
 use small_formats::blocks::{ElementFormat, greater, quotient_code};
+
+/// A power of two.
+#[inline(always)]
+fn power_of_two(places: usize) -> u32
+    requires { places < 32 }
+    ensures { result ≡ 2 ^ places }
+{
+    1_u32 << places
+}
+
+/// The bits of +infinity.
+#[inline(always)]
+fn special_bits<S: Semantics>() -> u32
+    requires read { S.PRECISION < S.BITS }
+    requires word { IsWordFormat (constants_of S.Semantics) }
+    ensures { result ≡ special_bits (constants_of S.Semantics) }
+{
+    power_of_two(S::BITS - 1) - power_of_two(S::PRECISION - 1)
+}
+
+/// The greatest bits of values without their signs.
+#[inline(never)]
+fn greatest_bits<S: Semantics>(first: usize, count: usize, bytes: &[u8]) -> u32
+    requires read { S.PRECISION < S.BITS }
+    requires word { IsWordFormat (constants_of S.Semantics) }
+    requires within { (first + count) * (S.BITS / 8) ≤ length bytes.now }
+    requires whole { S.BITS % 8 ≡ 0 }
+    ensures { AreAtMost (constants_of S.Semantics)
+        (values_in (constants_of S.Semantics) (S.BITS / 8) bytes.now first count) result }
+{
+    let width = S::BITS / 8;
+    let half = power_of_two(S::BITS - 1);
+    let mut greatest = 0_u32;
+    for index in 0..count {
+        let from = (first + index) * width;
+        greatest = greatest.max(bits_in::<S>(&bytes[from..from + width]) % half);
+    }
+    greatest
+}
+
+/// The greatest magnitude of values by their bits, if all of them are finite.
+fn greatest_number<S: Semantics>(first: usize, count: usize, bytes: &[u8]) -> Option<IeeeFloat<S>>
+    requires read { S.PRECISION < S.BITS }
+    requires word { IsWordFormat (constants_of S.Semantics) }
+    requires within { (first + count) * (S.BITS / 8) ≤ length bytes.now }
+    requires whole { S.BITS % 8 ≡ 0 }
+    ensures { let xs = values_in (constants_of S.Semantics) (S.BITS / 8) bytes.now first count in
+        IsGreatest (format_of S.Semantics) xs result }
+{
+    let greatest = greatest_bits::<S>(first, count, bytes);
+    if greatest < special_bits::<S>() {
+        Some(IeeeFloat::<S>::from_bits(u128::from(greatest)))
+    } else {
+        None
+    }
+}
 
 /// The greatest magnitude of values, if all of them are finite.
 pub(crate) fn greatest_of<S: Semantics>(
@@ -29,11 +86,11 @@ pub(crate) fn greatest_of<S: Semantics>(
     requires few { width ≤ 16 }
     requires within { (first + count) * width ≤ length bytes.now }
     ensures { let xs = values_in (constants_of S.Semantics) width bytes.now first count in
-        MatchOption result
-        (are_finite xs ≡ false)
-        (λ greatest. (are_finite xs ≡ true) × (greatest ≡ finite false (greatest_magnitude xs))
-        × IsMember (format_of S.Semantics) greatest) }
+        IsGreatest (format_of S.Semantics) xs result }
 {
+    if has_words::<S>() && has_width::<S>(width) {
+        return greatest_number::<S>(first, count, bytes);
+    }
     let mut greatest = IeeeFloat::<S>::zero();
     for index in 0..count {
         let x = IeeeFloat::<S>::from_bits(bits_at(width, first + index, bytes));

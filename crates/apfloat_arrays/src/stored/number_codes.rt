@@ -10,7 +10,8 @@ ghost use Rattle.rustc_apfloat.specs.Layout.{datum_of};
 ghost use Rattle.rustc_apfloat.specs.Types.{constants_of, format_of, layout_of};
 ghost use Rattle.small_formats.specs.Conversions.{IsInto};
 ghost use Rattle.small_formats.specs.Types.{constants_of as storage_constants_of};
-ghost use Rattle.apfloat_arrays.specs.stored.NumberCodes.{IsWordSource, biased_of, is_minus, significand_of};
+ghost use Rattle.apfloat_arrays.specs.stored.NumberCodes.{IsCodedNumber, IsWordSource, biased_of, is_minus};
+ghost use Rattle.apfloat_arrays.specs.stored.NumberCodes.{significand_of};
 
 use fast_bits::words::{WordPlan, round_word};
 use rustc_apfloat::ieee::{NonfiniteBehavior, Semantics};
@@ -19,7 +20,7 @@ use small_formats::StorageFormat;
 
 /// Whether the numbers of `S` have at most 24 digits and an implied integer bit.
 #[inline(always)]
-fn has_words<S: Semantics>() -> bool
+pub(crate) fn has_words<S: Semantics>() -> bool
     ensures { IsTrue result → (S.NONFINITE_BEHAVIOR ≡ IEEE754) × (S.EXPLICIT_INTEGER_BIT ≡ false)
         × (S.BITS ≤ 32) × (S.EXP_BITS ≤ 8) × (S.PRECISION ≤ 24) }
 {
@@ -121,7 +122,7 @@ fn is_minus_in<S: Semantics>(bits: u32) -> bool
 
 /// The place of the numbers of `S` from which on a code has all its digits.
 #[inline(always)]
-fn first_place<S: Semantics, F: StorageFormat>() -> u32
+pub(crate) fn first_place<S: Semantics, F: StorageFormat>() -> u32
     requires { IsWordSource (constants_of S.Semantics) (storage_constants_of F.StorageFormat) }
     ensures is { pos result ≡ F.MIN_EXP -ℤ S.MIN_EXP }
     ensures below { result ≤ 126 }
@@ -158,12 +159,12 @@ fn denormal_codes<F: StorageFormat>() -> u32
 
 /// The code of a magnitude's number, or of the largest one for what is past it, with the sign.
 #[inline(always)]
-fn code_of<F: StorageFormat>(negative: bool, index: u32) -> u8
-    ensures { result ≡ (if negative then 2 ^ (F.BITS - 1) else 0) + min index (2 ^ (F.BITS - 1) - 1) }
+fn code_of<F: StorageFormat>(negative: bool, index: u32, most: u32) -> u8
+    requires { most < 2 ^ (F.BITS - 1) }
+    ensures { result ≡ (if negative then 2 ^ (F.BITS - 1) else 0) + min index most }
 {
-    let half = unsigned_codes::<F>();
-    let sign = if negative { half } else { 0 };
-    (sign + index.min(half - 1)) as u8
+    let sign = if negative { unsigned_codes::<F>() } else { 0 };
+    (sign + index.min(most)) as u8
 }
 
 /// The flags of a number past the largest one.
@@ -193,16 +194,44 @@ fn status_within(exact: bool, tiny: bool) -> Status
     }
 }
 
-/// The flags of a number that is rounded to the one with that number.
+/// The flags of a number that is rounded to the one with that number, if the largest one has the number `most`.
 #[inline(always)]
-fn status_of<F: StorageFormat>(leads_out: bool, index: u32, exact: bool) -> Status
-    ensures { bits_of result ≡ (if ltb (2 ^ (F.BITS - 1) - 1) index then (if leads_out then 20 else 16)
+fn status_of<F: StorageFormat>(leads_out: bool, index: u32, exact: bool, most: u32) -> Status
+    ensures { bits_of result ≡ (if ltb most index then (if leads_out then 20 else 16)
         else (if exact then 0 else (if ltb index (2 ^ (F.PRECISION - 1)) then 24 else 16))) }
 {
-    if index > unsigned_codes::<F>() - 1 {
+    if index > most {
         return status_past(leads_out);
     }
     status_within(exact, index < denormal_codes::<F>())
+}
+
+/// The code of a number, rounded once, if a code has all its digits from the place `first` of the numbers of `S` on and
+/// the largest one has the number `most`.
+#[inline(always)]
+pub(crate) fn code_number<S: Semantics, F: StorageFormat>(
+    plan: WordPlan,
+    first: u32,
+    most: u32,
+    bits: u32,
+) -> StatusAnd<u8>
+    requires read { S.PRECISION < S.BITS }
+    requires source { IsWordSource (constants_of S.Semantics)
+        (storage_constants_of F.StorageFormat) }
+    requires low { plan.low ≡ S.PRECISION - F.PRECISION + 32 }
+    requires most { most < 2 ^ (F.BITS - 1) }
+    ensures { IsCodedNumber (constants_of S.Semantics) (storage_constants_of F.StorageFormat)
+        plan.round first most bits result.value (bits_of result.status) }
+{
+    let biased = biased_in::<S>(bits);
+    let significand = significand_in::<S>(bits, biased);
+    let place = biased.saturating_sub(1);
+    let negative = is_minus_in::<S>(bits);
+    let low = digits_below::<S, F>();
+    let rounded = round_word(plan, low, negative, significand, place, first);
+    let index = rounded.kept + placed::<F>(place.saturating_sub(first));
+    let status = status_of::<F>(rounded.leads_out, index, rounded.exact, most);
+    status.and(code_of::<F>(negative, index, most))
 }
 
 /// The code of a number, rounded once.
@@ -224,14 +253,6 @@ pub(crate) fn store_number<S: Semantics, F: StorageFormat>(
         ⊎ (result.value ≡ (if is_minus (constants_of S.Semantics) bits then 2 ^ (F.BITS - 1) else 0)
         + (2 ^ (F.BITS - 1) - 1)) }
 {
-    let biased = biased_in::<S>(bits);
-    let significand = significand_in::<S>(bits, biased);
-    let place = biased.saturating_sub(1);
-    let first = first_place::<S, F>();
-    let negative = is_minus_in::<S>(bits);
-    let low = digits_below::<S, F>();
-    let rounded = round_word(plan, low, negative, significand, place, first);
-    let index = rounded.kept + placed::<F>(place.saturating_sub(first));
-    let status = status_of::<F>(rounded.leads_out, index, rounded.exact);
-    status.and(code_of::<F>(negative, index))
+    let most = unsigned_codes::<F>() - 1;
+    code_number::<S, F>(plan, first_place::<S, F>(), most, bits)
 }

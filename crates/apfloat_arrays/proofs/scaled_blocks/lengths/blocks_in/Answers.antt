@@ -1,4 +1,4 @@
-use Rattle.std.proofs.Common.{ap, sym, ◌∙◌, refl}
+use Rattle.std.proofs.Common.{ap}
 use Rattle.apfloat_arrays.specs.scaled_blocks.Lengths.{if_scaled}
 use Rattle.apfloat_arrays.proofs.scaled_blocks.lengths.blocks_in.Goals as goal
 

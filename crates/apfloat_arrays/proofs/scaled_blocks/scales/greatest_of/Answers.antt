@@ -1,4 +1,4 @@
-use Rattle.std.proofs.Common.{◌≡◌, ℕ, ◌+◌, List, ◌∷◌, [], ◌++◌, length, true, false, max, Some}
+use Rattle.std.proofs.Common.{◌≡◌, ℕ, ◌+◌, ◌/◌, List, ◌∷◌, [], ◌++◌, length, true, false, max, Some}
 use Rattle.std.proofs.Common.{ap, sym, ◌∙◌, refl, subst, arith}
 use Rattle.rustc_apfloat.specs.Datum.{Datum, finite}
 use Rattle.rustc_apfloat.specs.Types.{constants_of, format_of}
@@ -8,6 +8,7 @@ use Rattle.apfloat_model.proofs.order.PredicatesAgree.{finite_agrees}
 use Rattle.formats_at_run_time.specs.ValueKinds.{value_of}
 use Rattle.small_formats.specs.blocks.Magnitudes.{are_finite, greatest_magnitude}
 use Rattle.small_formats.proofs.blocks_lemmas.Greatest.{greatest_more, one_not_finite, own_quanta, zero_member}
+use Rattle.apfloat_arrays.specs.scaled_blocks.Greatest.{IsGreatest}
 use Rattle.apfloat_arrays.specs.scaled_blocks.Values.{value_in, values_in}
 use Rattle.apfloat_arrays.proofs.scaled_blocks_lemmas.Fitting.{index_within, value_within}
 use Rattle.apfloat_arrays.proofs.scaled_blocks_lemmas.Listed.{finite_push, values_at, values_next}
@@ -80,3 +81,11 @@ returns g c =
     × (c.loop-index.greatest
     ≡ finite false (greatest_magnitude (values_in k c.args.width c.args.bytes.now c.args.first n)))
     × IsMember (format_of g.S.Semantics) c.loop-index.greatest) last c.loop-index.invariant
+
+pub returns-then-has_width : goal.returns-then-has_width
+returns-then-has_width g c =
+    let k = constants_of g.S.Semantics in
+    let width : g.S.Semantics.BITS / 8 ≡ c.args.width = omega (arith, c.if-has_width.ensures) in
+    subst
+    (λ (w : ℕ). IsGreatest (format_of g.S.Semantics) (values_in k w c.args.bytes.now c.args.first c.args.count)
+    c.greatest_number.result) width c.greatest_number.ensures

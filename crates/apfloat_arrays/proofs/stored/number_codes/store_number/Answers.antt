@@ -1,31 +1,23 @@
-use Rattle.std.proofs.Common.{◌≡◌, ℕ, ◌+◌, ◌-◌, ◌*◌, ◌%◌, ◌^◌, ◌<◌, ◌≤◌, Bool, cond, eqb, not, min, sym, ap, ◌∙◌}
-use Rattle.std.proofs.Common.{subst, arith, pos, ◌-ℤ◌}
-use Rattle.std.proofs.Math.Nat.{pow-le-pow_right}
+use Rattle.std.proofs.Common.{◌≡◌, ℕ, ◌+◌, ◌-◌, ◌^◌, ◌<◌, eqb, not, sym, ap, subst, arith, pos, ◌-ℤ◌}
 use Rattle.std.proofs.lemmas.Int.{ints}
-use Rattle.apfloat_model.proofs.general.Powers.{two_pos}
+use Rattle.std.proofs.lemmas.Nat.{pow_pos}
 use Rattle.apfloat_model.specs.formats.Datum.{Datum}
 use Rattle.rustc_apfloat.specs.Flags.{bits_of}
 use Rattle.apfloat_model.specs.rounding.Rounding.{leads_out}
 use Rattle.rustc_apfloat.specs.Types.{constants_of, format_of}
-use Rattle.fast_bits.specs.Addends.{rounded_by}
 use Rattle.small_formats.specs.Conversions.{IsInto}
 use Rattle.small_formats.specs.Storage.{format_with}
 use Rattle.small_formats.specs.Types.{constants_of as storage_constants_of}
-use Rattle.apfloat_arrays.specs.stored.NumberCodes.{biased_of, is_minus, significand_of}
+use Rattle.apfloat_arrays.specs.stored.NumberCodes.{IsCodedNumber, is_minus}
 use Rattle.apfloat_arrays.proofs.FarNumbers.{scale_is}
-use Rattle.apfloat_arrays.proofs.stored_lemmas.Numbers.{IsCodeOf, IsStatusOf, code_below, normal_full, number_into}
-use Rattle.apfloat_arrays.proofs.stored_lemmas.Numbers.{number_read, overflow_only_past}
+use Rattle.apfloat_arrays.proofs.stored_lemmas.Numbers.{code_below, number_into, number_read, overflow_only_past}
 use Rattle.apfloat_arrays.proofs.stored.number_codes.store_number.Goals as goal
 
-pub round_word-rounded-requires-clause-same : goal.round_word-rounded-requires-clause-same
-round_word-rounded-requires-clause-same g c = c.digits_below-low.ensures.is ∙ sym c.requires.low
-
-pub round_word-rounded-requires-clause-fits : goal.round_word-rounded-requires-clause-fits
-round_word-rounded-requires-clause-fits g c =
-    let digits = c.requires.source.digits in
-    let below = c.significand_in-significand.ensures.below in
-    let most : 2 ^ g.S.Semantics.PRECISION ≤ 2 ^ 24 = pow-le-pow_right two_pos digits in
-    omega (arith, below, most)
+pub code_number-requires-clause-most : goal.code_number-requires-clause-most
+code_number-requires-clause-most g c =
+    let is = c.unsigned_codes-most.ensures.is in
+    let some : 0 < 2 ^ (g.F.StorageFormat.BITS - 1) = pow_pos (g.F.StorageFormat.BITS - 1) in
+    omega (arith, is, some)
 
 pub returns : goal.returns
 returns g c =
@@ -33,60 +25,31 @@ returns g c =
     let s = storage_constants_of g.F.StorageFormat in
     let law = g.F.StorageFormat.lawful in
     let source = c.requires.source in
-    let m = significand_of k c.args.bits in
-    let e = biased_of k c.args.bits - 1 in
-    let first = c.first_place-first.result in
-    let low = c.args.plan.low in
+    let first = c.first_place.result in
     let mode = c.args.plan.round in
     let negative = is_minus k c.args.bits in
-    let made = c.round_word-rounded in
-    let index = made.result.kept + c.placed.result in
-    let code = c.code_of.result in
-    let status = bits_of c.status_of-status.result in
-    let t : ℕ = m * 2 ^ (32 - min (first - e) 32) in
-    let place : c.saturating_sub-place.result ≡ biased_of k c.args.bits - 1 =
-    c.saturating_sub-place.ensures ∙ ap (λ (n : ℕ). n - 1) c.biased_in-biased.ensures.is in
-    let digits : c.significand_in-significand.result * 2 ^ (32 - min (first - c.saturating_sub-place.result) 32)
-    ≡ m * 2 ^ (32 - min (first - e) 32) =
-    ap (λ (n : ℕ). n * 2 ^ (32 - min (first - c.saturating_sub-place.result) 32))
-    c.significand_in-significand.ensures.is ∙ ap (λ (n : ℕ). m * 2 ^ (32 - min (first - n) 32)) place in
-    let negative_is : c.is_minus_in-negative.result ≡ is_minus k c.args.bits = c.is_minus_in-negative.ensures in
-    let rounded : made.result.kept ≡ rounded_by low mode negative t =
-    made.ensures.kept ∙ (λ i. rounded_by low mode (negative_is i) (digits i)) in
-    let placed : c.placed.result ≡ (e - first) * 2 ^ (s.precision - 1) =
-    c.placed.ensures.is ∙ ap (λ (n : ℕ). n * 2 ^ (s.precision - 1))
-    (c.saturating_sub.ensures ∙ ap (λ (n : ℕ). n - first) place) in
-    let index_is : index ≡ rounded_by low mode negative t + (e - first) * 2 ^ (s.precision - 1) =
-    (λ i. rounded i + placed i) in
-    let exact : made.result.exact ≡ eqb (t % 2 ^ low) 0 =
-    made.ensures.exact ∙ ap (λ (n : ℕ). eqb (n % 2 ^ low) 0) digits in
-    let out : made.result.leads_out ≡ leads_out mode negative =
-    made.ensures.out ∙ ap (leads_out mode) negative_is in
-    let code_is : IsCodeOf s negative index code = record {
-      is = c.code_of.ensures
-          ∙ ap (λ (b : Bool). cond b (2 ^ (s.bits - 1)) 0 + min index (2 ^ (s.bits - 1) - 1)) negative_is;
-    } in
-    let status_is : IsStatusOf s made.result.leads_out index (eqb (t % 2 ^ low) 0) status =
-    subst (λ (b : Bool). IsStatusOf s made.result.leads_out index b status) exact
-    (record { is = c.status_of-status.ensures }) in
+    let code = c.code_number.result.value in
+    let status = bits_of c.code_number.result.status in
+    let most : c.unsigned_codes-most.result - 1 ≡ 2 ^ (s.bits - 1) - 1 =
+    ap (λ (n : ℕ). n - 1) c.unsigned_codes-most.ensures.is in
+    let coded : IsCodedNumber k s mode first (2 ^ (s.bits - 1) - 1) c.args.bits code status =
+    subst (λ (n : ℕ). IsCodedNumber k s mode first n c.args.bits code status) most c.code_number.ensures in
+    let some : 0 < 2 ^ (s.bits - 1) = pow_pos (s.bits - 1) in
     let from_scale = scale_is k g.S.Semantics.lawful.parameters in
     let more = source.more in
     let to_scale : pos (format_with s).scale ≡ pos (s.precision - 1) -ℤ s.min_exp =
     omega (arith, ints, law.precision_low, law.min_exp_high) in
     let scales : (format_of g.S.Semantics).scale ≡ (format_with s).scale + (k.precision - s.precision) + first =
-    omega (arith, ints, from_scale, to_scale, c.first_place-first.ensures.is, more, law.precision_low) in
-    let fits : m < 2 ^ k.precision =
-    subst (λ (n : ℕ). n < 2 ^ k.precision) c.significand_in-significand.ensures.is
-    c.significand_in-significand.ensures.below in
-    let into = number_into s (format_of g.S.Semantics) mode negative made.result.leads_out k.precision low first e m
-    index code status law more fits (normal_full k c.args.bits) scales c.requires.low index_is out code_is status_is in
+    omega (arith, ints, from_scale, to_scale, c.first_place.ensures.is, more, law.precision_low) in
+    let into = number_into s k (format_of g.S.Semantics) mode first c.args.bits code status law scales coded in
     let read = number_read k c.args.bits source.nonfinite source.implied c.requires.number in
-    rw (c.and.ensures.value, c.and.ensures.status)
-    (record {
+    record {
       stored =
           subst
           (λ (x : Datum). IsInto s (format_of g.S.Semantics) mode x code status (not (eqb status 0))) (sym read) into;
-      below = code_below s negative index code (omega (arith, law.precision_low, law.exponent)) code_is;
-      past =
-          overflow_only_past s negative made.result.leads_out (eqb (t % 2 ^ low) 0) index code status code_is status_is;
-    })
+      below = code_below s negative (2 ^ (s.bits - 1) - 1) coded.index code
+          (omega (arith, law.precision_low, law.exponent))
+          (omega (arith, some)) coded.code_is;
+      past = overflow_only_past s negative (leads_out mode negative) coded.exact (2 ^ (s.bits - 1) - 1) coded.index code
+          status coded.code_is coded.status_is;
+    }

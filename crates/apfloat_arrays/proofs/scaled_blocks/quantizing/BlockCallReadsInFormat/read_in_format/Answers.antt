@@ -1,5 +1,4 @@
 use Rattle.std.proofs.Common.{ℕ, ◌*◌, ◌^◌, length, max, replicate, refl, ap, sym, ◌∙◌, subst}
-use Rattle.std.proofs.lemmas.Nat.{pow_pos}
 use Rattle.apfloat_model.specs.order.Classes.{quanta_of}
 use Rattle.rustc_apfloat.specs.Types.{constants_of, format_of}
 use Rattle.small_formats.specs.blocks.MxScales.{IsScaleBy}
@@ -7,7 +6,6 @@ use Rattle.small_formats.specs.blocks.Nvfp4.{IsNvScale, scale_quanta as quanta_o
 use Rattle.small_formats.proofs.blocks_lemmas.Counted.{none_counted}
 use Rattle.small_formats.proofs.blocks_lemmas.Greatest.{own_quanta}
 use Rattle.small_formats.proofs.blocks_lemmas.NvScales.{divisor_some}
-use Rattle.small_formats.proofs.blocks_lemmas.Powers.{scale_quanta}
 use Rattle.apfloat_arrays.proofs.scaled_blocks_lemmas.Formats.{mx_block, nan_block, nvfp4_block, tensor_positive}
 use Rattle.apfloat_arrays.proofs.scaled_blocks_lemmas.Listed.{values_length}
 use Rattle.apfloat_arrays.proofs.scaled_blocks.quantizing.BlockCallReadsInFormat.read_in_format.Goals as goal
@@ -36,8 +34,7 @@ returns-in-Mx g c =
     (record {
       scale_is = subst (λ (n : ℕ). IsScaleBy c.args.self.rule c.in-Mx.element (format_of g.S.Semantics) n scale)
           (ap quanta_of c.in-Some.ensures.1) c.scale_by-scale.ensures.value;
-      elements = c.write_codes-counts.ensures (2 ^ scale) (2 ^ 127) (pow_pos scale)
-          (sym (scale_quanta scale) ∙ ap (λ (n : ℕ). n * 2 ^ 127) (sym c.power_of-by.ensures.value));
+      elements = c.write_elements-counts.ensures;
       finite_is = refl;
     })
 
@@ -56,7 +53,7 @@ returns-in-Nvfp4 g c =
     (record {
       scale_is = subst (λ (n : ℕ). IsNvScale (format_of g.S.Semantics) c.args.self.round t n code)
           (ap quanta_of c.in-Some.ensures.1) c.nvfp4_scale-scale.ensures.code;
-      elements = c.write_codes-counts-in-Nvfp4.ensures (max 1 (quanta_of_scale code) * t) (2 ^ 158)
+      elements = c.write_codes-counts.ensures (max 1 (quanta_of_scale code) * t) (2 ^ 158)
           (divisor_some code t some) c.nvfp4_scale-scale.ensures.divisor;
       finite_is = refl;
     })
