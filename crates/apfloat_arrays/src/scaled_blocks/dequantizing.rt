@@ -7,13 +7,17 @@ ghost use Rattle.apfloat_arrays.specs.scaled_blocks.Dequantized.{AreDequantized,
 ghost use Rattle.apfloat_arrays.specs.scaled_blocks.Formats.{AreNarrow, HasScale, IsNarrow};
 ghost use Rattle.apfloat_arrays.specs.scaled_blocks.Lengths.{blocks_in};
 
+use crate::scaled_blocks::digits::{E4M3Digits, E5M2Digits};
 use crate::scaled_blocks::errors::ArrayError;
 use crate::scaled_blocks::formats::BlockFormat;
 use crate::scaled_blocks::lengths::blocks_in;
+use crate::scaled_blocks::products::write_in;
 use crate::{Counts, Extended, Outcome, width, write_number};
 use formats_at_run_time::{FlaggedFormat, WritesInFormat};
 use rustc_apfloat::ieee::Flagged;
 use rustc_apfloat::{Float, Round};
+use small_formats::blocks::ElementFormat;
+use small_formats::{E2M1FN, E2M3FN, E3M2FN};
 
 /// How blocks become values.
 #[derive(Clone, Copy)]
@@ -88,11 +92,11 @@ impl Dequantization {
 
 /// The call that multiplies elements by their scales, made at the type of the products.
 #[derive(Clone, Copy)]
-struct ScaledCall<'a> {
-    dequantization: Dequantization,
-    width: usize,
-    scales: &'a [u8],
-    codes: &'a [u8],
+pub(crate) struct ScaledCall<'a> {
+    pub dequantization: Dequantization,
+    pub width: usize,
+    pub scales: &'a [u8],
+    pub codes: &'a [u8],
 }
 
 impl WritesInFormat for ScaledCall<'_> {
@@ -110,25 +114,40 @@ impl WritesInFormat for ScaledCall<'_> {
         counts) };
 
     fn write_in_format<T: Flagged>(self, bytes: &mut [u8]) -> Counts {
-        let Dequantization {
-            format,
-            length,
-            round,
-            ..
-        } = self.dequantization;
-        let mut counts = Counts::NONE;
-        for index in 0..self.codes.len() {
-            let from = index * self.width;
-            let place = &mut bytes[from..from + self.width];
-            let scale = self.scales[index / length];
-            counts.count(write_scaled::<T>(format, scale, self.codes[index], round, place));
+        match self.dequantization.format {
+            BlockFormat::Mx(element) => match element {
+                ElementFormat::E5M2 => write_in::<T, E5M2Digits>(self, 0x7b, bytes),
+                ElementFormat::E4M3FN => write_in::<T, E4M3Digits>(self, 0x7e, bytes),
+                ElementFormat::E3M2FN => write_in::<T, E3M2FN>(self, 0x1f, bytes),
+                ElementFormat::E2M3FN => write_in::<T, E2M3FN>(self, 0x1f, bytes),
+                ElementFormat::E2M1FN => write_in::<T, E2M1FN>(self, 0x7, bytes),
+            },
+            BlockFormat::Nvfp4(_) => write_each::<T>(self, bytes),
         }
-        counts
     }
 }
 
+#[inline(never)]
+pub(crate) fn write_each<T: Flagged>(call: ScaledCall, bytes: &mut [u8]) -> Counts {
+    let Dequantization {
+        format,
+        length,
+        round,
+        ..
+    } = call.dequantization;
+    let mut counts = Counts::NONE;
+    for index in 0..call.codes.len() {
+        let from = index * call.width;
+        let place = &mut bytes[from..from + call.width];
+        let scale = call.scales[index / length];
+        counts.count(write_scaled::<T>(format, scale, call.codes[index], round, place));
+    }
+    counts
+}
+
 /// Writes the product of an element and a scale.
-fn write_scaled<T: Flagged>(
+#[inline(never)]
+pub(crate) fn write_scaled<T: Flagged>(
     format: BlockFormat,
     scale: u8,
     code: u8,

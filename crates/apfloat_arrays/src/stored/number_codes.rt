@@ -14,13 +14,13 @@ ghost use Rattle.apfloat_arrays.specs.stored.NumberCodes.{IsCodedNumber, IsWordS
 ghost use Rattle.apfloat_arrays.specs.stored.NumberCodes.{significand_of};
 
 use fast_bits::words::{WordPlan, round_word};
-use rustc_apfloat::ieee::{NonfiniteBehavior, Semantics};
+use rustc_apfloat::ieee::{Flagged, NonfiniteBehavior, Semantics};
 use rustc_apfloat::{Flags, Status, StatusAnd};
 use small_formats::StorageFormat;
 
 /// Whether the numbers of `S` have at most 24 digits and an implied integer bit.
 #[inline(always)]
-pub(crate) fn has_words<S: Semantics>() -> bool
+pub(crate) fn has_words<S: Flagged>() -> bool
     ensures { IsTrue result → (S.NONFINITE_BEHAVIOR ≡ IEEE754) × (S.EXPLICIT_INTEGER_BIT ≡ false)
         × (S.BITS ≤ 32) × (S.EXP_BITS ≤ 8) × (S.PRECISION ≤ 24) }
 {
@@ -33,7 +33,7 @@ pub(crate) fn has_words<S: Semantics>() -> bool
 
 /// Whether they have the digits of those of `F`.
 #[inline(always)]
-fn has_digits<S: Semantics, F: StorageFormat>() -> bool
+fn has_digits<S: Flagged, F: StorageFormat>() -> bool
     ensures { IsTrue result → F.PRECISION ≤ S.PRECISION }
 {
     F::PRECISION <= S::PRECISION
@@ -41,7 +41,7 @@ fn has_digits<S: Semantics, F: StorageFormat>() -> bool
 
 /// Whether the least exponent of `S` is at least that of singles.
 #[inline(always)]
-fn has_exponents<S: Semantics>() -> bool
+fn has_exponents<S: Flagged>() -> bool
     ensures { IsTrue result → negsuc 125 ≤ℤ S.MIN_EXP }
 {
     S::MIN_EXP >= -126
@@ -49,7 +49,7 @@ fn has_exponents<S: Semantics>() -> bool
 
 /// Whether it is at most that of `F`.
 #[inline(always)]
-fn is_finer<S: Semantics, F: StorageFormat>() -> bool
+fn is_finer<S: Flagged, F: StorageFormat>() -> bool
     ensures { IsTrue result → S.MIN_EXP ≤ℤ F.MIN_EXP }
 {
     S::MIN_EXP <= F::MIN_EXP
@@ -57,7 +57,7 @@ fn is_finer<S: Semantics, F: StorageFormat>() -> bool
 
 /// Whether the numbers of `S` become codes of `F` here.
 #[inline(always)]
-pub(crate) fn is_word_source<S: Semantics, F: StorageFormat>() -> bool
+pub(crate) fn is_word_source<S: Flagged, F: StorageFormat>() -> bool
     ensures { IsTrue result
         → IsWordSource (constants_of S.Semantics) (storage_constants_of F.StorageFormat) }
 {
@@ -122,7 +122,7 @@ fn is_minus_in<S: Semantics>(bits: u32) -> bool
 
 /// The place of the numbers of `S` from which on a code has all its digits.
 #[inline(always)]
-pub(crate) fn first_place<S: Semantics, F: StorageFormat>() -> u32
+pub(crate) fn first_place<S: Flagged, F: StorageFormat>() -> u32
     requires { IsWordSource (constants_of S.Semantics) (storage_constants_of F.StorageFormat) }
     ensures is { pos result ≡ F.MIN_EXP -ℤ S.MIN_EXP }
     ensures below { result ≤ 126 }
