@@ -3304,8 +3304,8 @@ def _quantized(name: str, by: int, rule: int, values: Array, block: int) -> tupl
     data, size = bytes(values), values.size
     count = size // block
     scales, codes = ctypes.create_string_buffer(max(count, 1)), ctypes.create_string_buffer(max(size, 1))
-    counts = _block_call(name, values.format.code, context().mode | rule, by, block, data, len(data), scales, count, codes,
-                         size)
+    mode = context().mode | rule
+    counts = _block_call(name, values.format.code, mode, by, block, data, len(data), scales, count, codes, size)
     return scales.raw[:count], codes.raw[:size], counts
 
 

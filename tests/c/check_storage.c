@@ -195,7 +195,8 @@ static unsigned names(void) {
     unsigned count = 0;
     for (size_t i = 0; i < COUNT(formats); i++)
         count += strcmp(apfloat_format_name(formats[i].code | APFLOAT_IEEE_FLAGS), formats[i].name) == 0;
-    for (size_t i = 0; i < COUNT(stored); i++) count += strcmp(apfloat_format_name(stored[i].code), stored[i].name) == 0;
+    for (size_t i = 0; i < COUNT(stored); i++)
+        count += strcmp(apfloat_format_name(stored[i].code), stored[i].name) == 0;
     return *apfloat_format_name(0) || *apfloat_format_name(11) ? 0 : count;
 }
 
