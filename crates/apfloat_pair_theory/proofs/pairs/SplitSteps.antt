@@ -1,6 +1,6 @@
 -- The rest of a wide number beyond its high part, in three steps: the high part is widened again, subtracted in the
 -- wide format, and the difference is converted to a double. Each step is exact.
-use Rattle.std.proofs.Common.{◌≡◌, ℕ, zero, suc, ◌*◌, ◌^◌, ◌<◌, ◌≤◌, Bool, true, false, not, ◌&&◌, eqb, refl, sym, ap, ◌∙◌, subst, le_trans, arith, lit≤}
+use Rattle.std.proofs.Common.{◌≡◌, ℕ, zero, suc, ◌*◌, ◌^◌, ◌<◌, ◌≤◌, Bool, true, false, not, refl, sym, ap, ◌∙◌, subst, le_trans, arith, lit≤}
 use Rattle.std.specs.Prelude.{ℤ, pos, ◌+ℤ◌, ◌-ℤ◌}
 use Rattle.std.proofs.lemmas.Nat.{pow_pos}
 use Rattle.std.proofs.lemmas.Bool.{false≢true}
@@ -179,7 +179,3 @@ rest_by_steps (nan b q) high low status f s =
     absurd (false≢true (ap is_finite_non_zero (sym s.high_is.value_is) ∙ f))
 
 -- ---- a split by steps
-
--- the high part is a nonzero number, and inexact
-abbrev pub has_rest : Datum → ℕ → Bool
-has_rest high status = is_finite_non_zero high && not (eqb status ok_bits)
