@@ -40,9 +40,6 @@ pub record IsNormalAt (s : Shape) (significand : ℕ) (exponent : ℤ) : Type 0 
 
 -- the same statements, of an unpacked value
 
-abbrev pub IsOperand : Shape → Unpacked → Type 0
-IsOperand s x = IsOperandAt s.precision s.min_exp s.max_exp x.significand x.exponent
-
 abbrev pub quanta_of : Shape → Unpacked → ℕ
 quanta_of s x = quanta_at s.min_exp x.significand x.exponent
 
