@@ -1,8 +1,8 @@
 -- A significand is read to its end.
-use Rattle.std.proofs.Common.{◌≡◌, ℕ, ◌+◌, Bool, true, false, if◌then◌else◌, refl, sym, subst, arith, List, [], ◌∷◌}
+use Rattle.std.proofs.Common.{◌≡◌, ℕ, false, refl, sym, subst, List, [], ◌∷◌}
 use Rattle.std.specs.Prelude.{Result, Ok, Err, IsErrAnd, MatchResult}
 use Rattle.apfloat_model.specs.texts.Digits.{begins}
-use Rattle.apfloat_model.specs.texts.Faults.{is_digit_or_dot, significand_of, after_significand}
+use Rattle.apfloat_model.specs.texts.Faults.{is_digit_or_dot, significand_of}
 use Rattle.apfloat_conversions.specs.declared.hex_texts.significand.Scan.{Scan}
 use Rattle.apfloat_conversions.specs.hex_texts.Scans.{IsScan}
 
@@ -27,13 +27,3 @@ scan_remade rest left next made e s = subst (λ (x : Scan). IsScan rest left x) 
 ended : (left : List ℕ) → begins is_digit_or_dot left ≡ false → significand_of left ≡ []
 ended [] h = refl
 ended (c ∷ left) h = rw h refl
-
--- in a text that begins with neither a digit nor a dot, everything follows the significand
-unmoved : (left : List ℕ) → begins is_digit_or_dot left ≡ false → after_significand left ≡ left
-unmoved [] h = refl
-unmoved (c ∷ left) h = rw h refl
-
--- if nothing is left to read, no place after the dot is added
-no_more : (pointed : Bool) (places : ℕ) → places + (if pointed then 0 else 0) ≡ places
-no_more true places = omega arith
-no_more false places = omega arith
