@@ -2,8 +2,7 @@
 use Rattle.std.proofs.Common.{◌≡◌, ℕ, ◌≤◌, Bool, true, false, cond, refl, List, [], ◌∷◌}
 use Rattle.std.proofs.Common.{arith, drop, get_or, length}
 use Rattle.std.specs.Prelude.{◌||◌, eqb}
-use Rattle.apfloat_model.specs.declared.marks.Mark.TheVariants.{Minus, Plus, Unmarked}
-use Rattle.apfloat_model.specs.texts.Specials.{after_mark, is_minus, mark_of}
+use Rattle.apfloat_model.specs.texts.Specials.{after_mark}
 
 -- a text without its sign, which has one character or none
 pub sign_dropped : (text : List ℕ) (is : Bool) (n : ℕ) → 1 ≤ length text
@@ -12,12 +11,3 @@ pub sign_dropped : (text : List ℕ) (is : Bool) (n : ℕ) → 1 ≤ length text
 sign_dropped [] is n l e m = absurd (omega (arith, l))
 sign_dropped (c ∷ text) true n l e m = (omega (arith, m), rw (m, ← e) refl)
 sign_dropped (c ∷ text) false n l e m = (omega (arith, m), rw (m, ← e) refl)
-
-pub minus_is : (text : List ℕ) → 1 ≤ length text → eqb (get_or text 0 0) 45 ≡ is_minus (mark_of text)
-minus_is [] l = absurd (omega (arith, l))
-minus_is (c ∷ text) l = go (eqb c 45) (eqb c 43)
-  where
-    go : (a b : Bool) → a ≡ is_minus (cond a Minus (cond b Plus Unmarked))
-    go true b = refl
-    go false true = refl
-    go false false = refl

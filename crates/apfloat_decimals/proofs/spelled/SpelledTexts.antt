@@ -6,7 +6,7 @@ use Rattle.std.proofs.lemmas.Bool.{cases_Bool, ne_eqb, eqb-true, false≢true, n
 use Rattle.std.proofs.lemmas.Option.{none-some}
 use Rattle.apfloat_model.specs.declared.kinds.Round.{Round}
 use Rattle.apfloat_model.specs.declared.parse_error.Fault.{Fault}
-use Rattle.apfloat_model.specs.declared.parse_error.Fault.TheVariants.{EmptyText, LoneMark, NoLiteral, SecondDot}
+use Rattle.apfloat_model.specs.declared.parse_error.Fault.TheVariants.{LoneMark, NoLiteral, SecondDot}
 use Rattle.apfloat_model.specs.declared.parse_error.Fault.TheVariants.{WrongInSignificand, NoDigits, WrongInExponent}
 use Rattle.apfloat_model.specs.declared.parse_error.Fault.TheVariants.{NoExponentDigits}
 use Rattle.apfloat_model.specs.formats.Format.{Format}
@@ -161,23 +161,6 @@ some_first [] second h = absurd (false≢true (h ∙ sym (empty_is [])))
 some_first (c ∷ first) second h = refl
 
 -- ---- the fault of a text
-
--- if nothing or the prefix of a hexadecimal number follows the sign, a decimal text has the fault that any text has
-pub same_fault : (text : List ℕ)
-    → (not (is_empty (after_mark text)) && not (begins_literal (after_mark text))) ≡ false
-    → decimal_fault_of text ≡ fault_of text
-same_fault text h =
-    go (is_empty text) (is_empty (after_mark text)) (is_some (special_of text)) (begins_literal (after_mark text))
-    (after_prefix_fault (drop 2 (after_mark text))) (body_fault (after_mark text)) h
-  where
-    go : (a b s l : Bool) (x y : Option Fault) → (not b && not l) ≡ false
-        → cond a (Some EmptyText) (cond b (Some LoneMark) (cond s None (cond l x y)))
-        ≡ cond a (Some EmptyText) (cond b (Some LoneMark) (cond s None (cond (not l) (Some NoLiteral) x)))
-    go true b s l x y h = refl
-    go false true s l x y h = refl
-    go false false true l x y h = refl
-    go false false false true x y h = refl
-    go false false false false x y h = absurd (false≢true (sym h))
 
 -- if nothing or the prefix of a hexadecimal number follows the sign, a known fault is that of the decimal text
 pub other_fault : (text : List ℕ) (fault : Fault)
