@@ -3,12 +3,10 @@ use Rattle.std.proofs.Common.{◌≡◌, ℕ, ◌+◌, ◌-◌, ◌^◌, ◌<◌
 use Rattle.std.proofs.Common.{ap, ◌∙◌, subst, arith}
 use Rattle.std.proofs.lemmas.Bool.{MatchBool-at_false, eqb-true, ne_eqb, or_parts}
 use Rattle.apfloat_model.specs.declared.kinds.Category.TheVariants.{Normal, Zero}
-use Rattle.apfloat_model.specs.formats.Constants.{largest_datum}
 use Rattle.apfloat_model.specs.formats.Datum.{Datum, finite, infinite, nan}
 use Rattle.apfloat_model.specs.formats.Format.{Format, largest}
 use Rattle.apfloat_model.specs.arithmetic.NextUp.{IsNextUp, IsNextGreater, IsNextOfNumber}
-use Rattle.apfloat_model.specs.order.Classes.{category_of, is_negative, quanta_of, same_datum}
-use Rattle.apfloat_model.specs.order.Predicates.{signed_like}
+use Rattle.apfloat_model.specs.order.Classes.{category_of, is_negative, quanta_of}
 use Rattle.apfloat_model.specs.rounding.Grid.{IsOnGrid, IsAbove}
 use Rattle.apfloat_model.specs.rounding.Negation.{negated}
 use Rattle.apfloat_model.proofs.general.Choices.{not_zero, above_zero}
@@ -19,7 +17,6 @@ use Rattle.apfloat_model.proofs.rounding.FarMagnitudes.{power_on_grid}
 use Rattle.apfloat_model.proofs.order.Categories.{zero_only, number_only}
 use Rattle.apfloat_model.proofs.whole_numbers.SignedNumbers.{largest_some}
 use Rattle.round_to_odd.specs.Odd.{is_odd_below, IsMadeOdd, IsMadeOddNumber}
-use Rattle.apfloat_model.specs.order.Positive.{IsPositive}
 
 -- the magnitude of a nonzero number
 magnitude_is : (f : Format) (x y : Datum) → category_of x ≡ Normal
@@ -29,14 +26,6 @@ magnitude_is f (finite true n) y e d =
 magnitude_is f (finite false n) y e d = d
 magnitude_is f (infinite b) y e d = cc
 magnitude_is f (nan b s) y e d = cc
-
--- whether a positive value is the largest
-pub largest_is : (f : Format) (x : Datum) → IsPositive f x
-    → same_datum x (signed_like is_negative (negated f.nonfinite) (largest_datum f) x)
-    ≡ eqb (quanta_of x) (largest f)
-largest_is f x p =
-    subst (λ (v : Datum). same_datum v (signed_like is_negative (negated f.nonfinite) (largest_datum f) v)
-    ≡ eqb (quanta_of v) (largest f)) (sym p.is) refl
 
 next_point : (f : Format) (n : ℕ) → 3 ≤ f.precision → (a : ℕ) × IsAbove f.precision a (n + 1) 1
 next_point f n precise =
