@@ -1,16 +1,13 @@
 -- What a code means, in another format.
-use Rattle.std.proofs.Common.{◌≡◌, ℕ, ◌-◌, ◌*◌, ◌/◌, ◌^◌, ◌<◌, Bool, false, not, eqb, sym, refl, ap, ◌∙◌, subst, arith}
+use Rattle.std.proofs.Common.{◌≡◌, ℕ, ◌*◌, ◌^◌, ◌<◌, Bool, false, not, eqb, sym, refl, ap, ◌∙◌, subst, arith}
 use Rattle.std.specs.Bool.{MatchBool}
 use Rattle.std.proofs.lemmas.Bool.{eq-eqb, ne_eqb}
 use Rattle.std.proofs.lemmas.Nat.{pow_pos}
-use Rattle.apfloat_model.specs.declared.kinds.NonfiniteBehavior.{NonfiniteBehavior}
-use Rattle.apfloat_model.specs.declared.kinds.NonfiniteBehavior.TheVariants.{IEEE754, NanOnly, NanNegativeZero}
 use Rattle.apfloat_model.specs.declared.kinds.Round.{Round}
-use Rattle.apfloat_model.specs.arithmetic.Conversions.{IsConversion, IsConvertedNumber, IsKept, converted_nan}
+use Rattle.apfloat_model.specs.arithmetic.Conversions.{IsConversion, IsConvertedNumber, IsKept}
 use Rattle.apfloat_model.specs.arithmetic.Conversions.{loses_zero_sign}
-use Rattle.apfloat_model.specs.formats.Datum.{Datum, finite, nan}
+use Rattle.apfloat_model.specs.formats.Datum.{Datum, finite}
 use Rattle.apfloat_model.specs.formats.Format.{Format}
-use Rattle.apfloat_model.specs.formats.Nan.{nan_sign, qnan, quiet_significand}
 use Rattle.apfloat_model.specs.rounding.Rounding.{IsDelivered, ok_bits, zero_sign}
 use Rattle.small_formats.specs.Codes.{datum_of, is_negative_code, magnitude_of, point}
 use Rattle.small_formats.specs.Scales.{scale_format, scale_of}
@@ -48,17 +45,6 @@ number_converted c g mode code value status loses some p h l =
     (record { is_delivered = h; loses_is = l })
 
 -- ---- scales
-
-no_sign : (kind : NonfiniteBehavior) → nan_sign kind false ≡ false
-no_sign IEEE754 = refl
-no_sign NanOnly = refl
-no_sign NanNegativeZero = refl
-
-nan_is : (g : Format) → qnan g 0 ≡ converted_nan scale_format g false 0
-nan_is g =
-    let none : 0 * 2 ^ (g.precision - 1) / 2 ^ 0 ≡ 0 = omega arith in
-    ap (λ (b : Bool). nan b (quiet_significand g 0)) (sym (no_sign g.nonfinite))
-    ∙ ap (λ (s : ℕ). nan (nan_sign g.nonfinite false) (quiet_significand g s)) (sym none)
 
 pub scale_converted : (g : Format) (mode : Round) (code : ℕ) (value : Datum) (status : ℕ) (loses : Bool)
     → (code ≡ 255 → ⊥) → IsDelivered g mode false (2 ^ code * 2 ^ g.scale) (2 ^ 127) value status

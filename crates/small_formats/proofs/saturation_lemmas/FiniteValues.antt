@@ -3,7 +3,7 @@ use Rattle.std.proofs.Common.{◌≡◌, ◌∙◌, ℕ, Bool, true, false, eqb,
 use Rattle.apfloat_model.specs.declared.kinds.Category.{Category}
 use Rattle.apfloat_model.specs.declared.kinds.Category.TheVariants.{NaN, Infinity as InfiniteCategory, Zero, Normal}
 use Rattle.apfloat_model.specs.declared.kinds.Round.{Round}
-use Rattle.apfloat_model.specs.order.Classes.{category_of, is_finite, is_negative}
+use Rattle.apfloat_model.specs.order.Classes.{category_of, is_negative}
 use Rattle.apfloat_model.specs.arithmetic.Conversions.{IsConversion}
 use Rattle.apfloat_model.specs.formats.Datum.{Datum, finite, infinite, nan}
 use Rattle.apfloat_model.specs.formats.Format.{Format, largest}
@@ -62,15 +62,3 @@ class_of_category (infinite b) category e = ap class_in e
 class_of_category (finite b n) category e = number_class (eqb n 0) ∙ ap class_in e
 
 -- ---- the saturated value
-
-pub number_past : (g : Format) (x rounded : Datum) → class_of x ≡ Number → is_finite rounded ≡ false
-    → finite (is_negative x) (largest g) ≡ saturated g x rounded
-number_past g (finite b n) rounded e past = rw past refl
-number_past g (infinite b) rounded e past = cc
-number_past g (nan b s) rounded e past = cc
-
-pub number_within : (g : Format) (x rounded : Datum) → is_finite rounded ≡ true
-    → rounded ≡ saturated g x rounded
-number_within g (finite b n) rounded within = rw within refl
-number_within g (infinite b) rounded within = refl
-number_within g (nan b s) rounded within = refl

@@ -1,4 +1,4 @@
-use Rattle.std.proofs.Common.{◌≡◌, Bool, ℕ, ◌+◌, ◌-◌, ◌*◌, ◌^◌, ◌<◌, ◌∙◌, ap, eqb, leb, false, subst, arith}
+use Rattle.std.proofs.Common.{◌≡◌, Bool, ℕ, ◌+◌, ◌-◌, ◌*◌, ◌^◌, ◌∙◌, ap, eqb, leb, false, subst, arith}
 use Rattle.std.proofs.Math.Nat.{mul-pos}
 use Rattle.std.proofs.lemmas.Nat.{pow_pos}
 use Rattle.apfloat_model.specs.declared.kinds.Round.TheVariants.{NearestTiesToEven}
@@ -7,7 +7,7 @@ use Rattle.apfloat_model.specs.rounding.Flags.{bits_of}
 use Rattle.apfloat_model.proofs.general.Powers.{twice_power}
 use Rattle.apfloat_ieee.specs.Types.{format_of}
 use Rattle.small_formats.specs.blocks.Elements.{IsElement, format_of_element, max_exp}
-use Rattle.small_formats.specs.blocks.MxScales.{highest_power, last_middle}
+use Rattle.small_formats.specs.blocks.MxScales.{last_middle}
 use Rattle.small_formats.proofs.blocks_lemmas.LeastScales.{by_power, middle_pick, power_is, roomy}
 use Rattle.small_formats.proofs.blocks_lemmas.exact.Rooms.{short}
 use Rattle.small_formats.proofs.blocks.mx_scales.becomes_power.Goals as goal

@@ -1,9 +1,8 @@
-use Rattle.std.proofs.Common.{◌≡◌, ℕ, ◌+◌, ◌<◌, ◌≤◌, Bool, true, false, inl, inr, sym, ◌∙◌, subst, arith}
+use Rattle.std.proofs.Common.{◌+◌, ◌<◌, true, false, inr, sym, ◌∙◌, subst, arith}
 use Rattle.std.proofs.lemmas.Bool.{false≢true}
 use Rattle.apfloat_model.specs.order.Classes.{quanta_of}
 use Rattle.apfloat_ieee.specs.Types.{format_of}
 use Rattle.small_formats.specs.declared.blocks.mx_scales.ScaleRule.{ScaleRule}
-use Rattle.small_formats.specs.declared.blocks.mx_scales.ScaleRule.TheVariants.{Floor, Ceil, Even}
 use Rattle.small_formats.specs.blocks.MxScales.{IsScaleBy, clips, outgrows}
 use Rattle.small_formats.proofs.blocks_lemmas.LeastScales.{below_next, clips_bounds, every_rule, least_here, least_next}
 use Rattle.small_formats.proofs.blocks_lemmas.LeastScales.{outgrows_bounds}
