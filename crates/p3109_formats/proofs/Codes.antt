@@ -218,13 +218,6 @@ minus_fits c index law signed l =
     all_codes c law ∙ ap (λ (b : Bool). cond b (2 * unsigned_codes c) (unsigned_codes c)) signed in
     omega (arith, all, l, a.last_below)
 
-pub nan_fits : (c : Descriptor) → IsProjection c → nan_code c < 2 ^ c.bits
-nan_fits c law = rw (all_codes c law) (by_sign c.signed (unsigned_codes c) (four_codes c law))
-  where
-    by_sign : (signed : Bool) (codes : ℕ) → 4 ≤ codes → cond signed codes (codes - 1) < cond signed (2 * codes) codes
-    by_sign true codes l = omega (arith, l)
-    by_sign false codes l = omega (arith, l)
-
 no_sign : (c : Descriptor) (code : ℕ) → IsProjection c → code < 2 ^ c.bits → eqb code (nan_code c) ≡ false
     → magnitude_of c code ≡ 0 → code ≡ 0
 no_sign c code law l other none =
