@@ -1,28 +1,24 @@
 -- The order of data: by exponents and significands, and by the side of 0 that they are on.
-use Rattle.std.proofs.Common.{◌≡◌, ℕ, ◌+◌, ◌*◌, ◌^◌, ◌<◌, ◌≤◌, Bool, true, false, ℤ, pos, ◌<ℤ◌, zero, suc, Some, sym, refl, ap, ◌∙◌, subst, arith}
-use Rattle.std.specs.Prelude.{neg_ℤ}
-use Rattle.std.specs.Bool.{Decides}
-use Rattle.std.specs.declared.cmp.Ordering.{Ordering}
+use Rattle.std.proofs.Common.{◌≡◌, ℕ, ◌+◌, ◌*◌, ◌^◌, ◌<◌, ◌≤◌, Bool, true, false, ℤ}
+use Rattle.std.proofs.Common.{pos, ◌<ℤ◌, zero, suc, Some, sym, refl, ap, ◌∙◌, subst, arith}
+use Rattle.std.proofs.lemmas.{Cmp.by_ranked, Int.ints, Nat.pow_pos}
+use Rattle.std.proofs.Math.Nat.{mul-lt-mul_of_pos_right, lt_of_mul-lt-mul_right, pow-le-pow_right, two-pow-succ}
+use Rattle.std.specs.{Prelude.neg_ℤ, Bool.Decides, declared.cmp.Ordering.Ordering}
 use Rattle.std.specs.declared.cmp.Ordering.TheVariants.{Less, Equal, Greater}
 use Rattle.std.specs.Ordering.{nat_cmp, int_cmp, ordering_then}
 use Rattle.std.specs.Cmp.{nat_cmp_is, int_cmp_is, ranks, int_ranks}
-use Rattle.std.proofs.lemmas.Cmp.{by_ranked}
-use Rattle.std.proofs.lemmas.Int.{ints}
-use Rattle.std.proofs.lemmas.Nat.{pow_pos}
-use Rattle.std.proofs.Math.Nat.{mul-lt-mul_of_pos_right, lt_of_mul-lt-mul_right, pow-le-pow_right, two-pow-succ}
-use Rattle.apfloat_model.proofs.general.Powers.{two_pos}
-use Rattle.apfloat_model.proofs.general.Choices.{off_by}
+use Rattle.apfloat_model.proofs.general.{Powers.two_pos, Choices.off_by}
 use Rattle.apfloat_model.proofs.order.Categories.{same_is, same_of}
-use Rattle.apfloat_model.specs.arithmetic.Exact.{signed}
-use Rattle.apfloat_model.specs.declared.kinds.Category.{Category}
+use Rattle.apfloat_model.specs.{arithmetic.Exact.signed, declared.kinds.Category.Category}
 use Rattle.apfloat_model.specs.declared.kinds.Category.TheVariants.{Infinity, NaN, Normal, Zero}
 use Rattle.apfloat_model.specs.formats.Datum.{Datum, finite, infinite, nan}
 use Rattle.apfloat_model.specs.order.Classes.{is_nan, same_datum}
 use Rattle.apfloat_model.specs.order.Order.{number, compared, compared_magnitudes}
-use Rattle.apfloat_rounding.specs.declared.shape.Shape.{Shape}
-use Rattle.apfloat_rounding.specs.declared.unpacked.Unpacked.{Unpacked}
-use Rattle.apfloat_rounding.specs.Stored.{IsNormal, IsNormalAt, IsStored, IsStoredBy, datum_at, datum_by, quanta_at, quanta_of, unpacked_of}
-use Rattle.apfloat_rounding.proofs.StoredBack.{IsFull, top_of, full_low, full_high, normal_full, quanta_some, comes_back}
+use Rattle.apfloat_rounding.specs.declared.{shape.Shape.Shape, unpacked.Unpacked.Unpacked}
+use Rattle.apfloat_rounding.specs.Stored.{IsNormal, IsNormalAt, IsStored, IsStoredBy, datum_at, datum_by, quanta_at}
+use Rattle.apfloat_rounding.specs.Stored.{quanta_of, unpacked_of}
+use Rattle.apfloat_rounding.proofs.StoredBack.{IsFull, top_of, full_low, full_high, normal_full, quanta_some}
+use Rattle.apfloat_rounding.proofs.StoredBack.{comes_back}
 use Rattle.apfloat_arithmetic.specs.Sides.{number_side, side}
 use Rattle.apfloat_arithmetic.proofs.SumCases.{datum_is}
 

@@ -1,20 +1,12 @@
 -- Totals of more digits than a format has, rounded to odd, which are delivered.
-use Rattle.std.proofs.Common.{◌≡◌, ℕ, ℤ, pos, ◌+◌, ◌*◌, ◌^◌, ◌<◌, ◌≤◌, ◌+ℤ◌}
-use Rattle.std.proofs.Common.{◌≤ℤ◌, Bool, refl, subst, arith}
-use Rattle.std.proofs.Math.Nat.{pow-le-pow_right}
-use Rattle.std.proofs.lemmas.Int.{ints}
-use Rattle.apfloat_model.specs.declared.kinds.Round.{Round}
-use Rattle.apfloat_model.specs.formats.Datum.{Datum}
-use Rattle.apfloat_model.specs.formats.Format.{Format}
+use Rattle.std.proofs.{Math.Nat.pow-le-pow_right, lemmas.Int.ints}
+use Rattle.std.proofs.Common.{◌≡◌, ℕ, ℤ, pos, ◌+◌, ◌*◌, ◌^◌, ◌<◌, ◌≤◌, ◌+ℤ◌, ◌≤ℤ◌, Bool, refl, subst, arith}
+use Rattle.apfloat_model.specs.{declared.kinds.Round.Round, formats.Datum.Datum, formats.Format.Format}
 use Rattle.apfloat_model.specs.arithmetic.Exact.{signed, magnitude, up, down, IsRounded}
-use Rattle.apfloat_model.specs.rounding.Bounds.{integer_bit_bound}
-use Rattle.apfloat_model.specs.rounding.RoundingToOdd.{IsRoundedToOdd}
+use Rattle.apfloat_model.specs.rounding.{Bounds.integer_bit_bound, RoundingToOdd.IsRoundedToOdd}
+use Rattle.apfloat_model.proofs.{general.Powers.two_pos, rounding.OddRoundings.to_odd_least}
 use Rattle.apfloat_words.specs.Totals.{counted, IsSignedToOdd}
-use Rattle.apfloat_model.proofs.general.Powers.{two_pos}
-use Rattle.apfloat_model.proofs.rounding.OddRoundings.{to_odd_least}
-use Rattle.apfloat_rounding.specs.declared.shape.Shape.{Shape}
-use Rattle.apfloat_rounding.specs.Shapes.{format_at}
-use Rattle.apfloat_rounding.specs.Stored.{IsNormalAt, quanta_at}
+use Rattle.apfloat_rounding.specs.{declared.shape.Shape.Shape, Shapes.format_at, Stored.IsNormalAt, Stored.quanta_at}
 use Rattle.apfloat_arithmetic.specs.NumberResults.{IsFusedTerm}
 use Rattle.apfloat_arithmetic.proofs.Additions.{odd_sum_read, scale_is}
 use Rattle.apfloat_arithmetic.proofs.WideTerms.{odd_fused_read, odd_in_quanta}

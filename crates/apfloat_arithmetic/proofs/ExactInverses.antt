@@ -1,25 +1,21 @@
 -- Exact inverses of stored numbers.
-use Rattle.std.proofs.Common.{refl, sym, ap, subst, ◌∙◌, ◌≡◌, ℕ, ◌+◌, ◌-◌, ◌*◌, ◌^◌, ◌<◌, ◌≤◌, ℤ, pos, ◌-ℤ◌, ◌≤ℤ◌, to_z, of_z, w32, Bool, arith}
-use Rattle.std.specs.Prelude.{neg_ℤ, unsigned_abs, Some, None}
+use Rattle.std.proofs.Common.{refl, sym, ap, subst, ◌∙◌, ◌≡◌, ℕ, ◌+◌, ◌-◌, ◌*◌, ◌^◌}
+use Rattle.std.proofs.Common.{◌<◌, ◌≤◌, ℤ, pos, ◌-ℤ◌, ◌≤ℤ◌, to_z, of_z, w32, Bool, arith}
 use Rattle.std.proofs.Math.Nat.{mul-le-mul_left, mul-le-mul_right, mul-lt-mul_of_pos_right, pow-le-pow_right, mul-pos}
-use Rattle.std.proofs.lemmas.Nat.{pow_pos, pow-add}
-use Rattle.std.proofs.lemmas.Int.{ints, by_lt_z, to_z-of_z}
-use borrow.Author.Differences.{fits_in}
-use Rattle.apfloat_model.specs.arithmetic.Exact.{up, down}
-use Rattle.apfloat_model.specs.formats.Format.{largest, greatest_significand}
-use Rattle.apfloat_model.specs.arithmetic.Exponents.{AreInverse, IsExactInverse}
-use Rattle.apfloat_model.specs.formats.Datum.{finite}
+use Rattle.std.proofs.lemmas.{Nat.pow_pos, Nat.pow-add, Int.ints, Int.by_lt_z, Int.to_z-of_z}
+use Rattle.std.specs.Prelude.{neg_ℤ, unsigned_abs, Some, None}
+use Rattle.apfloat_model.specs.arithmetic.{Exact.up, Exact.down, Exponents.AreInverse, Exponents.IsExactInverse}
+use Rattle.apfloat_model.specs.formats.{Format.largest, Format.greatest_significand, Datum.finite}
 use Rattle.apfloat_model.proofs.formats.Greatest.{greatest_fits, greatest_full}
 use Rattle.apfloat_model.proofs.general.Powers.{pow3, pow22, exponent_at_most, exponent_below, two_pos}
-use Rattle.apfloat_rounding.specs.declared.shape.Shape.{Shape}
-use Rattle.apfloat_rounding.specs.Shapes.{format_at}
+use Rattle.apfloat_rounding.specs.{declared.shape.Shape.Shape, Shapes.format_at}
 use Rattle.apfloat_rounding.specs.Stored.{IsNormalAt, IsQuantaAt, quanta_at}
-use Rattle.apfloat_rounding.proofs.ShapeExponents.{scale_is}
-use Rattle.apfloat_rounding.proofs.StoredNumbers.{whole_is, above_zero}
+use Rattle.apfloat_rounding.proofs.{ShapeExponents.scale_is, StoredNumbers.whole_is, StoredNumbers.above_zero}
 use Rattle.apfloat_arithmetic.specs.ExactInverseParts.{IsInvertibleAt}
 use Rattle.apfloat_arithmetic.proofs.ProductExponents.{normal_near}
 use Rattle.apfloat_arithmetic.proofs.PowerFactors.{factor_of_power, power_with_digits}
 use Rattle.apfloat_arithmetic.proofs.NumberClasses.{quanta_low_is, quanta_high_is}
+use borrow.Author.Differences.{fits_in}
 
 -- the exponent counted from the least one
 abbrev pub steps_of : Shape → ℤ → ℕ

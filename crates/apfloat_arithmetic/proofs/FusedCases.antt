@@ -1,14 +1,10 @@
 -- Fused sums with a product or an addend that is zero.
-use Rattle.std.proofs.Common.{◌≡◌, ℕ, ◌+ℤ◌, ◌*◌, ◌^◌, ◌<◌, pos, Bool, ap, subst, ◌∙◌, arith}
-use Rattle.std.proofs.Math.Nat.{mul-pos}
-use Rattle.std.proofs.lemmas.Nat.{pow_pos}
+use Rattle.std.proofs.Common.{◌≡◌, ℕ, ◌+ℤ◌, ◌*◌, ◌^◌, ◌<◌, pos, Bool, ap, subst, ◌∙◌}
+use Rattle.std.proofs.{Common.arith, Math.Nat.mul-pos, lemmas.Nat.pow_pos}
 use Rattle.apfloat_model.specs.declared.kinds.Round.{Round}
-use Rattle.apfloat_model.specs.formats.Datum.{Datum, finite}
-use Rattle.apfloat_model.specs.formats.Format.{Format}
-use Rattle.apfloat_model.specs.arithmetic.Exact.{product_sign, signed}
+use Rattle.apfloat_model.specs.formats.{Datum.Datum, Datum.finite, Format.Format}
+use Rattle.apfloat_model.specs.arithmetic.{Exact.product_sign, Exact.signed, Sums.zero_sum_sign, FusedSums.IsFusedSum}
 use Rattle.apfloat_model.specs.rounding.Rounding.{IsDelivered}
-use Rattle.apfloat_model.specs.arithmetic.Sums.{zero_sum_sign}
-use Rattle.apfloat_model.specs.arithmetic.FusedSums.{IsFusedSum}
 use Rattle.apfloat_model.proofs.arithmetic.Signs.{no_sign, and_zero, zero_and, rounded_signed}
 
 -- if the addend is zero, the exact sum is the product

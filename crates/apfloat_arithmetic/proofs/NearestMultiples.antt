@@ -1,19 +1,15 @@
 -- The nearest multiple of a divisor, and remainders in other units.
-use Rattle.std.proofs.Common.{◌≡◌, ℕ, Bool, true, false, not, cond, eqb, ◌+◌, ◌-◌, ◌*◌, ◌/◌, ◌%◌, ◌^◌, ◌<◌, ◌≤◌, sym, refl, ap, ◌∙◌, subst, ⊎_elim, arith, ℤ, pos, ◌+ℤ◌}
-use Rattle.std.proofs.Math.Bool.{beq}
-use Rattle.std.proofs.Math.Nat.{lt_of_mul-lt-mul_right, eq_of_mul-eq-mul_right, mod-lt, mod-add-div', mul-div-mul_right, div-one}
+use Rattle.std.proofs.Common.{◌≡◌, ℕ, Bool, true, false, not, cond, eqb, ◌+◌, ◌-◌, ◌*◌, ◌/◌, ◌%◌, ◌^◌, ◌<◌, ◌≤◌, sym}
+use Rattle.std.proofs.Common.{refl, ap, ◌∙◌, subst, ⊎_elim, arith, ℤ, pos, ◌+ℤ◌}
+use Rattle.std.proofs.Math.{Bool.beq, Nat.lt_of_mul-lt-mul_right}
+use Rattle.std.proofs.Math.Nat.{eq_of_mul-eq-mul_right, mod-lt, mod-add-div', mul-div-mul_right, div-one}
+use Rattle.std.proofs.lemmas.{Nat.pow-add, Nat.pow_pos, Int.ints}
 use Rattle.std.proofs.lemmas.Bool.{cases_lt, le-ltb, lt-ltb, ne_eqb, false≢true}
-use Rattle.std.proofs.lemmas.Nat.{pow-add, pow_pos}
-use Rattle.std.proofs.lemmas.Int.{ints}
-use Rattle.apfloat_model.specs.declared.kinds.NonfiniteBehavior.{NonfiniteBehavior}
-use Rattle.apfloat_model.specs.declared.kinds.Round.TheVariants.{NearestTiesToEven}
+use Rattle.apfloat_model.specs.declared.kinds.{NonfiniteBehavior.NonfiniteBehavior, Round.TheVariants.NearestTiesToEven}
 use Rattle.apfloat_model.specs.rounding.Rounding.{takes_above, signed_quanta}
-use Rattle.apfloat_model.specs.arithmetic.Remainders.{nearest_quotient, rest_of}
-use Rattle.apfloat_model.specs.arithmetic.Exact.{up, down}
+use Rattle.apfloat_model.specs.arithmetic.{Remainders.nearest_quotient, Remainders.rest_of, Exact.up, Exact.down}
 use Rattle.apfloat_model.proofs.rounding.Picks.{takes_less, takes_scaled}
-use Rattle.apfloat_model.proofs.general.Powers.{twice_power}
-use Rattle.apfloat_model.proofs.general.Scaled.{less_scaled}
-use Rattle.apfloat_model.proofs.general.Choices.{cond_same}
+use Rattle.apfloat_model.proofs.general.{Powers.twice_power, Scaled.less_scaled, Choices.cond_same}
 use Rattle.apfloat_arithmetic.proofs.WholeQuotients.{below_divisor}
 
 -- whether the multiple above is the nearest

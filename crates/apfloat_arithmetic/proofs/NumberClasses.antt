@@ -1,16 +1,11 @@
 -- How a number compares with the smallest one whose significand has all digits.
-use Rattle.std.proofs.Common.{refl, sym, subst, ◌≡◌, ℕ, ◌-◌, ◌*◌, ◌^◌, ◌<◌, ◌≤◌, ℤ, ◌-ℤ◌, ◌<ℤ◌, ◌≤ℤ◌, Bool, true, false, not, T, arith}
-use Rattle.std.specs.Prelude.{unsigned_abs, ltb}
-use Rattle.std.specs.Int.Signed.{lt_z, lt_z_yes, lt_z_no}
-use Rattle.std.proofs.Math.Nat.{mul-le-mul_left}
-use Rattle.std.proofs.lemmas.Nat.{pow_pos}
-use Rattle.std.proofs.lemmas.Bool.{lt-ltb, le-ltb}
-use Rattle.std.proofs.lemmas.Int.{ints}
-use Rattle.apfloat_model.specs.formats.Datum.{finite}
+use Rattle.std.proofs.Common.{refl, sym, subst, ◌≡◌, ℕ, ◌-◌, ◌*◌, ◌^◌, ◌<◌, ◌≤◌, ℤ, ◌-ℤ◌, ◌<ℤ◌, ◌≤ℤ◌, Bool, true, false}
+use Rattle.std.proofs.{Common.not, Common.T, Common.arith, Math.Nat.mul-le-mul_left}
+use Rattle.std.proofs.lemmas.{Nat.pow_pos, Bool.lt-ltb, Bool.le-ltb, Int.ints}
+use Rattle.std.specs.{Prelude.unsigned_abs, Prelude.ltb, Int.Signed.lt_z, Int.Signed.lt_z_yes, Int.Signed.lt_z_no}
+use Rattle.apfloat_model.specs.formats.{Datum.finite, Format.Format, Format.smallest_normalized}
 use Rattle.apfloat_model.specs.order.Classes.{is_denormal}
-use Rattle.apfloat_model.specs.formats.Format.{Format, smallest_normalized}
-use Rattle.apfloat_rounding.specs.declared.shape.Shape.{Shape}
-use Rattle.apfloat_rounding.specs.Stored.{IsNormalAt, quanta_at}
+use Rattle.apfloat_rounding.specs.{declared.shape.Shape.Shape, Stored.IsNormalAt, Stored.quanta_at}
 use Rattle.apfloat_rounding.proofs.StoredNumbers.{quanta_low_below, quanta_high}
 
 -- a test that holds exactly if a is less than b has the result of the comparison

@@ -1,7 +1,7 @@
 -- A factor of a power of two is a power of two.
-use Rattle.std.proofs.Common.{refl, sym, ap, ◌∙◌, ◌≡◌, ℕ, zero, suc, ◌+◌, ◌-◌, ◌*◌, ◌/◌, ◌%◌, ◌^◌, ◌<◌, ◌≤◌, ◌⊎◌, inl, inr, ⊎_elim, arith}
-use Rattle.std.proofs.Math.Nat.{div-add-mod', mod-lt, pow-le-pow_right}
-use Rattle.std.proofs.lemmas.Bool.{cases_lt}
+use Rattle.std.proofs.Common.{refl, sym, ap, ◌∙◌, ◌≡◌, ℕ, zero, suc, ◌+◌, ◌-◌, ◌*◌, ◌/◌, ◌%◌, ◌^◌, ◌<◌, ◌≤◌, ◌⊎◌, inl}
+use Rattle.std.proofs.Common.{inr, ⊎_elim, arith}
+use Rattle.std.proofs.{Math.Nat.div-add-mod', Math.Nat.mod-lt, Math.Nat.pow-le-pow_right, lemmas.Bool.cases_lt}
 use Rattle.apfloat_model.proofs.general.Powers.{twice_power, two_pos}
 
 pub record IsPowerFactor (n : ℕ) : Type 0 where

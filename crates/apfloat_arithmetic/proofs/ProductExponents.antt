@@ -1,22 +1,16 @@
 -- Products and quotients of stored numbers: their exponents, counted from the quantum's.
-use Rattle.std.proofs.Common.{◌≡◌, ℕ, ◌+◌, ◌-◌, ◌*◌, ◌^◌, ◌<◌, ◌≤◌, sym, ap, ◌∙◌, arith}
-use Rattle.std.proofs.Common.{ℤ, pos, ◌+ℤ◌, ◌-ℤ◌, ◌≤ℤ◌, to_z, of_z, w32}
-use Rattle.std.proofs.Math.Nat.{eq_of_mul-eq-mul_right}
+use Rattle.std.proofs.Common.{◌≡◌, ℕ, ◌+◌, ◌-◌, ◌*◌, ◌^◌, ◌<◌, ◌≤◌, sym, ap}
+use Rattle.std.proofs.Common.{◌∙◌, arith, ℤ, pos, ◌+ℤ◌, ◌-ℤ◌, ◌≤ℤ◌, to_z, of_z, w32}
+use Rattle.std.proofs.{Math.Nat.eq_of_mul-eq-mul_right, lemmas.Int.ints, lemmas.Nat.pow_pos, lemmas.Nat.pow-add}
 use Rattle.std.specs.Prelude.{neg_ℤ}
-use Rattle.std.proofs.lemmas.Int.{ints}
-use Rattle.std.proofs.lemmas.Nat.{pow_pos, pow-add}
-use Rattle.apfloat_model.specs.declared.loss.Loss.{Loss}
-use Rattle.apfloat_model.specs.rounding.Bounds.{IsWithin, number_bound}
-use Rattle.apfloat_model.specs.rounding.Standing.{StandsFor, up, down}
-use Rattle.apfloat_model.specs.rounding.RoundingToOdd.{IsRoundedToOdd}
+use Rattle.apfloat_model.specs.{declared.loss.Loss.Loss, rounding.Bounds.IsWithin, rounding.Bounds.number_bound}
+use Rattle.apfloat_model.specs.rounding.{Standing.StandsFor, Standing.up, Standing.down, RoundingToOdd.IsRoundedToOdd}
 use Rattle.apfloat_model.proofs.general.Powers.{pow3}
-use Rattle.apfloat_words.proofs.Totals.{no_down}
 use Rattle.apfloat_model.proofs.arithmetic.Fractions.{product_stands, quotient_carries}
 use Rattle.apfloat_model.proofs.rounding.KeptDigits.{stands_cancel, stands_times}
 use Rattle.apfloat_model.proofs.rounding.OddRoundings.{to_odd_times, to_odd_cancel}
-use Rattle.apfloat_rounding.specs.declared.shape.Shape.{Shape}
-use Rattle.apfloat_rounding.specs.Shapes.{format_at}
-use Rattle.apfloat_rounding.specs.Stored.{IsNormalAt, quanta_at}
+use Rattle.apfloat_words.proofs.Totals.{no_down}
+use Rattle.apfloat_rounding.specs.{declared.shape.Shape.Shape, Shapes.format_at, Stored.IsNormalAt, Stored.quanta_at}
 use Rattle.apfloat_rounding.proofs.ShapeExponents.{scale_is, exponent_word}
 use Rattle.apfloat_arithmetic.specs.NumberResults.{CountsSquares}
 

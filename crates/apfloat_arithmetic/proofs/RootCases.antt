@@ -2,9 +2,7 @@
 use Rattle.std.proofs.Common.{◌≡◌, ℕ, ◌*◌, ◌^◌, ◌<◌, Bool, true, false, arith}
 use Rattle.std.proofs.lemmas.Bool.{ne_eqb}
 use Rattle.apfloat_model.specs.declared.kinds.Round.{Round}
-use Rattle.apfloat_model.specs.formats.Format.{Format}
-use Rattle.apfloat_model.specs.formats.Datum.{Datum, finite}
-use Rattle.apfloat_model.specs.formats.Nan.{IsInvalid}
+use Rattle.apfloat_model.specs.formats.{Format.Format, Datum.Datum, Datum.finite, Nan.IsInvalid}
 use Rattle.apfloat_model.specs.arithmetic.Roots.{IsDeliveredRoot, IsRoot}
 
 -- the root of a positive number is rounded

@@ -1,17 +1,13 @@
 -- A significand and a loss that represent a square root determine how it is rounded.
 use Rattle.std.proofs.Common.{◌≡◌, ℕ, ◌+◌, ◌*◌, ◌<◌, false, ap, subst, arith}
 use Rattle.std.proofs.Math.Nat.{mul-lt-mul_of_pos_right, mul-pos}
-use Rattle.apfloat_model.specs.declared.kinds.Round.{Round}
-use Rattle.apfloat_model.specs.declared.loss.Loss.{Loss}
+use Rattle.apfloat_model.specs.declared.{kinds.Round.Round, loss.Loss.Loss}
 use Rattle.apfloat_model.specs.declared.loss.Loss.TheVariants.{ExactlyZero, LessThanHalf, ExactlyHalf, MoreThanHalf}
-use Rattle.apfloat_model.specs.formats.Format.{Format}
-use Rattle.apfloat_model.specs.formats.Datum.{Datum}
-use Rattle.apfloat_model.specs.rounding.Rounding.{IsDelivered}
-use Rattle.apfloat_model.specs.rounding.Standing.{StandsFor}
-use Rattle.apfloat_words.specs.RootStanding.{RootStandsFor}
-use Rattle.apfloat_model.specs.arithmetic.Roots.{IsDeliveredRoot}
+use Rattle.apfloat_model.specs.{formats.Format.Format, formats.Datum.Datum, rounding.Rounding.IsDelivered}
+use Rattle.apfloat_model.specs.{rounding.Standing.StandsFor, arithmetic.Roots.IsDeliveredRoot}
 use Rattle.apfloat_model.proofs.arithmetic.RootSides.{AgreesWithRoot, coarser, agreeing}
 use Rattle.apfloat_model.proofs.arithmetic.RootDeliveries.{root_delivered}
+use Rattle.apfloat_words.specs.RootStanding.{RootStandsFor}
 
 -- The unit is over / under quanta, and the root of `square` quanta is that of `radicand` units.
 module _ (square radicand over under amount parts : ℕ) (some : 0 < over)

@@ -2,24 +2,15 @@
 use Rattle.std.proofs.Common.{◌≡◌, ◌⊎◌, inl, inr, ℕ, Bool, true, false, eqb, sym, subst, refl}
 use Rattle.std.specs.Bool.{MatchBool}
 use Rattle.std.specs.Prelude.{if◌then◌else◌}
-use Rattle.apfloat_model.specs.declared.kinds.Round.{Round}
-use Rattle.apfloat_model.specs.declared.kinds.Category.{Category}
+use Rattle.apfloat_model.specs.declared.kinds.{Round.Round, Category.Category}
 use Rattle.apfloat_model.specs.declared.kinds.Category.TheVariants.{Infinity, NaN, Normal}
-use Rattle.apfloat_model.specs.formats.Format.{Format}
-use Rattle.apfloat_model.specs.formats.Datum.{Datum, finite, infinite, nan}
-use Rattle.apfloat_model.specs.rounding.Outcome.{exactly, invalid, Yields}
-use Rattle.apfloat_model.specs.rounding.Answer.{IsAnswer}
-use Rattle.apfloat_model.specs.rounding.Rounding.{ok_bits}
-use Rattle.apfloat_model.specs.arithmetic.Exact.{product_sign}
-use Rattle.apfloat_model.specs.arithmetic.Products.{IsProduct}
-use Rattle.apfloat_model.specs.arithmetic.Sums.{IsSum}
-use Rattle.apfloat_model.specs.arithmetic.FusedSums.{IsSumWithProduct}
+use Rattle.apfloat_model.specs.formats.{Format.Format, Datum.Datum, Datum.finite, Datum.infinite, Datum.nan}
+use Rattle.apfloat_model.specs.rounding.{Outcome.exactly, Outcome.invalid, Outcome.Yields, Answer.IsAnswer}
+use Rattle.apfloat_model.specs.{rounding.Rounding.ok_bits, arithmetic.Exact.product_sign, arithmetic.Products.IsProduct}
+use Rattle.apfloat_model.specs.{arithmetic.Sums.IsSum, arithmetic.FusedSums.IsSumWithProduct, order.Classes.is_finite}
 use Rattle.apfloat_model.proofs.SpecialSums.{special_sum}
-use Rattle.apfloat_model.specs.order.Classes.{is_finite}
-use Rattle.apfloat_rounding.specs.declared.shape.Shape.{Shape}
-use Rattle.apfloat_rounding.specs.declared.unpacked.Unpacked.{Unpacked}
-use Rattle.apfloat_rounding.specs.Shapes.{format_at}
-use Rattle.apfloat_rounding.specs.Stored.{datum_at, datum_by}
+use Rattle.apfloat_rounding.specs.declared.{shape.Shape.Shape, unpacked.Unpacked.Unpacked}
+use Rattle.apfloat_rounding.specs.{Shapes.format_at, Stored.datum_at, Stored.datum_by}
 
 -- an infinity or a NaN is not finite
 not_finite : (shape : Shape) (x : Unpacked) → (x.category ≡ Infinity) ⊎ (x.category ≡ NaN)

@@ -1,18 +1,15 @@
 -- Remainders of operands that are not both nonzero numbers, by their categories.
-use Rattle.std.proofs.Common.{◌≡◌, ◌⊎◌, inl, inr, ℕ, Bool, eqb, if◌then◌else◌, count_ones, ◌*◌, ◌/◌, ◌<◌, refl, sym, ap, subst, arith}
-use Rattle.std.proofs.Math.Nat.{zero-div}
-use Rattle.std.proofs.lemmas.Bool.{ne_eqb}
+use Rattle.std.proofs.Common.{◌≡◌, ◌⊎◌, inl, inr, ℕ, Bool, eqb, if◌then◌else◌, count_ones, ◌*◌}
+use Rattle.std.proofs.Common.{◌/◌, ◌<◌, refl, sym, ap, subst, arith}
+use Rattle.std.proofs.{Math.Nat.zero-div, lemmas.Bool.ne_eqb}
 use Rattle.apfloat_model.specs.declared.kinds.Category.{Category}
 use Rattle.apfloat_model.specs.declared.kinds.Category.TheVariants.{Infinity, NaN, Normal, Zero}
 use Rattle.apfloat_model.specs.declared.kinds.NonfiniteBehavior.{NonfiniteBehavior}
 use Rattle.apfloat_model.specs.formats.Datum.{Datum, finite}
-use Rattle.apfloat_model.specs.rounding.Answer.{IsAnswer}
-use Rattle.apfloat_model.specs.rounding.Rounding.{ok_bits, zero_sign}
+use Rattle.apfloat_model.specs.rounding.{Answer.IsAnswer, Rounding.ok_bits, Rounding.zero_sign}
 use Rattle.apfloat_model.specs.arithmetic.Remainders.{IsRemainder, ones_of_quotient, rest_of}
 use Rattle.apfloat_model.proofs.general.Choices.{zero_if}
-use Rattle.apfloat_rounding.specs.declared.shape.Shape.{Shape}
-use Rattle.apfloat_rounding.specs.declared.unpacked.Unpacked.{Unpacked}
-use Rattle.apfloat_rounding.specs.Shapes.{format_at}
+use Rattle.apfloat_rounding.specs.{declared.shape.Shape.Shape, declared.unpacked.Unpacked.Unpacked, Shapes.format_at}
 use Rattle.apfloat_rounding.specs.Stored.{IsStoredBy, datum_by, quanta_at}
 use Rattle.apfloat_rounding.proofs.StoredBack.{quanta_some}
 

@@ -1,13 +1,10 @@
 -- The number of ones of a quotient is at most that of its digits, which the exponents of the operands bound.
-use Rattle.std.proofs.Common.{◌≡◌, ℕ, zero, suc, false, eqb, ◌+◌, ◌-◌, ◌*◌, ◌/◌, ◌^◌, ◌<◌, ◌≤◌, count_ones, ap, ◌∙◌, ⊎_elim, arith, lit<, ℤ, pos, ◌+ℤ◌, ◌-ℤ◌, ◌≤ℤ◌}
-use Rattle.std.proofs.lemmas.Int.{ints}
-use Rattle.std.proofs.lemmas.Bool.{ne_eqb, cases_lt}
-use Rattle.std.proofs.lemmas.Nat.{pow-add, ones-le}
+use Rattle.std.proofs.Common.{◌≡◌, ℕ, zero, suc, false, eqb, ◌+◌, ◌-◌, ◌*◌, ◌/◌, ◌^◌, ◌<◌, ◌≤◌, count_ones, ap, ◌∙◌}
+use Rattle.std.proofs.Common.{⊎_elim, arith, lit<, ℤ, pos, ◌+ℤ◌, ◌-ℤ◌, ◌≤ℤ◌}
+use Rattle.std.proofs.lemmas.{Int.ints, Bool.ne_eqb, Bool.cases_lt, Nat.pow-add, Nat.ones-le}
 use Rattle.std.proofs.Math.Nat.{mul-le-mul_left, pow-le-pow_right, div-lt_iff_lt-mul, div-eq_of_lt}
-use Rattle.apfloat_model.specs.formats.Format.{Format}
-use Rattle.apfloat_model.specs.formats.Datum.{Datum, finite, infinite, nan}
-use Rattle.apfloat_model.specs.arithmetic.Exponents.{IsIlogb, IsLogarithm}
-use Rattle.apfloat_model.specs.arithmetic.Remainders.{ones_of_quotient}
+use Rattle.apfloat_model.specs.formats.{Format.Format, Datum.Datum, Datum.finite, Datum.infinite, Datum.nan}
+use Rattle.apfloat_model.specs.arithmetic.{Exponents.IsIlogb, Exponents.IsLogarithm, Remainders.ones_of_quotient}
 use Rattle.apfloat_model.proofs.general.Powers.{two_pos}
 
 -- a quotient below 1 has no ones

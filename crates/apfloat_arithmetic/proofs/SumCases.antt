@@ -1,21 +1,13 @@
 -- Sums and differences of stored values, by the categories of their operands.
 use Rattle.std.proofs.Common.{◌≡◌, ℕ, ◌<◌, Bool, false, ap, subst, rules}
-use Rattle.apfloat_model.specs.declared.kinds.Category.{Category}
-use Rattle.apfloat_model.specs.declared.kinds.Category.TheVariants.{Normal}
-use Rattle.apfloat_model.specs.declared.kinds.Round.{Round}
-use Rattle.apfloat_model.specs.declared.kinds.NonfiniteBehavior.{NonfiniteBehavior}
+use Rattle.apfloat_model.specs.declared.kinds.Category.{Category, TheVariants.Normal}
+use Rattle.apfloat_model.specs.declared.kinds.{Round.Round, NonfiniteBehavior.NonfiniteBehavior}
 use Rattle.apfloat_model.specs.formats.Datum.{Datum, finite, infinite, nan}
-use Rattle.apfloat_model.specs.formats.Format.{Format}
-use Rattle.apfloat_model.specs.formats.Members.{IsFiniteOf, IsMember}
-use Rattle.apfloat_model.specs.formats.Nan.{is_signaling_nan}
-use Rattle.apfloat_model.specs.rounding.Negation.{negated}
-use Rattle.apfloat_model.specs.arithmetic.Sums.{IsSum, IsDifference}
-use Rattle.apfloat_rounding.specs.declared.shape.Shape.{Shape}
-use Rattle.apfloat_rounding.specs.declared.unpacked.Unpacked.{Unpacked}
-use Rattle.apfloat_rounding.specs.Shapes.{format_at}
+use Rattle.apfloat_model.specs.formats.{Format.Format, Members.IsFiniteOf, Members.IsMember, Nan.is_signaling_nan}
+use Rattle.apfloat_model.specs.{rounding.Negation.negated, arithmetic.Sums.IsSum, arithmetic.Sums.IsDifference}
+use Rattle.apfloat_rounding.specs.{declared.shape.Shape.Shape, declared.unpacked.Unpacked.Unpacked, Shapes.format_at}
 use Rattle.apfloat_rounding.specs.Stored.{IsNormalAt, IsStored, IsStoredBy, datum_at, datum_by, quanta_at}
-use Rattle.apfloat_rounding.proofs.StoredBack.{quanta_some}
-use Rattle.apfloat_rounding.proofs.StoredMembers.{member_is}
+use Rattle.apfloat_rounding.proofs.{StoredBack.quanta_some, StoredMembers.member_is}
 use Rattle.apfloat_arithmetic.specs.Subtrahends.{added}
 
 -- a stored nonzero number belongs to the format, and its number of quanta is above 0

@@ -1,11 +1,13 @@
 -- An integral quotient, computed by subtracting one multiple of the divisor at a time.
-use Rattle.std.proofs.Common.{◌≡◌, ℕ, false, eqb, ◌+◌, ◌-◌, ◌*◌, ◌/◌, ◌%◌, ◌^◌, ◌<◌, ◌≤◌, count_ones, sym, ap, ◌∙◌, subst, arith, lit<}
-use lib.Count.{ones, ones_in}
-use Rattle.std.proofs.Math.Nat.{mul-le-mul_right, mul-le-mul_left, mul-lt-mul_of_pos_right, pow-le-pow_right, div-lt_iff_lt-mul, mod-eq_of_lt, div-eq_of_lt, mul-pos, add-mul-div_right, add-mul-mod_self_right}
+use Rattle.std.proofs.Common.{◌≡◌, ℕ, false, eqb, ◌+◌, ◌-◌, ◌*◌, ◌/◌, ◌%◌, ◌^◌, ◌<◌, ◌≤◌, count_ones, sym, ap, ◌∙◌}
+use Rattle.std.proofs.{Common.subst, Common.arith, Common.lit<, Math.Nat.mul-le-mul_right}
+use Rattle.std.proofs.Math.Nat.{mul-le-mul_left, mul-lt-mul_of_pos_right, pow-le-pow_right, div-lt_iff_lt-mul}
+use Rattle.std.proofs.Math.Nat.{mod-eq_of_lt, div-eq_of_lt, mul-pos, add-mul-div_right, add-mul-mod_self_right}
 use Rattle.std.proofs.lemmas.Nat.{pow-add, pow_pos, ones_cat, ones-le}
 use Rattle.apfloat_arithmetic.specs.declared.remainders.Magnitude.{Magnitude}
 use Rattle.apfloat_arithmetic.specs.Magnitudes.{AreDivided, units_of}
 use Rattle.apfloat_model.proofs.general.Powers.{twice_power, two_pos, twice_half}
+use lib.Count.{ones, ones_in}
 
 -- an iteration: r minus 2 ^ k times the divisor d is s, which is below that multiple
 pub record IsTurn (d r s k : ℕ) : Type 0 where

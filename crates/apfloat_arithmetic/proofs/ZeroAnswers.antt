@@ -1,20 +1,13 @@
 -- Products and quotients of numbers, zeros and infinities.
 use Rattle.std.proofs.Common.{sym, subst, ◌≡◌, ℕ, ◌*◌, ◌^◌, ◌<◌, Bool, false, eqb, arith}
-use Rattle.std.proofs.lemmas.Nat.{pow_pos}
-use Rattle.std.proofs.lemmas.Bool.{ne_eqb}
+use Rattle.std.proofs.lemmas.{Nat.pow_pos, Bool.ne_eqb}
 use Rattle.apfloat_model.specs.declared.kinds.Round.{Round}
 use Rattle.apfloat_model.specs.declared.kinds.Category.TheVariants.{Infinity, Normal, Zero}
-use Rattle.apfloat_model.specs.formats.Format.{Format}
-use Rattle.apfloat_model.specs.formats.Datum.{Datum, finite, infinite}
-use Rattle.apfloat_model.specs.rounding.Answer.{IsAnswer}
-use Rattle.apfloat_model.specs.formats.Constants.{infinity_of}
-use Rattle.apfloat_model.specs.arithmetic.Exact.{product_sign}
-use Rattle.apfloat_model.specs.arithmetic.Products.{IsProduct}
-use Rattle.apfloat_model.specs.arithmetic.Quotients.{IsQuotient, div_by_zero_bit}
-use Rattle.apfloat_model.specs.rounding.Rounding.{IsDelivered, ok_bits, signed_quanta}
-use Rattle.apfloat_rounding.specs.declared.shape.Shape.{Shape}
-use Rattle.apfloat_rounding.specs.declared.unpacked.Unpacked.{Unpacked}
-use Rattle.apfloat_rounding.specs.Shapes.{format_at}
+use Rattle.apfloat_model.specs.formats.{Format.Format, Datum.Datum, Datum.finite, Datum.infinite, Constants.infinity_of}
+use Rattle.apfloat_model.specs.rounding.{Answer.IsAnswer, Rounding.IsDelivered, Rounding.ok_bits}
+use Rattle.apfloat_model.specs.{rounding.Rounding.signed_quanta, arithmetic.Exact.product_sign}
+use Rattle.apfloat_model.specs.arithmetic.{Products.IsProduct, Quotients.IsQuotient, Quotients.div_by_zero_bit}
+use Rattle.apfloat_rounding.specs.{declared.shape.Shape.Shape, declared.unpacked.Unpacked.Unpacked, Shapes.format_at}
 use Rattle.apfloat_rounding.specs.Stored.{IsStored, datum_at, quanta_of}
 use Rattle.apfloat_arithmetic.proofs.SumCases.{datum_is, number_stored}
 

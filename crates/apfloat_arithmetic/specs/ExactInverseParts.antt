@@ -1,7 +1,6 @@
 -- Numbers with an exact inverse, in terms of their stored parts.
 use Rattle.std.specs.Prelude.{◌≡◌, ℕ, ◌-◌, ◌^◌, ℤ, neg_ℤ, ◌≤ℤ◌}
-use Rattle.apfloat_rounding.specs.declared.shape.Shape.{Shape}
-use Rattle.apfloat_rounding.specs.declared.unpacked.Unpacked.{Unpacked}
+use Rattle.apfloat_rounding.specs.declared.{shape.Shape.Shape, unpacked.Unpacked.Unpacked}
 
 -- 2 ^ exponent, if neither it nor 2 ^ -exponent is denormal or too large
 pub record IsInvertibleAt (s : Shape) (significand : ℕ) (exponent : ℤ) : Type 0 where

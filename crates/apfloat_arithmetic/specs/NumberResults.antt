@@ -1,15 +1,10 @@
 -- Operations on nonzero numbers: their results, rounded once, and the terms of a fused sum.
 use Rattle.std.specs.Prelude.{◌≡◌, ℕ, ◌-◌, ◌*◌, ◌^◌, ◌<◌, ◌≤◌, ℤ, pos, neg_ℤ, ◌≤ℤ◌, ◌+ℤ◌, ◌-ℤ◌, Bool}
-use Rattle.apfloat_model.specs.declared.kinds.Round.{Round}
-use Rattle.apfloat_model.specs.formats.Datum.{Datum}
-use Rattle.apfloat_model.specs.arithmetic.Exact.{product_sign, signed, up, IsRounded}
-use Rattle.apfloat_model.specs.arithmetic.Sums.{zero_sum_sign}
-use Rattle.apfloat_model.specs.rounding.Bounds.{IsWithin, integer_bit_bound}
-use Rattle.apfloat_model.specs.rounding.Rounding.{IsDelivered}
-use Rattle.apfloat_rounding.specs.declared.shape.Shape.{Shape}
-use Rattle.apfloat_rounding.specs.declared.unpacked.Unpacked.{Unpacked}
-use Rattle.apfloat_rounding.specs.Shapes.{format_at}
-use Rattle.apfloat_rounding.specs.Stored.{IsNormal, quanta_of}
+use Rattle.apfloat_model.specs.{declared.kinds.Round.Round, formats.Datum.Datum, arithmetic.Exact.product_sign}
+use Rattle.apfloat_model.specs.arithmetic.{Exact.signed, Exact.up, Exact.IsRounded, Sums.zero_sum_sign}
+use Rattle.apfloat_model.specs.rounding.{Bounds.IsWithin, Bounds.integer_bit_bound, Rounding.IsDelivered}
+use Rattle.apfloat_rounding.specs.{Shapes.format_at, Stored.IsNormal, Stored.quanta_of}
+use Rattle.apfloat_rounding.specs.declared.{shape.Shape.Shape, unpacked.Unpacked.Unpacked}
 
 -- two nonzero numbers
 pub record AreNormal (s : Shape) (x y : Unpacked) : Type 0 where

@@ -1,21 +1,13 @@
 -- Operations with a special operand, and the result of each of them (IEEE 754-2019 6.1 to 6.3, 7.2, 7.3).
 use Rattle.std.specs.Prelude.{◌≡◌, ◌⊎◌, ℕ, ◌<◌, true}
 use Rattle.apfloat_model.specs.declared.kinds.Category.TheVariants.{Infinity, NaN, Normal}
-use Rattle.apfloat_model.specs.declared.kinds.Round.{Round}
-use Rattle.apfloat_model.specs.formats.Datum.{Datum}
-use Rattle.apfloat_model.specs.arithmetic.Sums.{IsSum}
-use Rattle.apfloat_model.specs.arithmetic.Products.{IsProduct}
-use Rattle.apfloat_model.specs.arithmetic.Quotients.{IsQuotient}
-use Rattle.apfloat_model.specs.arithmetic.FusedSums.{IsFusedSum}
-use Rattle.apfloat_model.specs.arithmetic.Roots.{IsRoot}
-use Rattle.apfloat_model.specs.arithmetic.Remainders.{IsRemainder}
-use Rattle.apfloat_rounding.specs.declared.shape.Shape.{Shape}
-use Rattle.apfloat_rounding.specs.declared.unpacked.Unpacked.{Unpacked}
-use Rattle.apfloat_rounding.specs.Shapes.{format_at}
-use Rattle.apfloat_rounding.specs.Stored.{IsStored, datum_at}
-use Rattle.apfloat_arithmetic.specs.declared.specials.Operation.{Operation}
-use Rattle.apfloat_arithmetic.specs.declared.specials.Operation.TheVariants.{Sum, Product, Quotient, FusedSum, Root}
-use Rattle.apfloat_arithmetic.specs.declared.specials.Operation.TheVariants.{Remainder}
+use Rattle.apfloat_model.specs.{declared.kinds.Round.Round, formats.Datum.Datum}
+use Rattle.apfloat_model.specs.arithmetic.{Sums.IsSum, Products.IsProduct, Quotients.IsQuotient, FusedSums.IsFusedSum}
+use Rattle.apfloat_model.specs.arithmetic.{Roots.IsRoot, Remainders.IsRemainder}
+use Rattle.apfloat_rounding.specs.declared.{shape.Shape.Shape, unpacked.Unpacked.Unpacked}
+use Rattle.apfloat_rounding.specs.{Shapes.format_at, Stored.IsStored, Stored.datum_at}
+use Rattle.apfloat_arithmetic.specs.declared.specials.Operation.{Operation, TheVariants.Sum, TheVariants.Product}
+use Rattle.apfloat_arithmetic.specs.declared.specials.Operation.TheVariants.{Quotient, FusedSum, Root, Remainder}
 
 -- two stored values, not both nonzero numbers
 pub record AreSpecial (s : Shape) (x y : Unpacked) : Type 0 where

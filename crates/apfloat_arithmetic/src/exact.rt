@@ -1,15 +1,11 @@
 //! Results that need no rounding: zeros, infinities and poles.
 
 ghost use Rattle.std.specs.Prelude.{◌≡◌, ℕ, ◌<◌};
-ghost use Rattle.apfloat_model.specs.declared.kinds.NonfiniteBehavior.TheVariants.{IEEE754};
-ghost use Rattle.apfloat_model.specs.declared.kinds.Round.{Round};
-ghost use Rattle.apfloat_model.specs.formats.Constants.{infinity_of};
-ghost use Rattle.apfloat_model.specs.formats.Datum.{infinite};
-ghost use Rattle.apfloat_model.specs.rounding.Answer.{IsAnswer};
+ghost use Rattle.apfloat_model.specs.declared.kinds.{NonfiniteBehavior.TheVariants.IEEE754, Round.Round};
+ghost use Rattle.apfloat_model.specs.{formats.Constants.infinity_of, formats.Datum.infinite, rounding.Answer.IsAnswer};
 ghost use Rattle.apfloat_model.specs.rounding.Rounding.{ok_bits, signed_quanta, IsDelivered};
 ghost use Rattle.apfloat_model.specs.arithmetic.Quotients.{div_by_zero_bit};
-ghost use Rattle.apfloat_rounding.specs.Shapes.{format_at};
-ghost use Rattle.apfloat_rounding.specs.Stored.{IsStored, GivesAt};
+ghost use Rattle.apfloat_rounding.specs.{Shapes.format_at, Stored.IsStored, Stored.GivesAt};
 
 use apfloat_model::{Status, StatusAnd};
 use apfloat_rounding::shape::Shape;

@@ -3,8 +3,7 @@
 ghost use Rattle.std.specs.Prelude.{◌≡◌, Some, true, false};
 ghost use Rattle.std.specs.Option.{option_map};
 ghost use Rattle.apfloat_model.specs.arithmetic.Exponents.{IsExactInverse};
-ghost use Rattle.apfloat_rounding.specs.Shapes.{format_at};
-ghost use Rattle.apfloat_rounding.specs.Stored.{IsStored, IsNormal, datum_at};
+ghost use Rattle.apfloat_rounding.specs.{Shapes.format_at, Stored.IsStored, Stored.IsNormal, Stored.datum_at};
 ghost use Rattle.apfloat_arithmetic.specs.ExactInverseParts.{IsInvertible};
 
 use apfloat_model::Category;

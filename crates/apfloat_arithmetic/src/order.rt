@@ -1,10 +1,8 @@
 //! The order of values, and when two values are the same.
 
 ghost use Rattle.std.specs.Prelude.{◌≡◌};
-ghost use Rattle.std.specs.Bool.{Decides};
-ghost use Rattle.std.specs.Ordering.{nat_cmp, int_cmp};
-ghost use Rattle.apfloat_model.specs.order.Classes.{is_nan, same_datum};
-ghost use Rattle.apfloat_model.specs.order.Order.{number, compared};
+ghost use Rattle.std.specs.{Bool.Decides, Ordering.nat_cmp, Ordering.int_cmp};
+ghost use Rattle.apfloat_model.specs.order.{Classes.is_nan, Classes.same_datum, Order.number, Order.compared};
 ghost use Rattle.apfloat_rounding.specs.declared.shape.Shape.{Shape};
 ghost use Rattle.apfloat_rounding.specs.Stored.{IsNormal, IsStored, datum_at, quanta_of};
 ghost use Rattle.apfloat_arithmetic.specs.Sides.{side};

@@ -1,10 +1,8 @@
 //! Quotients.
 
 ghost use Rattle.std.specs.Prelude.{◌≡◌, ◌+◌, ◌-◌, ◌*◌, ◌^◌, ◌<◌, ◌≤◌};
-ghost use Rattle.apfloat_model.specs.rounding.RoundingToOdd.{odd_quotient};
-ghost use Rattle.apfloat_model.specs.arithmetic.Quotients.{IsQuotient};
-ghost use Rattle.apfloat_rounding.specs.Shapes.{format_at};
-ghost use Rattle.apfloat_rounding.specs.Stored.{IsStored, datum_at, GivesAt};
+ghost use Rattle.apfloat_model.specs.{rounding.RoundingToOdd.odd_quotient, arithmetic.Quotients.IsQuotient};
+ghost use Rattle.apfloat_rounding.specs.{Shapes.format_at, Stored.IsStored, Stored.datum_at, Stored.GivesAt};
 ghost use Rattle.apfloat_arithmetic.specs.NumberResults.{AreNormal, IsNumberQuotient};
 
 use crate::classes::are_normal;

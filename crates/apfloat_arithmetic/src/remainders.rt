@@ -6,17 +6,14 @@
 
 ghost use Rattle.std.specs.Prelude.{◌≡◌, ℕ, ◌+◌, ◌-◌, ◌*◌, ◌/◌, ◌%◌, ◌^◌, ◌<◌, ◌≤◌, ◌⊎◌, false, eqb, count_ones, cond};
 ghost use Rattle.std.specs.Prelude.{ℤ, pos, ◌≤ℤ◌, ◌+ℤ◌, ◌-ℤ◌};
-ghost use Rattle.apfloat_model.specs.declared.kinds.Round.{Round};
-ghost use Rattle.apfloat_model.specs.rounding.Bounds.{place_bound};
-ghost use Rattle.apfloat_model.specs.rounding.Answer.{IsAnswer};
-ghost use Rattle.apfloat_model.specs.rounding.Rounding.{ok_bits, takes_above};
+ghost use Rattle.apfloat_model.specs.{declared.kinds.Round.Round, rounding.Bounds.place_bound};
+ghost use Rattle.apfloat_model.specs.rounding.{Answer.IsAnswer, Rounding.ok_bits, Rounding.takes_above};
 ghost use Rattle.apfloat_model.specs.arithmetic.Exponents.{IsIlogb};
 ghost use Rattle.apfloat_model.specs.arithmetic.Remainders.{truncated_quotient, nearest_quotient, ones_of_quotient};
 ghost use Rattle.apfloat_model.specs.arithmetic.Remainders.{rest_of, IsTruncatedRemainder, IsNearestRemainder};
 ghost use Rattle.apfloat_rounding.specs.Shapes.{format_at};
 ghost use Rattle.apfloat_rounding.specs.Stored.{IsNormal, IsStored, datum_at, quanta_of, GivesAt};
-ghost use Rattle.apfloat_arithmetic.specs.Magnitudes.{units_of, AreDivided};
-ghost use Rattle.apfloat_arithmetic.specs.NumberResults.{AreNormal};
+ghost use Rattle.apfloat_arithmetic.specs.{Magnitudes.units_of, Magnitudes.AreDivided, NumberResults.AreNormal};
 
 use crate::classes::are_normal;
 use crate::specials::{Operation, special};

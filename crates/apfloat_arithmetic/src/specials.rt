@@ -3,21 +3,15 @@
 //! of the right one. The mode matters for the sign of a sum of zeros, and if a fused sum reduces to a product.
 
 ghost use Rattle.std.specs.Prelude.{◌≡◌, ℕ, ◌*◌, ◌<◌, ◌⊎◌, true, Bool};
-ghost use Rattle.apfloat_model.specs.declared.kinds.Category.{Category};
-ghost use Rattle.apfloat_model.specs.declared.kinds.Round.{Round};
+ghost use Rattle.apfloat_model.specs.declared.kinds.{Category.Category, Round.Round};
 ghost use Rattle.apfloat_model.specs.formats.Datum.{finite, infinite};
-ghost use Rattle.apfloat_model.specs.arithmetic.Exact.{product_sign};
-ghost use Rattle.apfloat_model.specs.arithmetic.Sums.{IsSum};
-ghost use Rattle.apfloat_model.specs.arithmetic.Products.{IsProduct};
-ghost use Rattle.apfloat_model.specs.arithmetic.Quotients.{IsQuotient};
-ghost use Rattle.apfloat_model.specs.arithmetic.FusedSums.{IsFusedSum, IsSumWithProduct};
-ghost use Rattle.apfloat_model.specs.arithmetic.Roots.{IsRoot};
-ghost use Rattle.apfloat_model.specs.arithmetic.Remainders.{IsRemainder};
+ghost use Rattle.apfloat_model.specs.arithmetic.{Exact.product_sign, Sums.IsSum, Products.IsProduct};
+ghost use Rattle.apfloat_model.specs.arithmetic.{Quotients.IsQuotient, FusedSums.IsFusedSum};
+ghost use Rattle.apfloat_model.specs.arithmetic.{FusedSums.IsSumWithProduct, Roots.IsRoot, Remainders.IsRemainder};
 ghost use Rattle.apfloat_rounding.specs.Shapes.{format_at};
 ghost use Rattle.apfloat_rounding.specs.Stored.{IsStored, datum_at, number_of, GivesAt};
-ghost use Rattle.apfloat_arithmetic.specs.NumberResults.{AreNormal};
-ghost use Rattle.apfloat_arithmetic.specs.SpecialOperands.{AreSpecial, AreSpecialTerms, HasSpecialFactor};
-ghost use Rattle.apfloat_arithmetic.specs.SpecialOperands.{HasSpecials, IsResult};
+ghost use Rattle.apfloat_arithmetic.specs.{NumberResults.AreNormal, SpecialOperands.AreSpecial};
+ghost use Rattle.apfloat_arithmetic.specs.SpecialOperands.{AreSpecialTerms, HasSpecialFactor, HasSpecials, IsResult};
 
 use crate::exact::{divided_by_zero, exact_infinity, exact_zero};
 use crate::products::product_sign;

@@ -2,14 +2,11 @@
 
 ghost use Rattle.std.specs.Prelude.{◌≡◌, ℕ, ◌+◌, ◌*◌, ◌^◌, ◌<◌, ◌≤◌, pos, ◌+ℤ◌};
 ghost use Rattle.apfloat_model.specs.arithmetic.Exact.{signed, IsRounded};
-ghost use Rattle.apfloat_model.specs.rounding.Bounds.{IsWithin, exponent_bound};
-ghost use Rattle.apfloat_model.specs.rounding.RoundingToOdd.{IsRoundedToOdd};
-ghost use Rattle.apfloat_model.specs.rounding.Standing.{up, down};
 ghost use Rattle.apfloat_model.specs.arithmetic.Sums.{zero_sum_sign, IsSum, IsDifference};
-ghost use Rattle.apfloat_arithmetic.specs.Subtrahends.{added};
-ghost use Rattle.apfloat_rounding.specs.Shapes.{format_at};
-ghost use Rattle.apfloat_rounding.specs.Stored.{IsStored, datum_at, GivesAt};
-ghost use Rattle.apfloat_arithmetic.specs.NumberResults.{AreNormal, IsNumberSum};
+ghost use Rattle.apfloat_model.specs.rounding.{Bounds.IsWithin, Bounds.exponent_bound, RoundingToOdd.IsRoundedToOdd};
+ghost use Rattle.apfloat_model.specs.rounding.Standing.{up, down};
+ghost use Rattle.apfloat_arithmetic.specs.{Subtrahends.added, NumberResults.AreNormal, NumberResults.IsNumberSum};
+ghost use Rattle.apfloat_rounding.specs.{Shapes.format_at, Stored.IsStored, Stored.datum_at, Stored.GivesAt};
 
 use crate::classes::are_normal;
 use crate::signs::negated;

@@ -1,11 +1,10 @@
 -- Numbers far out of the range of a format: their bits, the side that they are on, and their results.
-use Rattle.std.proofs.Common.{◌≡◌, ℕ, ◌+◌, ◌-◌, ◌*◌, ◌^◌, ◌<◌, ◌≤◌, Bool, true, false}
-use Rattle.std.proofs.Common.{not, ◌&&◌, ◌||◌, eqb, List, [], ◌∷◌, Option, Some, None, refl, subst, sym}
-use Rattle.std.proofs.Common.{ap, ◌∙◌, arith, lit<, ℤ, pos, neg_ℤ, ◌+ℤ◌, ◌-ℤ◌, ◌≤ℤ◌}
-use Rattle.std.proofs.Common.{FitsSigned, w32, to_z, of_z}
+use Rattle.std.proofs.Common.{◌≡◌, ℕ, ◌+◌, ◌-◌, ◌*◌, ◌^◌, ◌<◌, ◌≤◌, Bool, true, false, not, ◌&&◌, ◌||◌, eqb, List, []}
+use Rattle.std.proofs.Common.{◌∷◌, Option, Some, None, refl, subst, sym, ap, ◌∙◌, arith, lit<, ℤ, pos, neg_ℤ, ◌+ℤ◌}
+use Rattle.std.proofs.Common.{◌-ℤ◌, ◌≤ℤ◌, FitsSigned, w32, to_z, of_z}
 use Rattle.std.proofs.Math.Nat.{mul-le-mul_right, mul-lt-mul_of_pos_right, mul-pos, pow-le-pow_right}
-use Rattle.std.proofs.lemmas.Int.{ints, to_z-of_z, to_z_pos}
 use Rattle.std.proofs.lemmas.{Nat.pow-add, Nat.pow_pos, Option.get_or_from_slice_get, Bool.false≢true, Bool.ne_eqb}
+use Rattle.std.proofs.lemmas.Int.{ints, to_z-of_z, to_z_pos}
 use Rattle.std.specs.{Prelude.IsTrue, Prelude.IsSomeAnd, Prelude.slice_get, Prelude.slice_index_or, Bool.MatchBool}
 use Rattle.apfloat_model.specs.declared.loss.Loss.TheVariants.{ExactlyZero}
 use Rattle.apfloat_model.proofs.general.Powers.{two_pos, twice_half, pow3}

@@ -1,11 +1,9 @@
 -- A block after the values that were converted before it.
-use Rattle.std.proofs.Common.{◌≡◌, ℕ, suc, ◌+◌, ◌-◌, ◌*◌, ◌^◌, ◌<◌, ◌≤◌, Bool, List}
-use Rattle.std.proofs.Common.{[], ◌∷◌, ◌++◌, length, take, drop, if◌then◌else◌, Option, refl, sym, ap}
-use Rattle.std.proofs.Common.{◌∙◌, subst, ⊎_elim, zero-add, arith}
-use Rattle.std.proofs.Math.Nat.{min-eq_left, mul-le-mul_right, suc-mul}
-use Rattle.std.proofs.lemmas.{Bool.cases_lt, List.drop-drop}
+use Rattle.std.proofs.{Math.Nat.min-eq_left, Math.Nat.mul-le-mul_right, Math.Nat.suc-mul, lemmas.Bool.cases_lt}
+use Rattle.std.proofs.Common.{◌≡◌, ℕ, suc, ◌+◌, ◌-◌, ◌*◌, ◌^◌, ◌<◌, ◌≤◌, Bool, List, [], ◌∷◌, ◌++◌, length, take, drop}
+use Rattle.std.proofs.Common.{if◌then◌else◌, Option, refl, sym, ap, ◌∙◌, subst, ⊎_elim, zero-add, arith}
+use Rattle.std.proofs.lemmas.{List.drop-drop, List.Sums.sum_by-append, Option.slice_get_past, Slice.between-put_mid}
 use Rattle.std.proofs.lemmas.List.{drop-take, length-append, take-take, Edits.length-between, Sums.count_by-le-length}
-use Rattle.std.proofs.lemmas.{List.Sums.sum_by-append, Option.slice_get_past, Slice.between-put_mid}
 use Rattle.std.specs.Prelude.{slice_get, slice_range, IfSome, count_by}
 use Rattle.apfloat_model.proofs.general.ListLaws.{get_left}
 use Rattle.apfloat_arrays.specs.declared.counts.{Counts.Counts, Outcome.Outcome}

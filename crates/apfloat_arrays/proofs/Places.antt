@@ -1,8 +1,7 @@
 -- One more value in its place.
-use Rattle.std.proofs.Common.{◌≡◌, ℕ, suc, ◌+◌, ◌-◌, ◌*◌, ◌<◌, ◌≤◌, Bool, ⊎_elim}
-use Rattle.std.proofs.Common.{if◌then◌else◌, List, [], ◌∷◌, ◌++◌, length, drop, Option, Some, refl, sym}
-use Rattle.std.proofs.Common.{◌∙◌, ap, subst, arith, zero-add}
 use Rattle.std.proofs.{Math.Nat.mul-le-mul_right, Math.Nat.suc-mul, Math.Path.subst₃, lemmas.Bool.cases_lt}
+use Rattle.std.proofs.Common.{◌≡◌, ℕ, suc, ◌+◌, ◌-◌, ◌*◌, ◌<◌, ◌≤◌, Bool, ⊎_elim, if◌then◌else◌, List, [], ◌∷◌, ◌++◌}
+use Rattle.std.proofs.Common.{length, drop, Option, Some, refl, sym, ◌∙◌, ap, subst, arith, zero-add}
 use Rattle.std.proofs.lemmas.{Bool.cases_eq, List.length_push, List.Edits.length-between, List.Sums.sum_by-append}
 use Rattle.std.proofs.lemmas.{Option.slice_get_past, Slice.between_is, Slice.take-put_mid_below, Slice.between-put_mid}
 use Rattle.std.specs.Prelude.{slice_get, IfSome, count_by}

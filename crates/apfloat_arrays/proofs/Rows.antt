@@ -1,10 +1,9 @@
 -- Values given by their places, one more of them or one in place of another; and what zeros in place of infinities and
 -- NaNs count.
-use Rattle.std.proofs.Common.{◌≡◌, ℕ, ◌+◌, ◌-◌, ◌*◌, ◌/◌, ◌%◌, ◌^◌, ◌<◌, ◌≤◌}
-use Rattle.std.proofs.Common.{Bool, true, false, ⊎_elim, if◌then◌else◌, List, [], ◌∷◌, ◌++◌, length}
-use Rattle.std.proofs.Common.{take, set, length-set, Option, Some, refl, sym, ◌∙◌, ap, subst, arith, ltb}
-use Rattle.std.proofs.Common.{◌||◌}
 use Rattle.std.proofs.{Math.Nat.min-eq_left, lemmas.Bool.cases_eq, lemmas.Bool.cases_lt, lemmas.Bool.le-ltb}
+use Rattle.std.proofs.Common.{◌≡◌, ℕ, ◌+◌, ◌-◌, ◌*◌, ◌/◌, ◌%◌, ◌^◌, ◌<◌, ◌≤◌, Bool, true, false, ⊎_elim, if◌then◌else◌}
+use Rattle.std.proofs.Common.{List, [], ◌∷◌, ◌++◌, length, take, set, length-set, Option, Some, refl, sym, ◌∙◌, ap}
+use Rattle.std.proofs.Common.{subst, arith, ltb, ◌||◌}
 use Rattle.std.proofs.lemmas.{Bool.lt-ltb, List.get_or-set_same, List.get_or-set_other, List.Sums.count_by-le-length}
 use Rattle.std.proofs.lemmas.{List.Sums.sum_by-set, Option.slice_get_past, Option.slice_get-get_or, Slice.drop-put_mid}
 use Rattle.std.specs.Prelude.{slice_get, IfSome, count_by, get_or}
@@ -18,10 +17,10 @@ use Rattle.rustc_apfloat.specs.{Layout.datum_of, declared.Round.Round}
 use Rattle.small_formats.specs.saturation.Saturation.{IsConversionBy, saturated}
 use Rattle.small_formats.specs.declared.saturation.saturation.Overflow.{Overflow}
 use Rattle.small_formats.specs.declared.saturation.saturation.Overflow.TheVariants.{Rounded, Saturated, Finite}
+use Rattle.apfloat_arrays.specs.{Blocks.IsBlock, Blocks.value_at, Bytes.number_of, Rows.IsRow, Rows.number_from}
+use Rattle.apfloat_arrays.specs.{Rows.number_in, Values.IsConvertedBy}
 use Rattle.apfloat_arrays.specs.declared.counts.{Counts.Counts, Outcome.Outcome}
-use Rattle.apfloat_arrays.specs.{Blocks.IsBlock, Blocks.value_at, Bytes.number_of}
 use Rattle.apfloat_arrays.specs.Outcomes.{became_nan, counts_of, one_if, raised, sum_to_top, with_flags, with_outcome}
-use Rattle.apfloat_arrays.specs.{Rows.IsRow, Rows.number_from, Rows.number_in, Values.IsConvertedBy}
 use Rattle.apfloat_arrays.proofs.Places.{counts_push, earlier, latest, place_below, places_more, places_none}
 use borrow.Rule.Slice.PartMut.{put_mid}
 

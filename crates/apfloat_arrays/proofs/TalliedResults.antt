@@ -1,13 +1,12 @@
 -- Tallies of few results as the digits of a number, and results that were looked up in a table of entries.
-use Rattle.std.proofs.Common.{◌≡◌, ℕ, zero, suc, ◌+◌, ◌-◌, ◌*◌, ◌/◌, ◌%◌, ◌^◌, ◌<◌}
-use Rattle.std.proofs.Common.{◌≤◌, Bool, true, false, ⊎_elim, List, [], ◌∷◌, ◌++◌, length, refl, sym}
-use Rattle.std.proofs.Common.{subst, ap, ◌∙◌, lit≤, arith, add-one}
+use Rattle.std.proofs.Common.{◌≡◌, ℕ, zero, suc, ◌+◌, ◌-◌, ◌*◌, ◌/◌, ◌%◌, ◌^◌, ◌<◌, ◌≤◌, Bool, true, false, ⊎_elim}
+use Rattle.std.proofs.Common.{List, [], ◌∷◌, ◌++◌, length, refl, sym, subst, ap, ◌∙◌, lit≤, arith, add-one}
 use Rattle.std.proofs.Math.{Path.ap₂, Nat.mul_comm}
 use Rattle.std.proofs.lemmas.{Bool.cases_eq, List.Sums.sum_by_push, Nat.div-mul-add, Nat.mod-mul-add}
 use Rattle.std.specs.Prelude.{IfSome}
 use Rattle.apfloat_arrays.specs.{declared.tallies.Tally.Tally, Blocks.AreInPlaces, Blocks.value_at, Bytes.number_of}
-use Rattle.apfloat_arrays.specs.Entries.{AreEntries, AreLookedUp, HasEntry, IsEntry, IsEntryOf, IsEntryTable, entry_of}
 use Rattle.apfloat_arrays.specs.{Outcomes.one_if, Tallies.AreTalliesAtMost}
+use Rattle.apfloat_arrays.specs.Entries.{AreEntries, AreLookedUp, HasEntry, IsEntry, IsEntryOf, IsEntryTable, entry_of}
 use Rattle.apfloat_arrays.specs.Tallies.{Fits, nothing, packed_of, sum_of, tallies, tally_of, total, unpacked}
 use Rattle.apfloat_arrays.proofs.Places.{earlier, latest, place_below, places_more, places_none, places_push}
 use Rattle.apfloat_arrays.proofs.PlacesOnce.{element}

@@ -1,10 +1,9 @@
 -- Arrays that are converted between two formats.
-use Rattle.std.proofs.Common.{◌≡◌, ℕ, ◌-◌, ◌*◌, ◌^◌, ◌<◌, ◌≤◌, List, length, sym, ap}
-use Rattle.std.proofs.Common.{◌∙◌, subst}
+use Rattle.std.proofs.Common.{◌≡◌, ℕ, ◌-◌, ◌*◌, ◌^◌, ◌<◌, ◌≤◌, List, length, sym, ap, ◌∙◌, subst}
 use Rattle.std.specs.Prelude.{slice_range}
 use Rattle.rustc_apfloat.specs.Lawful.{Constants}
-use Rattle.apfloat_arrays.specs.declared.{counts.Counts.Counts, counts.Outcome.Outcome, widths.Widths.Widths}
 use Rattle.apfloat_arrays.specs.{Blocks.IsBlock, Outcomes.sum_of, Tasks.AreSingles}
+use Rattle.apfloat_arrays.specs.declared.{counts.Counts.Counts, counts.Outcome.Outcome, widths.Widths.Widths}
 use Rattle.apfloat_arrays.proofs.Joined.{block_rest, block_width, rest_size}
 use borrow.Rule.Slice.PartMut.{put_mid}
 

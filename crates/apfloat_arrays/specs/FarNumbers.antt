@@ -1,7 +1,6 @@
 -- Numbers so far out of the range of a format that only the side and the sign matter: past all its values, or below
 -- half of its smallest positive value.
-use Rattle.std.specs.Prelude.{◌≡◌, ℕ, ◌+◌, ◌*◌, ◌^◌, ◌<◌, ◌≤◌, Bool, true, false, List}
-use Rattle.std.specs.Prelude.{slice_get, IsSomeAnd}
+use Rattle.std.specs.Prelude.{◌≡◌, ℕ, ◌+◌, ◌*◌, ◌^◌, ◌<◌, ◌≤◌, Bool, true, false, List, slice_get, IsSomeAnd}
 use Rattle.rustc_apfloat.specs.{declared.Round.Round, Flags.bits_of, Format.Format, Datum.Datum, Datum.finite}
 use Rattle.rustc_apfloat.specs.{Classes.is_nan, Rounding.IsDelivered, Lawful.Constants, Lawful.format_with}
 use Rattle.rustc_apfloat.specs.{Lawful.layout_with, Layout.datum_of, Layout.IsEncodedBy}

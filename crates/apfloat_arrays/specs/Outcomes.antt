@@ -1,8 +1,8 @@
 -- The outcomes of conversions, and their counts.
-use Rattle.std.specs.Prelude.{ℕ, min, ◌+◌, ◌-◌, ◌^◌, ◌<◌, Bool, not, ◌==◌, bit_and, if◌then◌else◌, List, length, count_by}
+use Rattle.std.specs.Prelude.{ℕ, min, ◌+◌, ◌-◌, ◌^◌, ◌<◌, Bool, not, ◌==◌, bit_and, if◌then◌else◌, List, length}
+use Rattle.std.specs.Prelude.{count_by}
 use Rattle.rustc_apfloat.specs.Flags.{bits_of}
-use Rattle.apfloat_arrays.specs.declared.counts.Outcome.{Outcome}
-use Rattle.apfloat_arrays.specs.declared.counts.Counts.{Counts}
+use Rattle.apfloat_arrays.specs.declared.counts.{Outcome.Outcome, Counts.Counts}
 
 -- whether a conversion raised this flag
 abbrev pub raised : ℕ → Outcome → Bool

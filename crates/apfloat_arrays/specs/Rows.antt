@@ -1,9 +1,8 @@
 -- Values given by their places, converted in consecutive bytes; and blocks in which zeros stand for infinities and NaNs
 -- until these are converted.
-use Rattle.std.specs.Prelude.{◌≡◌, ℕ, ◌*◌, ◌%◌, ◌^◌, ◌<◌, ◌||◌, ltb, if◌then◌else◌}
-use Rattle.std.specs.Prelude.{List, [], slice_index}
-use Rattle.apfloat_arrays.specs.declared.counts.{Outcome.Outcome, Counts.Counts}
+use Rattle.std.specs.Prelude.{◌≡◌, ℕ, ◌*◌, ◌%◌, ◌^◌, ◌<◌, ◌||◌, ltb, if◌then◌else◌, List, [], slice_index}
 use Rattle.apfloat_arrays.specs.{Blocks.AreInPlaces, Blocks.value_at, Bytes.number_of, Outcomes.counts_of}
+use Rattle.apfloat_arrays.specs.declared.counts.{Outcome.Outcome, Counts.Counts}
 
 -- the relation between the given value of a place, the bytes there and the outcome holds for each place
 pub record IsRow (Holds : List ℕ → List ℕ → Outcome → Type 0) (given : ℕ → List ℕ) (width count : ℕ)

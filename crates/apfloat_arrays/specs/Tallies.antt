@@ -1,6 +1,5 @@
 -- How many results raised each flag and how many are NaNs, and such counts as the digits of one number.
-use Rattle.std.specs.Prelude.{ℕ, zero, suc, ◌+◌, ◌*◌, ◌/◌, ◌%◌, ◌^◌, ◌<◌, ◌≤◌, ◌==◌}
-use Rattle.std.specs.Prelude.{Bool, not, bit_and, List, sum_by}
+use Rattle.std.specs.Prelude.{ℕ, zero, suc, ◌+◌, ◌*◌, ◌/◌, ◌%◌, ◌^◌, ◌<◌, ◌≤◌, ◌==◌, Bool, not, bit_and, List, sum_by}
 use Rattle.apfloat_arrays.specs.{declared.counts.Counts.Counts, declared.tallies.Tally.Tally, Outcomes.one_if}
 
 -- the counts of two sets of results, added

@@ -1,8 +1,7 @@
 //! Tables of results, each with what it adds to the counts, so that one look-up gives both.
 
 ghost use Rattle.std.specs.Prelude.{◌≡◌, ℕ, ◌+◌, ◌*◌, ◌/◌, ◌%◌, ◌^◌, ◌<◌, ◌≤◌, length};
-ghost use Rattle.apfloat_arrays.specs.Blocks.{value_at};
-ghost use Rattle.apfloat_arrays.specs.Bytes.{number_of};
+ghost use Rattle.apfloat_arrays.specs.{Blocks.value_at, Bytes.number_of};
 ghost use Rattle.apfloat_arrays.specs.Entries.{AreEntries, AreLookedUp, IsEntryOf, entry_of};
 ghost use Rattle.apfloat_arrays.specs.Tallies.{AreTalliesAtMost, packed_of};
 ghost use Rattle.apfloat_arrays.specs.declared.tallies.Tally.{Tally as Few};

@@ -1,12 +1,12 @@
 //! Numbers so far out of the range of a format that only the side and the sign matter: those past all its values, and
 //! those below half of its smallest positive value. All numbers on one side with the same sign have the same result.
 
-ghost use Rattle.std.specs.Prelude.{◌≡◌, ℕ, ◌+◌, ◌-◌, ◌^◌, ◌<◌, false, pos, neg_ℤ, ◌+ℤ◌, ◌-ℤ◌, ◌≤ℤ◌, IsTrue, IfSome, MatchBool};
-ghost use Rattle.rustc_apfloat.specs.Bounds.{IsWithin, exponent_bound};
-ghost use Rattle.rustc_apfloat.specs.Datum.{finite};
-ghost use Rattle.rustc_apfloat.specs.FlaggedTypes.{constants_of, format_of, layout_of};
-ghost use Rattle.rustc_apfloat.specs.Layout.{fields_of};
-ghost use Rattle.apfloat_arrays.specs.FarNumbers.{AreFarAnswers, IsAnswerTo, IsFar, IsFarPlace, far_place, with_overflow};
+ghost use Rattle.std.specs.Prelude.{◌≡◌, ℕ, ◌+◌, ◌-◌, ◌^◌, ◌<◌, false, pos, neg_ℤ, ◌+ℤ◌, ◌-ℤ◌, ◌≤ℤ◌, IsTrue, IfSome};
+ghost use Rattle.std.specs.Prelude.{MatchBool};
+ghost use Rattle.rustc_apfloat.specs.{Bounds.IsWithin, Bounds.exponent_bound, Datum.finite, FlaggedTypes.constants_of};
+ghost use Rattle.rustc_apfloat.specs.{FlaggedTypes.format_of, FlaggedTypes.layout_of, Layout.fields_of};
+ghost use Rattle.apfloat_arrays.specs.FarNumbers.{AreFarAnswers, IsAnswerTo, IsFar, IsFarPlace, far_place};
+ghost use Rattle.apfloat_arrays.specs.FarNumbers.{with_overflow};
 ghost use Rattle.small_formats.specs.saturation.Saturation.{saturated};
 
 use crate::converted::Converted;

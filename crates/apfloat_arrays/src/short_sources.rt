@@ -1,13 +1,13 @@
 //! Values converted to formats of at most four digits by a table of all values of six digits with the same exponents. A
 //! value is first rounded to odd to six digits, which changes neither the result of its conversion nor the flags.
 
-ghost use Rattle.std.specs.Prelude.{◌≡◌, ◌-◌, ◌*◌, ◌^◌, ◌<◌, ◌≤◌, pos, negsuc, ◌+ℤ◌, ◌-ℤ◌, ◌≤ℤ◌, true, false, refl, IsTrue, length};
+ghost use Rattle.std.specs.Prelude.{◌≡◌, ◌-◌, ◌*◌, ◌^◌, ◌<◌, ◌≤◌, pos, negsuc, ◌+ℤ◌, ◌-ℤ◌, ◌≤ℤ◌, true, false, refl};
+ghost use Rattle.std.specs.Prelude.{IsTrue, length};
 ghost use Rattle.apfloat_model.specs.declared.kinds.NonfiniteBehavior.TheVariants.{IEEE754};
 ghost use Rattle.rustc_apfloat.specs.FlaggedTypes.{constants_of};
 ghost use Rattle.rustc_apfloat.proofs.LawTest.{lawful_from_test};
 ghost use Rattle.apfloat_arrays.specs.ShortSources.{AreShortened, HasShortTable, IsCoarseFor, IsShortFor, is_nan_of};
-ghost use Rattle.apfloat_arrays.specs.ShortSources.{short_of};
-ghost use Rattle.apfloat_arrays.specs.Tasks.{HaveWidths, IsDone, IsGiven};
+ghost use Rattle.apfloat_arrays.specs.{ShortSources.short_of, Tasks.HaveWidths, Tasks.IsDone, Tasks.IsGiven};
 ghost use Rattle.apfloat_arrays.specs.Values.{IsConvertedBy};
 
 use crate::bytes::{bits_in, has_width};

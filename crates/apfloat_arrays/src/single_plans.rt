@@ -1,7 +1,6 @@
 //! Plans by which singles are converted in blocks.
 
-ghost use Rattle.std.specs.Prelude.{◌≡◌, ℕ, ℤ, ◌*◌, ◌%◌, ◌^◌, ◌<◌, List, length, false};
-ghost use Rattle.std.specs.Prelude.{IsTrue};
+ghost use Rattle.std.specs.Prelude.{◌≡◌, ℕ, ℤ, ◌*◌, ◌%◌, ◌^◌, ◌<◌, List, length, false, IsTrue};
 ghost use Rattle.apfloat_model.specs.bits.Layout.{Layout};
 ghost use Rattle.fast_bits.specs.lanes.Targets.{IsSingleFormat, IsTarget};
 ghost use Rattle.rustc_apfloat.specs.declared.Round.{Round as Mode};

@@ -1,8 +1,7 @@
 //! Infinities and NaNs in blocks of singles that are converted all at once: until they are converted one by one, zeros
 //! take their places, since these raise no flag and are not counted as NaNs.
 
-ghost use Rattle.std.specs.Prelude.{◌≡◌, ℕ, ◌+◌, ◌*◌, ◌%◌, ◌^◌, ◌<◌, ◌≤◌, length};
-ghost use Rattle.std.specs.Prelude.{slice_index, IsTrue};
+ghost use Rattle.std.specs.Prelude.{◌≡◌, ℕ, ◌+◌, ◌*◌, ◌%◌, ◌^◌, ◌<◌, ◌≤◌, length, slice_index, IsTrue};
 ghost use Rattle.rustc_apfloat.specs.FlaggedTypes.{constants_of};
 ghost use Rattle.apfloat_arrays.specs.{Blocks.value_at, Bytes.number_of, Rows.AreFiniteHalves, Rows.lower_in};
 ghost use Rattle.apfloat_arrays.specs.{Rows.number_in, Tasks.AreConverted, Tasks.AreNumbersOf, Tasks.AreSingles};

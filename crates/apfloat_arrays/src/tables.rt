@@ -1,8 +1,7 @@
 //! Tables of the results for all values of a format of few bits, filled by the conversion itself, for arrays of at
 //! least as many values: looking a result up is meant to cost less than converting its value.
 
-ghost use Rattle.std.specs.Prelude.{◌≡◌, ℕ, ◌+◌, ◌*◌, ◌^◌, ◌<◌, ◌≤◌, length, slice_get};
-ghost use Rattle.std.specs.Prelude.{Some};
+ghost use Rattle.std.specs.Prelude.{◌≡◌, ℕ, ◌+◌, ◌*◌, ◌^◌, ◌<◌, ◌≤◌, length, slice_get, Some};
 ghost use Rattle.apfloat_arrays.specs.{Blocks.value_at, Bytes.number_of, Tables.IsResultTable, Tables.IsTable};
 ghost use Rattle.apfloat_arrays.specs.{Tables.outcome_tally, Tallies.packed_of};
 ghost use Rattle.apfloat_arrays.specs.declared.counts.Outcome.{Outcome as Result};

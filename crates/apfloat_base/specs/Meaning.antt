@@ -1,11 +1,8 @@
 -- What the calls of a floating-point type return: some as a value or a function, the others as a relation.
 use Rattle.std.specs.Prelude.{ℕ, ℤ, Bool, Option, List, Result}
 use Rattle.std.specs.declared.cmp.Ordering.{Ordering}
-use Rattle.apfloat_model.specs.declared.kinds.Category.{Category}
-use Rattle.apfloat_model.specs.declared.kinds.Round.{Round}
-use Rattle.apfloat_model.specs.declared.parse_error.ParseError.{ParseError}
-use Rattle.apfloat_model.specs.declared.status.StatusAnd.{StatusAnd}
-use Rattle.apfloat_model.specs.Determined.{IsDetermined}
+use Rattle.apfloat_model.specs.declared.{kinds.Category.Category, kinds.Round.Round, parse_error.ParseError.ParseError}
+use Rattle.apfloat_model.specs.{declared.status.StatusAnd.StatusAnd, Determined.IsDetermined}
 
 -- X is the type of values
 pub record Meaning (X : Type 0) : Type 1 where

@@ -1,8 +1,7 @@
 //! The trait of conversions between two floating-point types.
 
 ghost use Rattle.std.specs.Prelude.{Bool};
-ghost use Rattle.apfloat_model.specs.declared.kinds.Round.{Round};
-ghost use Rattle.apfloat_model.specs.declared.kinds.Round.TheVariants.{NearestTiesToEven};
+ghost use Rattle.apfloat_model.specs.declared.kinds.Round.{Round, TheVariants.NearestTiesToEven};
 ghost use Rattle.apfloat_model.specs.declared.status.StatusAnd.{StatusAnd};
 
 use crate::float::Float;

@@ -1,20 +1,16 @@
 //! The trait of floating-point types.
 
-ghost use Rattle.std.specs.Prelude.{◌≡◌, ℕ, ℤ, pos, neg_ℤ, ◌-◌, ◌^◌, ◌<◌, ◌≤◌, Bool, true, false, IsTrue, Option, not, if◌then◌else◌, List, Result, ◌&&◌};
-ghost use Rattle.std.specs.declared.cmp.Ordering.{Ordering};
-ghost use Rattle.std.specs.Option.{unwrap_or};
-ghost use Rattle.apfloat_model.specs.arithmetic.Exact.{same_sign};
-ghost use Rattle.apfloat_model.specs.rounding.Negation.{swapped};
-ghost use Rattle.apfloat_model.specs.declared.kinds.Category.{Category};
-ghost use Rattle.apfloat_model.specs.declared.kinds.Round.{Round};
+ghost use Rattle.std.specs.Prelude.{◌≡◌, ℕ, ℤ, pos, neg_ℤ, ◌-◌, ◌^◌, ◌<◌, ◌≤◌, Bool};
+ghost use Rattle.std.specs.Prelude.{true, false, IsTrue, Option, not, if◌then◌else◌, List, Result, ◌&&◌};
+ghost use Rattle.std.specs.{declared.cmp.Ordering.Ordering, Option.unwrap_or};
+ghost use Rattle.apfloat_model.specs.{arithmetic.Exact.same_sign, rounding.Negation.swapped, rounding.Flags.bits_of};
+ghost use Rattle.apfloat_model.specs.declared.kinds.{Category.Category, Round.Round};
 ghost use Rattle.apfloat_model.specs.declared.kinds.Round.TheVariants.{NearestTiesToEven, TowardZero};
+ghost use Rattle.apfloat_model.specs.declared.{parse_error.ParseError.ParseError, status.StatusAnd.StatusAnd};
 ghost use Rattle.apfloat_model.specs.order.Classes.{is_nan_category, is_finite_non_zero_category};
-ghost use Rattle.apfloat_model.specs.declared.parse_error.ParseError.{ParseError};
-ghost use Rattle.apfloat_model.specs.order.Predicates.{is_zero_category, is_infinite_category, is_finite_category, min_by, max_by, minimum_by, maximum_by, signed_like};
-ghost use Rattle.apfloat_model.specs.declared.status.StatusAnd.{StatusAnd};
-ghost use Rattle.apfloat_model.specs.texts.Parsing.{without_status};
-ghost use Rattle.apfloat_model.specs.rounding.Flags.{bits_of};
-ghost use Rattle.apfloat_model.specs.whole_numbers.SignedWholes.{IsNegatedWhole};
+ghost use Rattle.apfloat_model.specs.order.Predicates.{is_zero_category, is_infinite_category, is_finite_category};
+ghost use Rattle.apfloat_model.specs.order.Predicates.{min_by, max_by, minimum_by, maximum_by, signed_like};
+ghost use Rattle.apfloat_model.specs.{texts.Parsing.without_status, whole_numbers.SignedWholes.IsNegatedWhole};
 ghost use Rattle.apfloat_base.specs.Meaning.{AreDetermined, Meaning};
 
 use apfloat_model::{Category, ExpInt, ParseError, Round, Status, StatusAnd};

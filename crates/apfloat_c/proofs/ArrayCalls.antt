@@ -1,14 +1,14 @@
 -- What is known about the arguments of a call on arrays that is not refused, and what it leaves.
-use Rattle.std.proofs.Common.{◌≡◌, ℕ, ◌+◌, ◌*◌, ◌/◌, ◌%◌, ◌≤◌, ◌⊎◌, Bool, true}
-use Rattle.std.proofs.Common.{false, List, ◌++◌, length, drop, Option, Some, None, Result, Ok, Err, refl, sym}
-use Rattle.std.proofs.Common.{◌∙◌, subst, inl, inr, arith}
 use Rattle.std.proofs.{Math.Nat.mul-le-mul_right, lemmas.Bool.and_parts}
+use Rattle.std.proofs.Common.{◌≡◌, ℕ, ◌+◌, ◌*◌, ◌/◌, ◌%◌, ◌≤◌, ◌⊎◌, Bool, true, false, List, ◌++◌, length, drop, Option}
+use Rattle.std.proofs.Common.{Some, None, Result, Ok, Err, refl, sym, ◌∙◌, subst, inl, inr, arith}
 use Rattle.std.proofs.lemmas.{Bool.eqb-true, Bool.leb-true, List.take_at, Nat.div-add-mod', Slice.drop-append-drop}
 use Rattle.std.specs.Prelude.{◌&&◌, ◌==◌, if◌then◌else◌, ok_or}
 use Rattle.rustc_apfloat.specs.declared.Round.{Round}
 use Rattle.formats_at_run_time.specs.{declared.FlaggedKind.FlaggedKind, FlaggedKinds.flagged_kind_coded}
 use Rattle.formats_at_run_time.specs.Modes.{mode_coded}
 use Rattle.apfloat_arrays.specs.{declared.Counts.Counts, declared.Widths.Widths, Blocks.IsBlock}
+use Rattle.apfloat_c.specs.{ArrayCalls.operands_of, Arrays.AreValuesConverted, Arrays.AreElements}
 use Rattle.apfloat_c.specs.declared.array_calls.{ArrayFormat.ArrayFormat, ConversionMode.ConversionMode}
 use Rattle.apfloat_c.specs.declared.array_calls.{ElementOperation.ElementOperation, KnownConversion.KnownConversion}
 use Rattle.apfloat_c.specs.declared.array_calls.MapCall.{MapCall}
@@ -16,7 +16,6 @@ use Rattle.apfloat_c.specs.declared.array_data.{ArrayAnswer.ArrayAnswer, Element
 use Rattle.apfloat_c.specs.ArrayCalls.{array_format_coded, bytes_in, conversion_between, conversion_mode_coded}
 use Rattle.apfloat_c.specs.ArrayCalls.{conversion_widths, fitting, operation_coded, has_element_operation, if_fitting}
 use Rattle.apfloat_c.specs.ArrayCalls.{known_array_conversion, known_map, lengths_fit, operand_length, operands_fit}
-use Rattle.apfloat_c.specs.{ArrayCalls.operands_of, Arrays.AreValuesConverted, Arrays.AreElements}
 use Rattle.apfloat_c.specs.Arrays.{AreMapped, IsConvertedArray, IsMappedArray, IsValueConverted, answer_with}
 use Rattle.coded_calls.specs.KnownCalls.{◌>>=◌, no_such_operation}
 

@@ -1,20 +1,19 @@
 -- A call on arrays leaves one code, and determines the bytes and the counts.
-use Rattle.std.proofs.Common.{◌≡◌, ℕ, ◌*◌, ◌≤◌, Bool, List, ◌++◌, length, take, drop, Ok, Err}
-use Rattle.std.proofs.Common.{sym, ap, ◌∙◌, arith}
+use Rattle.std.proofs.Common.{◌≡◌, ℕ, ◌*◌, ◌≤◌, Bool, List, ◌++◌, length, take, drop, Ok, Err, sym, ap, ◌∙◌, arith}
 use Rattle.std.proofs.lemmas.List.{take-take, take-append-drop, length-take}
 use Rattle.std.specs.Prelude.{◌/◌, min}
 use Rattle.formats_at_run_time.specs.BuiltIns.{constants_in}
 use Rattle.formats_at_run_time.specs.FlaggedKinds.{flagged_constants, flagged_kind_of}
 use Rattle.formats_at_run_time.proofs.FormatLaws.{format_law}
+use Rattle.apfloat_arrays.specs.{Blocks.AreInPlaces, Blocks.IsBlock, Blocks.value_at, Bytes.AreBytes, Bytes.number_of}
 use Rattle.apfloat_arrays.specs.declared.{Counts.Counts, Outcome.Outcome, stored.Ends.Ends}
 use Rattle.apfloat_arrays.specs.declared.stored.Ends.TheVariants.{Into, OutOf}
-use Rattle.apfloat_arrays.specs.{Blocks.AreInPlaces, Blocks.IsBlock, Blocks.value_at, Bytes.AreBytes, Bytes.number_of}
 use Rattle.apfloat_arrays.specs.Outcomes.{counts_of as counts_of_outcomes}
 use Rattle.apfloat_arrays.proofs.OneBlock.{converted_value_once}
 use Rattle.apfloat_arrays.proofs.PlacesOnce.{FixesPlaces, bytes_take, places_once}
 use Rattle.apfloat_arrays.proofs.stored_lemmas.StoredOnce.{HasLaw, converted_at_once}
-use Rattle.apfloat_c.specs.declared.array_calls.KnownConversion.{KnownConversion, TheVariants.BuiltIn}
 use Rattle.apfloat_c.specs.declared.array_calls.{KnownConversion.TheVariants.Storage, MapCall.MapCall}
+use Rattle.apfloat_c.specs.declared.array_calls.KnownConversion.{KnownConversion, TheVariants.BuiltIn}
 use Rattle.apfloat_c.specs.declared.array_data.{ArrayAnswer.ArrayAnswer, Element.Element, ElementCounts.ElementCounts}
 use Rattle.apfloat_c.specs.ArrayCalls.{bytes_in, conversion_widths}
 use Rattle.apfloat_c.specs.Arrays.{AreValuesConverted, AreMapped, IsElement, IsElementAt, IsValueConverted, answer_with}

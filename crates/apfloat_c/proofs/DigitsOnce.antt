@@ -1,8 +1,7 @@
 -- Digits and hexadecimal texts are written in one way: one code, the same bytes, and one result.
-use Rattle.std.proofs.Common.{◌≡◌, ℕ, ℤ, List, length, Option, Result, Ok, Err, refl, sym, ap, ◌∙◌}
-use Rattle.std.proofs.Common.{subst, arith}
-use Rattle.rustc_apfloat.specs.declared.{StatusAnd.StatusAnd, Round.Round}
+use Rattle.std.proofs.Common.{◌≡◌, ℕ, ℤ, List, length, Option, Result, Ok, Err, refl, sym, ap, ◌∙◌, subst, arith}
 use Rattle.rustc_apfloat.specs.{Datum.Datum, Flags.bits_of, Format.Format, Lawful.format_with}
+use Rattle.rustc_apfloat.specs.declared.{StatusAnd.StatusAnd, Round.Round}
 use Rattle.apfloat_model.specs.whole_numbers.WholeNumbers.{inexact_unless}
 use Rattle.apfloat_digits.specs.declared.decimal.written.Written.{Written}
 use Rattle.apfloat_digits.specs.declared.decimal.written.Written.TheVariants.{Digits, WithoutDigits, NoRoom}

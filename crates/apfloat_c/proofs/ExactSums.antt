@@ -1,7 +1,6 @@
 -- The terms of an exact sum of arrays, one after another, and the one answer of a call.
-use Rattle.std.proofs.Common.{◌≡◌, ℕ, suc, ◌+◌, ◌-◌, ◌*◌, ◌/◌, ◌%◌, ◌<◌, ◌≤◌}
-use Rattle.std.proofs.Common.{lit≤, Bool, true, false, List, Option, Some, None, Ok, Err, Result, refl, sym, ap}
-use Rattle.std.proofs.Common.{◌∙◌, subst, arith}
+use Rattle.std.proofs.Common.{◌≡◌, ℕ, suc, ◌+◌, ◌-◌, ◌*◌, ◌/◌, ◌%◌, ◌<◌, ◌≤◌, lit≤, Bool, true, false, List, Option}
+use Rattle.std.proofs.Common.{Some, None, Ok, Err, Result, refl, sym, ap, ◌∙◌, subst, arith}
 use Rattle.std.proofs.Math.Path.{subst₂}
 use Rattle.std.proofs.lemmas.{Bool.and_parts, Bool.eqb-true, Bool.false≢true, Nat.div-add-mod'}
 use Rattle.std.specs.Prelude.{◌==◌, if◌then◌else◌, ok_or}
@@ -12,12 +11,12 @@ use Rattle.exact_reductions.specs.Reductions.{IsReducible, IsTotal, Tally, joine
 use Rattle.exact_reductions.specs.Reductions.{no_terms, product_terms, tally, tally_of, value_terms}
 use Rattle.exact_reductions.proofs.Laws.{total_once}
 use Rattle.exact_reductions.proofs.Tallies.{IsUnderWay, all_done, none_joined, one_done, product_one, value_one}
+use Rattle.formats_at_run_time.specs.{BuiltIns.constants_in, FlaggedKinds.flagged_constants}
+use Rattle.formats_at_run_time.specs.{FlaggedKinds.format_of_ieee, Relations.in_format, ValueKinds.value_of}
 use Rattle.formats_at_run_time.specs.declared.BuiltInFormat.{BuiltInFormat, TheVariants.Quad}
 use Rattle.formats_at_run_time.specs.declared.FlaggedFormat.{FlaggedFormat}
 use Rattle.formats_at_run_time.specs.declared.FlaggedFormat.TheVariants.{BuiltIn, AfterRounding, BeforeRounding}
 use Rattle.formats_at_run_time.specs.declared.FlaggedKind.{FlaggedKind, TheVariants.OfFormat, TheVariants.Pairs}
-use Rattle.formats_at_run_time.specs.{BuiltIns.constants_in, FlaggedKinds.flagged_constants}
-use Rattle.formats_at_run_time.specs.{FlaggedKinds.format_of_ieee, Relations.in_format, ValueKinds.value_of}
 use Rattle.formats_at_run_time.proofs.FormatLaws.{HasLaw, format_law}
 use Rattle.apfloat_arrays.specs.{Blocks.value_at, Bytes.number_of}
 use Rattle.coded_calls.specs.declared.data.Answer.{Answer}

@@ -1,17 +1,16 @@
 -- Elements that are looked up in a table.
-use Rattle.std.proofs.Common.{◌≡◌, ℕ, ◌+◌, ◌-◌, ◌*◌, ◌/◌, ◌%◌, ◌^◌, ◌<◌, ◌≤◌}
-use Rattle.std.proofs.Common.{List, [], ◌∷◌, length, get_or, take, drop, zero, suc, ⊎_elim, refl, sym, subst}
-use Rattle.std.proofs.Common.{ap, ◌∙◌, arith}
+use Rattle.std.proofs.Common.{◌≡◌, ℕ, ◌+◌, ◌-◌, ◌*◌, ◌/◌, ◌%◌, ◌^◌, ◌<◌, ◌≤◌, List, [], ◌∷◌, length, get_or, take, drop}
+use Rattle.std.proofs.Common.{zero, suc, ⊎_elim, refl, sym, subst, ap, ◌∙◌, arith}
 use Rattle.std.proofs.Math.{Path.subst₃, Path.ap₂, ListN.drop_of_length-le}
 use Rattle.std.proofs.lemmas.{Bool.cases_lt, List.drop_more, Option.IfSome_then}
 use Rattle.std.specs.Prelude.{slice_range, slice_get}
-use Rattle.apfloat_arrays.specs.declared.{Counts.Counts, Tally.Tally}
 use Rattle.apfloat_arrays.specs.{Blocks.AreInPlaces, Blocks.value_at, Bytes.number_of, Entries.AreEntries}
 use Rattle.apfloat_arrays.specs.{Entries.AreLookedUp, Tallies.counts_with, Tallies.packed_of}
+use Rattle.apfloat_arrays.specs.declared.{Counts.Counts, Tally.Tally}
 use Rattle.apfloat_arrays.proofs.TalliedResults.{are_entries, entries_more, looked_up, tally_most}
+use Rattle.apfloat_c.specs.{ArrayCalls.bytes_in, Arrays.AreElements, Arrays.IsElement}
 use Rattle.apfloat_c.specs.declared.array_calls.MapCall.{MapCall}
 use Rattle.apfloat_c.specs.declared.array_data.{Element.Element, ElementCounts.ElementCounts}
-use Rattle.apfloat_c.specs.{ArrayCalls.bytes_in, Arrays.AreElements, Arrays.IsElement}
 use Rattle.apfloat_c.specs.OperationTables.{IsEntry, IsResultAt, IsTable, element_tally}
 use Rattle.apfloat_c.proofs.ElementCalls.{result_fits}
 use borrow.Rule.Slice.PartMut.{put_mid}

@@ -1,6 +1,5 @@
 -- A decimal text is read in one way: one code, and one result.
-use Rattle.std.proofs.Common.{◌≡◌, ℕ, true, false, List, Option, None, Some, Ok, Err, sym, ◌∙◌, subst}
-use Rattle.std.proofs.Common.{inl, inr, lit<}
+use Rattle.std.proofs.Common.{◌≡◌, ℕ, true, false, List, Option, None, Some, Ok, Err, sym, ◌∙◌, subst, inl, inr, lit<}
 use Rattle.std.specs.Prelude.{IsTrue, is_some}
 use Rattle.rustc_apfloat.specs.{declared.Round.Round, Flags.bits_of, Lawful.format_with, PairFormats.wide}
 use Rattle.apfloat_model.specs.declared.parse_error.Fault.{Fault}

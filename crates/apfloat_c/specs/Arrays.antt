@@ -1,30 +1,29 @@
 -- What calls on arrays leave.
-use Rattle.std.specs.Prelude.{◌≡◌, ℕ, ◌+◌, ◌-◌, ◌*◌, ◌/◌, ◌^◌, ◌<◌, ◌⊎◌, ◌==◌}
-use Rattle.std.specs.Prelude.{bit_and, Bool, not, if◌then◌else◌, List, length, take, drop, count_by, Result, Ok}
-use Rattle.std.specs.Prelude.{Err}
-use Rattle.rustc_apfloat.specs.Classes.{is_nan, is_nan_category}
+use Rattle.std.specs.Prelude.{◌≡◌, ℕ, ◌+◌, ◌-◌, ◌*◌, ◌/◌, ◌^◌, ◌<◌, ◌⊎◌, ◌==◌, bit_and, Bool, not, if◌then◌else◌, List}
+use Rattle.std.specs.Prelude.{length, take, drop, count_by, Result, Ok, Err}
 use Rattle.rustc_apfloat.specs.{Datum.Datum, Lawful.Constants, Lawful.format_with, Pairs.pair_category, Pairs.pair_of}
 use Rattle.rustc_apfloat.specs.{Products.IsProduct, Quotients.IsQuotient, Remainders.IsNearestRemainder}
 use Rattle.rustc_apfloat.specs.{Remainders.IsTruncatedRemainder, Sums.IsDifference, Sums.IsSum, declared.Round.Round}
+use Rattle.rustc_apfloat.specs.Classes.{is_nan, is_nan_category}
+use Rattle.formats_at_run_time.specs.{declared.FlaggedKind.FlaggedKind, BuiltIns.constants_in}
 use Rattle.formats_at_run_time.specs.declared.Arithmetic.{Arithmetic}
 use Rattle.formats_at_run_time.specs.declared.Arithmetic.TheVariants.{Sum, Difference, Product, Quotient}
 use Rattle.formats_at_run_time.specs.declared.Arithmetic.TheVariants.{NearestRemainder, TruncatedRemainder}
-use Rattle.formats_at_run_time.specs.{declared.FlaggedKind.FlaggedKind, BuiltIns.constants_in}
 use Rattle.formats_at_run_time.specs.FlaggedKinds.{flagged_constants, flagged_kind_of}
 use Rattle.formats_at_run_time.specs.ValueKinds.{Kind, of_format, of_pairs, value_of}
-use Rattle.apfloat_arrays.specs.declared.{Counts.Counts, Outcome.Outcome}
 use Rattle.apfloat_arrays.specs.{Blocks.AreInPlaces, Blocks.IsBlock, Blocks.value_at, Bytes.number_of}
 use Rattle.apfloat_arrays.specs.{Outcomes.HaveRoom, Outcomes.one_if, Values.IsConvertedBy, stored.Arrays.IsConverted}
+use Rattle.apfloat_arrays.specs.declared.{Counts.Counts, Outcome.Outcome}
+use Rattle.coded_calls.specs.{KnownCalls.answered, Answers.IsKindAnswer, Answers.whole}
 use Rattle.coded_calls.specs.declared.{data.Answer.Answer, exported_call.ExportedCall.ExportedCall}
 use Rattle.coded_calls.specs.declared.exported_call.ExportedCall.TheVariants.{OfTwo as CallOfTwo}
 use Rattle.coded_calls.specs.declared.exported_call.ExportedCall.TheVariants.{FusedSum as CallFusedSum}
 use Rattle.coded_calls.specs.declared.exported_call.ExportedCall.TheVariants.{SquareRoot as CallSquareRoot}
-use Rattle.coded_calls.specs.{KnownCalls.answered, Answers.IsKindAnswer, Answers.whole}
 use Rattle.apfloat_c.specs.declared.array_data.{ArrayAnswer.ArrayAnswer, Element.Element, ElementCounts.ElementCounts}
+use Rattle.apfloat_c.specs.declared.array_calls.{KnownConversion.TheVariants.Storage, MapCall.MapCall}
 use Rattle.apfloat_c.specs.declared.array_calls.ElementOperation.{ElementOperation}
 use Rattle.apfloat_c.specs.declared.array_calls.ElementOperation.TheVariants.{OfTwo, FusedSum, SquareRoot}
 use Rattle.apfloat_c.specs.declared.array_calls.KnownConversion.{KnownConversion, TheVariants.BuiltIn}
-use Rattle.apfloat_c.specs.declared.array_calls.{KnownConversion.TheVariants.Storage, MapCall.MapCall}
 use Rattle.apfloat_c.specs.ArrayCalls.{bytes_in, conversion_widths}
 
 -- ---- counts

@@ -1,23 +1,21 @@
 -- Decimals: texts as values, and the texts of values.
-use Rattle.std.specs.Prelude.{◌≡◌, ◌⊎◌, ℕ, ◌-◌, ◌/◌, ◌%◌, ◌^◌, ◌<◌, IsTrue, List}
-use Rattle.std.specs.Prelude.{◌++◌, codes, length, replicate, ◌&&◌, eqb, ltb, if◌then◌else◌, pos, Option}
-use Rattle.std.specs.Prelude.{Some, None, MatchOption, is_some, ok_or, Result, Ok, Err}
-use Rattle.std.specs.Char.{is_ascii}
+use Rattle.std.specs.Prelude.{◌≡◌, ◌⊎◌, ℕ, ◌-◌, ◌/◌, ◌%◌, ◌^◌, ◌<◌, IsTrue, List, ◌++◌, codes, length, replicate, ◌&&◌}
+use Rattle.std.specs.Prelude.{eqb, ltb, if◌then◌else◌, pos, Option, Some, None, MatchOption, is_some, ok_or, Result, Ok}
+use Rattle.std.specs.{Prelude.Err, Char.is_ascii}
 use Rattle.rustc_apfloat.specs.{declared.Round.Round, Datum.Datum, Datum.finite, Datum.infinite, Datum.nan}
 use Rattle.rustc_apfloat.specs.{Digits.every, Flags.Gives, Format.Format, Lawful.Constants, Lawful.format_with}
+use Rattle.apfloat_decimals.specs.{ShortestSearch.IsShortestOf, Texts.decimal_text, Texts.sign_text}
 use Rattle.apfloat_decimals.specs.declared.decimal.Decimal.{Decimal}
 use Rattle.apfloat_decimals.specs.DecimalTexts.{IsDecimalReading, decimal_fault_of}
-use Rattle.apfloat_decimals.specs.{ShortestSearch.IsShortestOf, Texts.decimal_text, Texts.sign_text}
 use Rattle.apfloat_digits.specs.of_double_doubles.PairReadings.{IsPairDecimalReading}
+use Rattle.formats_at_run_time.specs.{BuiltIns.constants_in, BuiltIns.kind_of, Relations.in_format, Relations.in_pairs}
 use Rattle.formats_at_run_time.specs.declared.{BuiltInFormat.BuiltInFormat, BuiltInKind.BuiltInKind}
 use Rattle.formats_at_run_time.specs.declared.BuiltInKind.TheVariants.{OfFormat as OfBuiltIn, Pairs as PairsOfDoubles}
 use Rattle.formats_at_run_time.specs.declared.FlaggedFormat.TheVariants.{BuiltIn, AfterRounding, BeforeRounding}
 use Rattle.formats_at_run_time.specs.declared.FlaggedKind.{FlaggedKind, TheVariants.OfFormat, TheVariants.Pairs}
-use Rattle.formats_at_run_time.specs.{BuiltIns.constants_in, BuiltIns.kind_of, Relations.in_format, Relations.in_pairs}
 use Rattle.formats_at_run_time.specs.ValueKinds.{Kind, of_format, of_pairs, value_of}
 use Rattle.coded_calls.specs.{declared.data.Answer.Answer, Answers.IsValue}
-use Rattle.coded_calls.specs.KnownCalls.{◌>>=◌, answered, no_such_operation, refused_text, unknown_format}
-use Rattle.coded_calls.specs.KnownCalls.{unknown_mode}
+use Rattle.coded_calls.specs.KnownCalls.{◌>>=◌, answered, no_such_operation, refused_text, unknown_format, unknown_mode}
 use Rattle.apfloat_c.specs.declared.decimals.{DecimalText.DecimalText, Shortest.Shortest}
 use Rattle.apfloat_c.specs.declared.decimals.Shortest.TheVariants.{Number, Infinity, Nan}
 

@@ -1,14 +1,13 @@
 -- Exact sums of arrays, rounded once.
-use Rattle.std.specs.Prelude.{◌≡◌, ℕ, zero, suc, ◌+◌, ◌/◌, ◌%◌, ◌==◌, Bool, true, false}
-use Rattle.std.specs.Prelude.{◌&&◌, if◌then◌else◌, List, [], ◌∷◌, length, Option, Some, None, ok_or}
-use Rattle.std.specs.Prelude.{Result, Ok, Err}
+use Rattle.std.specs.Prelude.{◌≡◌, ℕ, zero, suc, ◌+◌, ◌/◌, ◌%◌, ◌==◌, Bool, true, false, ◌&&◌, if◌then◌else◌, List, []}
+use Rattle.std.specs.Prelude.{◌∷◌, length, Option, Some, None, ok_or, Result, Ok, Err}
 use Rattle.rustc_apfloat.specs.{declared.Round.Round, Datum.Datum, Flags.Gives, Format.Format}
 use Rattle.rustc_apfloat.specs.Lawful.{Constants, format_with}
 use Rattle.apfloat_model.specs.{rounding.Outcome.Outcome, arithmetic.Products.product}
 use Rattle.exact_reductions.specs.Reductions.{IsDot, IsSumOf, IsSumOfMagnitudes, magnitude_of, value_term}
+use Rattle.formats_at_run_time.specs.{FlaggedKinds.flagged_constants, Relations.in_format, ValueKinds.value_of}
 use Rattle.formats_at_run_time.specs.declared.{FlaggedFormat.FlaggedFormat, FlaggedKind.FlaggedKind}
 use Rattle.formats_at_run_time.specs.declared.FlaggedKind.TheVariants.{OfFormat, Pairs}
-use Rattle.formats_at_run_time.specs.{FlaggedKinds.flagged_constants, Relations.in_format, ValueKinds.value_of}
 use Rattle.apfloat_arrays.specs.{Blocks.value_at, Bytes.number_of}
 use Rattle.coded_calls.specs.{declared.data.Answer.Answer, Answers.IsValue}
 use Rattle.coded_calls.specs.KnownCalls.{◌>>=◌, answered, no_such_operation, unknown_format, unknown_mode}

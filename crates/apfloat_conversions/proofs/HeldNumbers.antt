@@ -1,24 +1,18 @@
 -- Numbers of a shape in another shape that has them: all of its numbers, or those with a given exponent.
-use Rattle.std.proofs.Common.{◌≡◌, ℕ, ◌+◌, ◌-◌, ◌*◌, ◌%◌, ◌^◌, ◌<◌, ◌≤◌, Bool, false, ℤ, ◌-ℤ◌, sym, refl, ap, ◌∙◌, ⊎_elim, arith}
+use Rattle.std.proofs.Common.{◌≡◌, ℕ, ◌+◌, ◌-◌, ◌*◌, ◌%◌, ◌^◌, ◌<◌, ◌≤◌, Bool}
+use Rattle.std.proofs.Common.{false, ℤ, ◌-ℤ◌, sym, refl, ap, ◌∙◌, ⊎_elim, arith}
 use Rattle.std.proofs.Math.Nat.{mul-le-mul_right, pow-le-pow_right, mod-eq_of_lt, eq_of_mul-eq-mul_right}
-use Rattle.std.proofs.lemmas.Nat.{pow-add, pow_pos}
-use Rattle.std.proofs.lemmas.Int.{ints}
-use Rattle.apfloat_model.specs.declared.kinds.Round.{Round}
-use Rattle.apfloat_model.specs.arithmetic.Conversions.{IsConvertedNumber}
-use Rattle.apfloat_model.specs.formats.Datum.{Datum, finite}
-use Rattle.apfloat_model.specs.arithmetic.Exact.{up, down}
+use Rattle.std.proofs.lemmas.{Nat.pow-add, Nat.pow_pos, Int.ints}
+use Rattle.apfloat_model.specs.{declared.kinds.Round.Round, arithmetic.Conversions.IsConvertedNumber}
+use Rattle.apfloat_model.specs.{arithmetic.Exact.up, arithmetic.Exact.down, formats.Datum.Datum, formats.Datum.finite}
 use Rattle.apfloat_model.specs.formats.Format.{Format, largest, greatest_significand}
-use Rattle.apfloat_model.specs.formats.Members.{IsFiniteOf}
-use Rattle.apfloat_model.specs.rounding.Rounding.{ok_bits}
-use Rattle.apfloat_model.proofs.rounding.Deliveries.{signed_some}
-use Rattle.apfloat_model.proofs.formats.Greatest.{greatest_fits, greatest_full}
-use Rattle.apfloat_model.proofs.rounding.KeptDigits.{fits_shifted, full_shifted}
-use Rattle.apfloat_model.proofs.rounding.Laws.{exact_delivered}
-use Rattle.apfloat_model.proofs.general.Powers.{both_above_zero, both_above_zero, pow3, two_pos}
-use Rattle.apfloat_model.proofs.arithmetic.SingleScalings.{scaled_stands}
+use Rattle.apfloat_model.specs.{formats.Members.IsFiniteOf, rounding.Rounding.ok_bits}
+use Rattle.apfloat_model.proofs.rounding.{Deliveries.signed_some, KeptDigits.fits_shifted, KeptDigits.full_shifted}
+use Rattle.apfloat_model.proofs.{rounding.Laws.exact_delivered, formats.Greatest.greatest_fits}
+use Rattle.apfloat_model.proofs.{formats.Greatest.greatest_full, general.Powers.both_above_zero, general.Powers.pow3}
+use Rattle.apfloat_model.proofs.{general.Powers.two_pos, arithmetic.SingleScalings.scaled_stands}
 use Rattle.apfloat_words.proofs.Totals.{no_down}
-use Rattle.apfloat_rounding.specs.declared.shape.Shape.{Shape}
-use Rattle.apfloat_rounding.specs.Shapes.{format_at}
+use Rattle.apfloat_rounding.specs.{declared.shape.Shape.Shape, Shapes.format_at}
 use Rattle.apfloat_rounding.specs.Stored.{IsNormalAt, IsQuantaAt, quanta_at}
 use Rattle.apfloat_rounding.proofs.StoredNumbers.{quanta_is, whole_is}
 use Rattle.apfloat_rounding.proofs.ShapeExponents.{scale_is, span_is}

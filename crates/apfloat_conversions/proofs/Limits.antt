@@ -1,21 +1,16 @@
 -- Integers of a given number of binary digits, and the ends of their range.
-use Rattle.std.proofs.Common.{◌≡◌, ℕ, ◌+◌, ◌-◌, ◌*◌, ◌/◌, ◌^◌, ◌<◌, ◌≤◌, Bool, true, false, cond, ◌&&◌, eqb, sym, refl, ap, ◌∙◌, subst, ⊎_elim, arith, pos, neg_ℤ, ◌≤ℤ◌, int_lt}
-use Rattle.std.proofs.Math.Bool.{and-true}
-use Rattle.std.proofs.Math.Nat.{div-eq_of_lt-le}
-use Rattle.std.proofs.lemmas.Nat.{pow-add, pow_pos}
-use Rattle.std.proofs.lemmas.Int.{ints}
-use Rattle.std.proofs.lemmas.Bool.{cases_lt, ne_eqb}
-use Rattle.apfloat_model.specs.declared.kinds.Round.{Round}
-use Rattle.apfloat_model.specs.formats.Format.{Format}
-use Rattle.apfloat_model.specs.formats.Datum.{finite}
+use Rattle.std.proofs.Common.{◌≡◌, ℕ, ◌+◌, ◌-◌, ◌*◌, ◌/◌, ◌^◌, ◌<◌, ◌≤◌, Bool, true, false, cond, ◌&&◌, eqb, sym, refl}
+use Rattle.std.proofs.Common.{ap, ◌∙◌, subst, ⊎_elim, arith, pos, neg_ℤ, ◌≤ℤ◌, int_lt}
+use Rattle.std.proofs.Math.{Bool.and-true, Nat.div-eq_of_lt-le}
+use Rattle.std.proofs.lemmas.{Nat.pow-add, Nat.pow_pos, Int.ints, Bool.cases_lt, Bool.ne_eqb}
+use Rattle.apfloat_model.specs.{declared.kinds.Round.Round, formats.Format.Format, formats.Datum.finite}
 use Rattle.apfloat_model.specs.arithmetic.Exact.{signed}
 use Rattle.apfloat_model.specs.whole_numbers.WholeNumbers.{whole_pick, whole_quanta, inexact_unless}
-use Rattle.apfloat_model.specs.rounding.Flags.{bits_of}
 use Rattle.apfloat_model.specs.whole_numbers.WholeNumbersOut.{IsToUnsigned, to_unsigned, ranged, exact_or_not}
+use Rattle.apfloat_model.specs.rounding.Flags.{bits_of}
 use Rattle.apfloat_model.proofs.general.Choices.{no_zero}
 use Rattle.apfloat_model.proofs.whole_numbers.SignedTests.{less_so, less_not}
-use Rattle.apfloat_conversions.specs.declared.integers.Unsigned.{Unsigned}
-use Rattle.apfloat_conversions.specs.Results.{GivesWhole, IsLimited}
+use Rattle.apfloat_conversions.specs.{declared.integers.Unsigned.Unsigned, Results.GivesWhole, Results.IsLimited}
 
 -- the same integer, also without a sign
 pub same_number : (m n : ℕ) → pos m ≡ pos n → m ≡ n

@@ -1,16 +1,14 @@
 -- The neighbours of a number of the grid, its logarithm and its fraction.
-use Rattle.std.proofs.Common.{◌≡◌, ℕ, ◌+◌, ◌-◌, ◌*◌, ◌^◌, ◌<◌, ◌≤◌, ◌⊎◌, sym, refl, ap, ◌∙◌, subst, inl, inr, ⊎_elim, arith, zero, suc, lit<, ℤ, pos, negsuc, neg_ℤ, ◌+ℤ◌, ◌-ℤ◌, ◌≤ℤ◌}
-use Rattle.std.proofs.Math.Path.{subst₂}
-use Rattle.std.proofs.Math.Nat.{mul-le-mul_right, mul-le-mul_left, pow-le-pow_right, mul-lt-mul_of_pos_right, lt_of_mul-lt-mul_right, le_of_mul-le-mul_right, eq_of_mul-eq-mul_right}
-use Rattle.std.proofs.lemmas.Nat.{pow-add, pow_pos}
-use Rattle.std.proofs.lemmas.Int.{ints}
+use Rattle.std.proofs.{Math.Nat.eq_of_mul-eq-mul_right, lemmas.Nat.pow-add, lemmas.Nat.pow_pos, lemmas.Int.ints}
+use Rattle.std.proofs.Common.{◌≡◌, ℕ, ◌+◌, ◌-◌, ◌*◌, ◌^◌, ◌<◌, ◌≤◌, ◌⊎◌, sym, refl, ap, ◌∙◌, subst, inl, inr, ⊎_elim}
+use Rattle.std.proofs.Common.{arith, zero, suc, lit<, ℤ, pos, negsuc, neg_ℤ, ◌+ℤ◌, ◌-ℤ◌, ◌≤ℤ◌}
+use Rattle.std.proofs.Math.{Path.subst₂, Nat.mul-le-mul_right, Nat.mul-le-mul_left, Nat.pow-le-pow_right}
+use Rattle.std.proofs.Math.Nat.{mul-lt-mul_of_pos_right, lt_of_mul-lt-mul_right, le_of_mul-le-mul_right}
+use Rattle.apfloat_model.specs.{rounding.Standing.down, arithmetic.Exponents.IsLogarithm}
 use Rattle.apfloat_model.specs.declared.kinds.NonfiniteBehavior.{NonfiniteBehavior}
 use Rattle.apfloat_model.specs.declared.kinds.NonfiniteBehavior.TheVariants.{IEEE754, NanOnly, NanNegativeZero}
 use Rattle.apfloat_model.specs.formats.Format.{Format, largest, greatest_significand}
-use Rattle.apfloat_model.specs.rounding.Grid.{IsOnGrid, IsBelow, IsAbove}
-use Rattle.apfloat_model.specs.rounding.Enclosure.{IsEnclosed}
-use Rattle.apfloat_model.specs.arithmetic.Exponents.{IsLogarithm}
-use Rattle.apfloat_model.specs.rounding.Standing.{up, down}
+use Rattle.apfloat_model.specs.rounding.{Grid.IsOnGrid, Grid.IsBelow, Grid.IsAbove, Enclosure.IsEnclosed, Standing.up}
 use Rattle.apfloat_model.proofs.general.Powers.{two_pos, twice_half}
 use Rattle.apfloat_model.proofs.rounding.Laws.{exact_below, zero_on_grid}
 use Rattle.apfloat_model.proofs.rounding.Neighbours.{next_multiple, next_on_grid, none_between, below_is}

@@ -1,11 +1,8 @@
 -- The fraction of a stored number.
 use Rattle.std.proofs.Common.{ℕ, ◌-◌, ◌*◌, ◌^◌, ◌<◌, ◌≤◌, arith, ℤ, negsuc, ◌-ℤ◌}
 use Rattle.std.proofs.lemmas.Nat.{pow_pos}
-use Rattle.apfloat_model.specs.formats.Format.{largest}
-use Rattle.apfloat_model.specs.rounding.Standing.{up}
-use Rattle.apfloat_rounding.specs.declared.shape.Shape.{Shape}
-use Rattle.apfloat_rounding.specs.Shapes.{format_at}
-use Rattle.apfloat_rounding.specs.Stored.{IsNormalAt}
+use Rattle.apfloat_model.specs.{formats.Format.largest, rounding.Standing.up}
+use Rattle.apfloat_rounding.specs.{declared.shape.Shape.Shape, Shapes.format_at, Stored.IsNormalAt}
 use Rattle.apfloat_rounding.proofs.ShapeExponents.{scale_is}
 use Rattle.apfloat_conversions.proofs.StoredExponents.{scale_in_span, half_within, number_of}
 use Rattle.apfloat_conversions.proofs.Nexts.{logarithm_is, fraction_operand, fraction_quanta, fraction_low}

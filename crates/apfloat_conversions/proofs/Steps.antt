@@ -1,27 +1,21 @@
 -- A stored number and its neighbours.
-use Rattle.std.proofs.Common.{◌≡◌, ℕ, ◌+◌, ◌-◌, ◌*◌, ◌^◌, ◌<◌, ◌≤◌, true, false, eqb, sym, refl, ap, ◌∙◌, subst, ⊎_elim, arith, ℤ, pos, ◌+ℤ◌, ◌-ℤ◌, ◌≤ℤ◌}
-use Rattle.std.proofs.lemmas.Nat.{pow-add, pow_pos}
-use Rattle.std.proofs.lemmas.Int.{ints}
-use Rattle.std.proofs.lemmas.Bool.{ne_eqb}
-use Rattle.apfloat_model.specs.formats.Format.{largest, greatest_significand}
-use Rattle.apfloat_model.specs.formats.Datum.{finite}
-use Rattle.apfloat_model.specs.rounding.Grid.{IsBelow, IsAbove}
-use Rattle.apfloat_model.specs.rounding.Rounding.{zero_sign}
+use Rattle.std.proofs.Common.{◌≡◌, ℕ, ◌+◌, ◌-◌, ◌*◌, ◌^◌, ◌<◌, ◌≤◌, true, false, eqb, sym, refl, ap, ◌∙◌, subst, ⊎_elim}
+use Rattle.std.proofs.Common.{arith, ℤ, pos, ◌+ℤ◌, ◌-ℤ◌, ◌≤ℤ◌}
+use Rattle.std.proofs.lemmas.{Nat.pow-add, Nat.pow_pos, Int.ints, Bool.ne_eqb}
+use Rattle.apfloat_model.specs.formats.{Format.largest, Format.greatest_significand, Datum.finite}
+use Rattle.apfloat_model.specs.rounding.{Grid.IsBelow, Grid.IsAbove, Rounding.zero_sign, Standing.up, Standing.down}
 use Rattle.apfloat_model.specs.arithmetic.NextUp.{IsNextGreater, IsNextLess}
-use Rattle.apfloat_model.specs.rounding.Standing.{up, down}
-use Rattle.apfloat_model.proofs.rounding.Deliveries.{signed_some}
-use Rattle.apfloat_model.proofs.arithmetic.Signs.{one_side}
-use Rattle.apfloat_model.proofs.general.Powers.{twice_half}
+use Rattle.apfloat_model.proofs.{rounding.Deliveries.signed_some, arithmetic.Signs.one_side}
 use Rattle.apfloat_model.proofs.arithmetic.SingleScalings.{up_le, up_far, quanta_below}
-use Rattle.apfloat_model.proofs.general.Choices.{eqb_times}
-use Rattle.apfloat_rounding.specs.declared.shape.Shape.{Shape}
-use Rattle.apfloat_rounding.specs.Shapes.{format_at}
+use Rattle.apfloat_model.proofs.general.{Powers.twice_half, Choices.eqb_times}
+use Rattle.apfloat_rounding.specs.{declared.shape.Shape.Shape, Shapes.format_at}
 use Rattle.apfloat_rounding.specs.Stored.{IsOperandAt, IsQuantaAt, IsNormalAt, quanta_at}
-use Rattle.apfloat_rounding.proofs.StoredBack.{quanta_some}
-use Rattle.apfloat_rounding.proofs.StoredNumbers.{quanta_is}
-use Rattle.apfloat_rounding.proofs.ShapeExponents.{span_is}
+use Rattle.apfloat_rounding.proofs.{StoredBack.quanta_some, StoredNumbers.quanta_is, ShapeExponents.span_is}
 use Rattle.apfloat_conversions.proofs.StoredExponents.{half_within, number_of}
-use Rattle.apfloat_conversions.proofs.Nexts.{operand_down, step_room, step_small, step_within, step_above, next_is, next_within, less_is, least_less, stepped_by, stepped_down_by, stays_operand, carries_operand, carried_quanta, lowered_quanta, lowered_operand, room_above, room_cases}
+use Rattle.apfloat_conversions.proofs.Nexts.{operand_down, step_room, step_small, step_within, step_above, next_is}
+use Rattle.apfloat_conversions.proofs.Nexts.{next_within, less_is, least_less, stepped_by, stepped_down_by}
+use Rattle.apfloat_conversions.proofs.Nexts.{stays_operand, carries_operand, carried_quanta, lowered_quanta}
+use Rattle.apfloat_conversions.proofs.Nexts.{lowered_operand, room_above, room_cases}
 
 -- a shape has at least one digit
 some : (shape : Shape) → 0 < shape.precision

@@ -1,27 +1,20 @@
 -- A stored number and its exponent, in the format of its shape.
-use Rattle.std.proofs.Common.{◌≡◌, ℕ, ◌+◌, ◌-◌, ◌*◌, ◌^◌, ◌<◌, ◌≤◌, Bool, sym, ap, ◌∙◌, subst, arith, ℤ, pos, ◌+ℤ◌, ◌-ℤ◌, ◌≤ℤ◌, to_z, of_z, w32}
-use Rattle.std.proofs.lemmas.Int.{ints}
-use Rattle.std.proofs.lemmas.Nat.{pow-add, pow_pos}
+use Rattle.std.proofs.Common.{◌≡◌, ℕ, ◌+◌, ◌-◌, ◌*◌, ◌^◌, ◌<◌, ◌≤◌, Bool, sym, ap}
+use Rattle.std.proofs.Common.{◌∙◌, subst, arith, ℤ, pos, ◌+ℤ◌, ◌-ℤ◌, ◌≤ℤ◌, to_z, of_z, w32}
+use Rattle.std.proofs.lemmas.{Int.ints, Nat.pow-add, Nat.pow_pos}
 use Rattle.std.proofs.Math.Nat.{mul-le-mul_right, mul-le-mul_left, mul-lt-mul_of_pos_right, pow-le-pow_right}
-use Rattle.apfloat_model.specs.declared.kinds.Round.{Round}
-use Rattle.apfloat_model.specs.declared.loss.Loss.TheVariants.{ExactlyZero}
-use Rattle.apfloat_model.specs.formats.Format.{Format, largest, greatest_significand}
-use Rattle.apfloat_model.specs.formats.Datum.{Datum, finite}
-use Rattle.apfloat_model.specs.rounding.Bounds.{scaling_bound, span_bound}
-use Rattle.apfloat_model.specs.rounding.Rounding.{ok_bits, IsDelivered, zero_sign}
-use Rattle.apfloat_model.specs.arithmetic.Scaling.{IsScaling}
-use Rattle.apfloat_model.specs.rounding.Standing.{StandsFor, up, down}
-use Rattle.apfloat_model.proofs.general.Powers.{two_pos}
-use Rattle.apfloat_model.proofs.formats.Greatest.{greatest_full}
-use Rattle.apfloat_model.proofs.arithmetic.Tables.{scaling_zero}
-use Rattle.apfloat_model.proofs.texts.ZeroTexts.{zero_text}
-use Rattle.apfloat_model.proofs.arithmetic.SingleScalings.{IsClamped, up_le, quanta_below, scaled_is, scaled_stands, clamp_kept}
-use Rattle.apfloat_rounding.specs.declared.shape.Shape.{Shape}
-use Rattle.apfloat_rounding.specs.Shapes.{format_at}
+use Rattle.apfloat_model.specs.declared.{kinds.Round.Round, loss.Loss.TheVariants.ExactlyZero}
+use Rattle.apfloat_model.specs.formats.{Format.Format, Format.largest, Format.greatest_significand, Datum.Datum}
+use Rattle.apfloat_model.specs.{formats.Datum.finite, rounding.Bounds.scaling_bound, rounding.Bounds.span_bound}
+use Rattle.apfloat_model.specs.rounding.{Rounding.ok_bits, Rounding.IsDelivered, Rounding.zero_sign, Standing.StandsFor}
+use Rattle.apfloat_model.specs.{rounding.Standing.up, rounding.Standing.down, arithmetic.Scaling.IsScaling}
+use Rattle.apfloat_model.proofs.{general.Powers.two_pos, formats.Greatest.greatest_full, arithmetic.Tables.scaling_zero}
+use Rattle.apfloat_model.proofs.arithmetic.SingleScalings.{IsClamped, up_le, quanta_below, scaled_is, scaled_stands}
+use Rattle.apfloat_model.proofs.{arithmetic.SingleScalings.clamp_kept, texts.ZeroTexts.zero_text}
+use Rattle.apfloat_rounding.specs.{declared.shape.Shape.Shape, Shapes.format_at}
 use Rattle.apfloat_rounding.specs.Stored.{IsOperandAt, IsQuantaAt, IsNormalAt, quanta_at}
-use Rattle.apfloat_rounding.proofs.StoredBack.{quanta_some}
-use Rattle.apfloat_rounding.proofs.ShapeExponents.{exponent_word, scale_is, span_is}
-use Rattle.apfloat_rounding.proofs.StoredNumbers.{quanta_is, whole_is}
+use Rattle.apfloat_rounding.proofs.{StoredBack.quanta_some, ShapeExponents.exponent_word, ShapeExponents.scale_is}
+use Rattle.apfloat_rounding.proofs.{ShapeExponents.span_is, StoredNumbers.quanta_is, StoredNumbers.whole_is}
 use Rattle.apfloat_conversions.specs.Scalings.{IsScaled}
 use Rattle.apfloat_conversions.proofs.Wholes.{up_of, places_up, places_down}
 

@@ -1,31 +1,23 @@
 -- Conversion to signed integers, from the unsigned integer of the magnitude.
-use Rattle.std.proofs.Common.{◌≡◌, ℕ, ◌+◌, ◌-◌, ◌*◌, ◌/◌, ◌%◌, ◌^◌, ◌<◌, ◌≤◌, Bool, true, false, not, cond, ◌&&◌, eqb, sym, refl, ap, ◌∙◌, subst, ⊎_elim, arith, ℤ, pos, neg_ℤ, ◌≤ℤ◌, int_lt}
-use Rattle.std.proofs.Math.Bool.{and-true, and-false}
-use Rattle.std.proofs.Math.Nat.{pow-le-pow_right}
-use Rattle.std.proofs.lemmas.Nat.{pow_pos}
-use Rattle.std.proofs.lemmas.Int.{ints}
-use Rattle.std.proofs.lemmas.Bool.{cases_lt, cases_eq, eq-eqb, ne_eqb, false≢true}
+use Rattle.std.proofs.{Math.Bool.and-true, Math.Bool.and-false, Math.Nat.pow-le-pow_right, lemmas.Nat.pow_pos}
+use Rattle.std.proofs.Common.{◌≡◌, ℕ, ◌+◌, ◌-◌, ◌*◌, ◌/◌, ◌%◌, ◌^◌, ◌<◌, ◌≤◌, Bool, true, false, not, cond, ◌&&◌, eqb}
+use Rattle.std.proofs.Common.{sym, refl, ap, ◌∙◌, subst, ⊎_elim, arith, ℤ, pos, neg_ℤ, ◌≤ℤ◌, int_lt}
+use Rattle.std.proofs.lemmas.{Int.ints, Bool.cases_lt, Bool.cases_eq, Bool.eq-eqb, Bool.ne_eqb, Bool.false≢true}
+use Rattle.apfloat_model.specs.{arithmetic.Exact.signed, order.Classes.is_negative, order.Classes.category_of}
+use Rattle.apfloat_model.specs.{order.Predicates.is_zero_category, whole_numbers.SignedWholes.IsNegatedWhole}
 use Rattle.apfloat_model.specs.declared.kinds.NonfiniteBehavior.{NonfiniteBehavior}
 use Rattle.apfloat_model.specs.declared.kinds.NonfiniteBehavior.TheVariants.{IEEE754, NanOnly, NanNegativeZero}
-use Rattle.apfloat_model.specs.declared.kinds.Round.{Round}
-use Rattle.apfloat_model.specs.declared.kinds.Round.TheVariants.{NearestTiesToEven, TowardPositive, TowardNegative, TowardZero, NearestTiesToAway}
-use Rattle.apfloat_model.specs.formats.Format.{Format}
-use Rattle.apfloat_model.specs.formats.Datum.{Datum, finite, infinite, nan}
-use Rattle.apfloat_model.specs.arithmetic.Exact.{signed}
-use Rattle.apfloat_model.specs.order.Classes.{is_negative, category_of}
-use Rattle.apfloat_model.specs.whole_numbers.SignedWholes.{IsNegatedWhole}
-use Rattle.apfloat_model.specs.order.Predicates.{is_zero_category}
-use Rattle.apfloat_model.specs.rounding.Negation.{swapped, negated, negated_nan, negated_zero}
-use Rattle.apfloat_model.specs.rounding.Flags.{bits_of}
-use Rattle.apfloat_model.specs.rounding.Rounding.{takes_above}
+use Rattle.apfloat_model.specs.declared.kinds.Round.{Round, TheVariants.NearestTiesToEven, TheVariants.TowardPositive}
+use Rattle.apfloat_model.specs.declared.kinds.Round.TheVariants.{TowardNegative, TowardZero, NearestTiesToAway}
+use Rattle.apfloat_model.specs.formats.{Format.Format, Datum.Datum, Datum.finite, Datum.infinite, Datum.nan}
 use Rattle.apfloat_model.specs.whole_numbers.WholeNumbers.{whole_pick, whole_quanta, inexact_unless}
-use Rattle.apfloat_model.specs.whole_numbers.WholeNumbersOut.{IsToUnsigned, IsToSigned, IsWhole, Whole, ranged, exact_or_not, invalid_whole}
-use Rattle.apfloat_model.proofs.general.Powers.{two_pos, twice_half}
-use Rattle.apfloat_model.proofs.whole_numbers.SignedTests.{less_so, less_not}
-use Rattle.apfloat_model.proofs.arithmetic.Signs.{no_sign}
-use Rattle.apfloat_conversions.specs.declared.integers.Unsigned.{Unsigned}
-use Rattle.apfloat_conversions.specs.Results.{IsLimited}
-use Rattle.apfloat_conversions.specs.Wholes.{signed_limit}
+use Rattle.apfloat_model.specs.whole_numbers.WholeNumbersOut.{IsToUnsigned, IsToSigned, IsWhole, Whole, ranged}
+use Rattle.apfloat_model.specs.whole_numbers.WholeNumbersOut.{exact_or_not, invalid_whole}
+use Rattle.apfloat_model.specs.rounding.{Flags.bits_of, Rounding.takes_above}
+use Rattle.apfloat_model.specs.rounding.Negation.{swapped, negated, negated_nan, negated_zero}
+use Rattle.apfloat_model.proofs.{general.Powers.two_pos, general.Powers.twice_half, whole_numbers.SignedTests.less_so}
+use Rattle.apfloat_model.proofs.{whole_numbers.SignedTests.less_not, arithmetic.Signs.no_sign}
+use Rattle.apfloat_conversions.specs.{declared.integers.Unsigned.Unsigned, Results.IsLimited, Wholes.signed_limit}
 use Rattle.apfloat_conversions.proofs.Limits.{limited_unsigned, ranged_in, ranged_out, same_number}
 use Rattle.apfloat_conversions.proofs.Wholes.{whole_exactly}
 

@@ -1,31 +1,24 @@
 -- The integer that a mode picks.
-use Rattle.std.proofs.Common.{◌≡◌, ℕ, ◌+◌, ◌-◌, ◌*◌, ◌/◌, ◌%◌, ◌^◌, ◌<◌, ◌≤◌, Bool, true, false, cond, eqb, sym, refl, ap, ◌∙◌, subst, ⊎_elim, arith, ℤ, pos, negsuc, ◌-ℤ◌, ◌≤ℤ◌}
-use Rattle.std.proofs.Math.Nat.{mul-mod_left, mul-div_cancel, div-eq_of_lt-le, div-one, mul-le-mul_right, mul-le-mul_left, pow-le-pow_right, mul-lt-mul_of_pos_right}
-use Rattle.std.proofs.lemmas.Nat.{div-add-mod', pow-add, pow_pos}
-use Rattle.std.proofs.lemmas.Int.{ints}
+use Rattle.std.proofs.Common.{◌≡◌, ℕ, ◌+◌, ◌-◌, ◌*◌, ◌/◌, ◌%◌, ◌^◌, ◌<◌, ◌≤◌, Bool, true, false, cond, eqb, sym, refl}
+use Rattle.std.proofs.Common.{ap, ◌∙◌, subst, ⊎_elim, arith, ℤ, pos, negsuc, ◌-ℤ◌, ◌≤ℤ◌}
+use Rattle.std.proofs.Math.Nat.{mul-mod_left, mul-div_cancel, div-eq_of_lt-le, div-one, mul-le-mul_right}
+use Rattle.std.proofs.Math.Nat.{mul-le-mul_left, pow-le-pow_right, mul-lt-mul_of_pos_right}
+use Rattle.std.proofs.lemmas.{Nat.div-add-mod', Nat.pow-add, Nat.pow_pos, Int.ints}
 use Rattle.std.proofs.lemmas.Bool.{cases_eq, cases_lt, eq-eqb, ne_eqb}
-use Rattle.apfloat_model.specs.declared.kinds.Round.{Round}
-use Rattle.apfloat_model.specs.declared.kinds.Round.TheVariants.{TowardZero}
-use Rattle.apfloat_model.specs.declared.loss.Loss.{Loss}
+use Rattle.apfloat_model.specs.declared.{kinds.Round.Round, kinds.Round.TheVariants.TowardZero, loss.Loss.Loss}
 use Rattle.apfloat_model.specs.declared.loss.Loss.TheVariants.{ExactlyZero, LessThanHalf, ExactlyHalf, MoreThanHalf}
-use Rattle.apfloat_model.specs.rounding.Standing.{StandsFor, up, down}
-use Rattle.apfloat_model.specs.rounding.Enclosure.{rounds_up}
-use Rattle.apfloat_model.specs.formats.Format.{Format}
-use Rattle.apfloat_model.specs.formats.Datum.{Datum, finite}
+use Rattle.apfloat_model.specs.rounding.{Standing.StandsFor, Standing.up, Standing.down, Enclosure.rounds_up}
 use Rattle.apfloat_model.specs.rounding.Rounding.{takes_above, pick_between, signed_quanta}
+use Rattle.apfloat_model.specs.formats.{Format.Format, Datum.Datum, Datum.finite}
 use Rattle.apfloat_model.specs.whole_numbers.WholeNumbers.{whole_pick, whole_quanta, inexact_unless, IsRoundToIntegral}
-use Rattle.apfloat_model.proofs.general.Powers.{two_pos, twice_half}
-use Rattle.apfloat_model.proofs.rounding.Deliveries.{signed_some}
-use Rattle.apfloat_model.proofs.rounding.Losses.{stands_to, stands_past, cut_at}
-use Rattle.apfloat_model.proofs.rounding.KeptDigits.{stands_cancel}
-use Rattle.apfloat_model.proofs.rounding.Picks.{kept, takes_less, takes_half, takes_more}
-use Rattle.apfloat_model.proofs.arithmetic.SingleScalings.{scaled_stands}
-use Rattle.apfloat_model.proofs.general.Choices.{off_both}
+use Rattle.apfloat_model.proofs.{rounding.Picks.takes_more, arithmetic.SingleScalings.scaled_stands}
+use Rattle.apfloat_model.proofs.general.{Powers.two_pos, Powers.twice_half, Choices.off_both}
+use Rattle.apfloat_model.proofs.rounding.{Deliveries.signed_some, Losses.stands_to, Losses.stands_past, Losses.cut_at}
+use Rattle.apfloat_model.proofs.rounding.{KeptDigits.stands_cancel, Picks.kept, Picks.takes_less, Picks.takes_half}
 use Rattle.apfloat_rounding.specs.Cuts.{loss_at}
-use Rattle.apfloat_conversions.specs.declared.whole.Whole.{Whole}
-use Rattle.apfloat_conversions.specs.Wholes.{IsPicked}
 use Rattle.apfloat_rounding.proofs.CutRests.{loss_some, rest_below, rest_stands}
 use Rattle.apfloat_rounding.proofs.QuantumCuts.{less_than_half, word_stands}
+use Rattle.apfloat_conversions.specs.{declared.whole.Whole.Whole, Wholes.IsPicked}
 
 -- an integer that is an odd multiple of the distance to the next one is odd
 whole_odd : (q : ℕ) → eqb (q / (q + 1 - q) % 2) 1 ≡ eqb (q % 2) 1

@@ -1,10 +1,8 @@
 -- What follows the digits of a decimal text, and the first fault there.
 use Rattle.std.specs.Prelude.{ℕ, Bool, not, ◌&&◌, ◌||◌, eqb, if◌then◌else◌, List, [], ◌∷◌, Option, Some, None}
-use Rattle.apfloat_model.specs.declared.parse_error.Fault.{Fault}
-use Rattle.apfloat_model.specs.declared.parse_error.Fault.TheVariants.{SecondDot, WrongInSignificand, NoDigits}
-use Rattle.apfloat_model.specs.texts.Digits.{begins, is_empty}
-use Rattle.apfloat_model.specs.texts.Faults.{is_dot, exponent_fault}
-use Rattle.apfloat_model.specs.texts.Specials.{after_mark}
+use Rattle.apfloat_model.specs.{declared.parse_error.Fault.TheVariants.NoDigits, texts.Digits.begins}
+use Rattle.apfloat_model.specs.declared.parse_error.Fault.{Fault, TheVariants.SecondDot, TheVariants.WrongInSignificand}
+use Rattle.apfloat_model.specs.texts.{Digits.is_empty, Faults.is_dot, Faults.exponent_fault, Specials.after_mark}
 
 abbrev pub is_e : ℕ → Bool
 is_e c = eqb c 101 || eqb c 69

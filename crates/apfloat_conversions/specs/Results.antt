@@ -1,16 +1,12 @@
 -- The results of conversions, in terms of the data and the integers that they represent.
 use Rattle.std.specs.Prelude.{◌^◌, ◌<◌, ◌≤◌, ℕ, Bool, false, eqb, pos}
-use Rattle.apfloat_model.specs.declared.kinds.Round.{Round}
-use Rattle.apfloat_model.specs.formats.Format.{Format}
-use Rattle.apfloat_model.specs.formats.Datum.{Datum}
+use Rattle.apfloat_model.specs.{declared.kinds.Round.Round, formats.Format.Format, formats.Datum.Datum}
 use Rattle.apfloat_model.specs.rounding.Flags.{bits_of}
 use Rattle.apfloat_model.specs.whole_numbers.WholeNumbers.{whole_pick, whole_quanta}
 use Rattle.apfloat_model.specs.whole_numbers.WholeNumbersOut.{Whole, IsWhole, exact_or_not, invalid_whole}
-use Rattle.apfloat_rounding.specs.declared.shape.Shape.{Shape}
-use Rattle.apfloat_rounding.specs.Stored.{datum_at}
+use Rattle.apfloat_rounding.specs.{declared.shape.Shape.Shape, Stored.datum_at}
 use Rattle.apfloat_conversions.specs.declared.between_formats.Converted.{Converted}
-use Rattle.apfloat_conversions.specs.declared.integers.Signed.{Signed}
-use Rattle.apfloat_conversions.specs.declared.integers.Unsigned.{Unsigned}
+use Rattle.apfloat_conversions.specs.declared.integers.{Signed.Signed, Unsigned.Unsigned}
 
 -- a result whose datum, status and loss of information satisfy the relation
 abbrev pub ConvertsAt : Shape → (Datum → ℕ → Bool → Type 0) → Converted → Type 0

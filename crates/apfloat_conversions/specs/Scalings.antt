@@ -1,12 +1,9 @@
 -- A datum times 2 to the power j (IEEE 754-2019 5.3.3, scaleB), rounded once, with its status. The value is that of
 -- `IsScaling`.
 use Rattle.std.specs.Prelude.{ℕ, ◌*◌, ◌^◌, ℤ}
-use Rattle.apfloat_model.specs.declared.kinds.Round.{Round}
-use Rattle.apfloat_model.specs.formats.Format.{Format}
-use Rattle.apfloat_model.specs.formats.Datum.{Datum, finite, infinite, nan}
-use Rattle.apfloat_model.specs.formats.Nan.{IsOfNan}
-use Rattle.apfloat_model.specs.rounding.Answer.{IsAnswer}
-use Rattle.apfloat_model.specs.rounding.Rounding.{ok_bits, IsDelivered}
+use Rattle.apfloat_model.specs.{declared.kinds.Round.Round, formats.Format.Format}
+use Rattle.apfloat_model.specs.formats.{Datum.Datum, Datum.finite, Datum.infinite, Datum.nan, Nan.IsOfNan}
+use Rattle.apfloat_model.specs.rounding.{Answer.IsAnswer, Rounding.ok_bits, Rounding.IsDelivered}
 use Rattle.apfloat_model.specs.arithmetic.Exact.{up, down}
 
 abbrev pub IsScaled : Format → Round → Datum → ℤ → Datum → ℕ → Type 0

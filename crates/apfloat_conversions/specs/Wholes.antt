@@ -1,7 +1,6 @@
 -- The integer that a mode picks for a magnitude, in the form that the code passes on.
 use Rattle.std.specs.Prelude.{◌≡◌, ℕ, ◌-◌, ◌*◌, ◌^◌, ◌≤◌, Bool, eqb, Option, Some, None, if◌then◌else◌}
-use Rattle.apfloat_model.specs.declared.kinds.Round.{Round}
-use Rattle.apfloat_model.specs.whole_numbers.WholeNumbers.{whole_pick}
+use Rattle.apfloat_model.specs.{declared.kinds.Round.Round, whole_numbers.WholeNumbers.whole_pick}
 use Rattle.apfloat_conversions.specs.declared.whole.Whole.{Whole}
 
 -- the picked integer, and whether it equals the magnitude

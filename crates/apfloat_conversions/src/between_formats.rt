@@ -1,14 +1,12 @@
 //! Conversion of values from one format to another.
 
 ghost use Rattle.std.specs.Prelude.{◌≡◌, cond, not};
-ghost use Rattle.apfloat_model.specs.declared.kinds.NonfiniteBehavior.{NonfiniteBehavior};
-ghost use Rattle.apfloat_model.specs.rounding.Flags.{bits_of};
-ghost use Rattle.apfloat_model.specs.formats.Datum.{finite};
+ghost use Rattle.apfloat_model.specs.{declared.kinds.NonfiniteBehavior.NonfiniteBehavior, rounding.Flags.bits_of};
 ghost use Rattle.apfloat_model.specs.rounding.Rounding.{ok_bits, inexact_bit, zero_sign};
-ghost use Rattle.apfloat_model.specs.formats.Constants.{infinity_of};
-ghost use Rattle.apfloat_model.specs.arithmetic.Conversions.{IsConversion, IsConvertedNumber, IsExactlyConverted, IsKept, loses_zero_sign, has_infinities};
-ghost use Rattle.apfloat_model.specs.arithmetic.Conversions.{IsConverted, converted_nan, nan_loses};
-ghost use Rattle.apfloat_model.specs.formats.Nan.{invalid_if, is_signaling};
+ghost use Rattle.apfloat_model.specs.formats.{Datum.finite, Constants.infinity_of, Nan.invalid_if, Nan.is_signaling};
+ghost use Rattle.apfloat_model.specs.arithmetic.Conversions.{IsConversion, IsConvertedNumber, IsExactlyConverted};
+ghost use Rattle.apfloat_model.specs.arithmetic.Conversions.{IsKept, loses_zero_sign, has_infinities, IsConverted};
+ghost use Rattle.apfloat_model.specs.arithmetic.Conversions.{converted_nan, nan_loses};
 ghost use Rattle.apfloat_rounding.specs.Shapes.{format_at};
 ghost use Rattle.apfloat_rounding.specs.Stored.{IsNan, IsNormal, IsStored, datum_at, quanta_of};
 ghost use Rattle.apfloat_conversions.specs.Results.{ConvertsAt};

@@ -1,8 +1,7 @@
 //! What follows the digits of a decimal text. It decides whether the text is one; `apfloat_decimals` reads the digits.
 
 ghost use Rattle.std.specs.Prelude.{◌≡◌, drop, Some, None, MatchResult};
-ghost use Rattle.apfloat_model.specs.rounding.Bounds.{IsWithin};
-ghost use Rattle.apfloat_model.specs.texts.Literals.{exponent_number};
+ghost use Rattle.apfloat_model.specs.{rounding.Bounds.IsWithin, texts.Literals.exponent_number};
 ghost use Rattle.apfloat_conversions.specs.DecimalTails.{fault_after};
 ghost use Rattle.apfloat_conversions.specs.hex_texts.Saturation.{IsNear, count_bound, far_bound};
 

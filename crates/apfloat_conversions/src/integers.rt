@@ -2,12 +2,10 @@
 
 ghost use Rattle.std.specs.Int.{cast_signed, w128};
 ghost use Rattle.std.specs.Prelude.{◌≡◌, ◌-◌, ◌*◌, ◌^◌, ◌<◌, ◌≤◌, pos, false, if◌then◌else◌};
-ghost use Rattle.apfloat_model.specs.formats.Datum.{finite};
-ghost use Rattle.apfloat_model.specs.formats.Nan.{invalid_bit};
-ghost use Rattle.apfloat_model.specs.rounding.Flags.{bits_of};
+ghost use Rattle.apfloat_model.specs.{formats.Datum.finite, formats.Nan.invalid_bit, rounding.Flags.bits_of};
+ghost use Rattle.apfloat_model.specs.{whole_numbers.WholeNumbersOut.to_unsigned, arithmetic.Exact.signed};
 ghost use Rattle.apfloat_model.specs.whole_numbers.WholeNumbers.{IsFromUnsigned, inexact_unless};
-ghost use Rattle.apfloat_model.specs.arithmetic.Exact.{signed};
-ghost use Rattle.apfloat_model.specs.whole_numbers.WholeNumbersOut.{exact_or_not, invalid_whole, to_signed, to_unsigned};
+ghost use Rattle.apfloat_model.specs.whole_numbers.WholeNumbersOut.{exact_or_not, invalid_whole, to_signed};
 ghost use Rattle.apfloat_rounding.specs.Shapes.{format_at};
 ghost use Rattle.apfloat_rounding.specs.Stored.{IsStored, IsNormal, datum_at, number_of, quanta_of, GivesAt};
 ghost use Rattle.apfloat_conversions.specs.Results.{GivesSigned, GivesWhole, IsLimited};

@@ -1,8 +1,7 @@
 //! Rounding values to integers in their own format.
 
 ghost use Rattle.std.specs.Prelude.{◌≡◌, ◌%◌, ◌^◌, eqb};
-ghost use Rattle.apfloat_model.specs.order.Classes.{is_integer};
-ghost use Rattle.apfloat_model.specs.declared.kinds.Category.TheVariants.{Normal};
+ghost use Rattle.apfloat_model.specs.{order.Classes.is_integer, declared.kinds.Category.TheVariants.Normal};
 ghost use Rattle.apfloat_model.specs.whole_numbers.WholeNumbers.{IsRoundToIntegral};
 ghost use Rattle.apfloat_rounding.specs.Shapes.{format_at};
 ghost use Rattle.apfloat_rounding.specs.Stored.{IsStored, IsNormal, quanta_of, datum_at, GivesAt};

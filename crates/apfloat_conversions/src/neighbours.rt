@@ -1,10 +1,9 @@
 //! The next value up.
 
 ghost use Rattle.std.specs.Prelude.{◌≡◌, ◌^◌, ◌<◌, eqb, pos, ◌+ℤ◌, ◌-ℤ◌, ◌≤ℤ◌};
-ghost use Rattle.apfloat_model.specs.declared.kinds.Category.TheVariants.{NaN};
-ghost use Rattle.apfloat_model.specs.arithmetic.Exact.{down};
-ghost use Rattle.apfloat_model.specs.formats.Format.{largest};
+ghost use Rattle.apfloat_model.specs.{declared.kinds.Category.TheVariants.NaN, arithmetic.Exact.down};
 ghost use Rattle.apfloat_model.specs.arithmetic.NextUp.{IsNextGreater, IsNextLess, IsNextOfNumber, IsNextUp};
+ghost use Rattle.apfloat_model.specs.formats.Format.{largest};
 ghost use Rattle.apfloat_rounding.specs.Shapes.{format_at};
 ghost use Rattle.apfloat_rounding.specs.Stored.{IsStored, IsNormal, quanta_of, datum_at, GivesAt};
 

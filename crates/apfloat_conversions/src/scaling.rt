@@ -1,11 +1,10 @@
 //! Scaling by powers of two, exponents, and the decomposition of values into a fraction and a power of two.
 
 ghost use Rattle.std.specs.Prelude.{◌≡◌, ◌⊎◌, ◌*◌, ◌^◌, pos, neg_ℤ, ◌+ℤ◌, ◌≤ℤ◌};
-ghost use Rattle.apfloat_model.specs.arithmetic.Exact.{up, down};
-ghost use Rattle.apfloat_model.specs.arithmetic.Exponents.{IsIlogb, IsFrexp, IsFraction};
+ghost use Rattle.apfloat_model.specs.arithmetic.{Exact.up, Exact.down, Exponents.IsIlogb, Exponents.IsFrexp};
+ghost use Rattle.apfloat_model.specs.arithmetic.{Exponents.IsFraction, Scaling.IsScaling};
 ghost use Rattle.apfloat_model.specs.rounding.Bounds.{IsWithin, number_bound, scaling_bound, integer_bit_bound};
 ghost use Rattle.apfloat_model.specs.rounding.Rounding.{IsDelivered};
-ghost use Rattle.apfloat_model.specs.arithmetic.Scaling.{IsScaling};
 ghost use Rattle.apfloat_rounding.specs.Shapes.{format_at};
 ghost use Rattle.apfloat_rounding.specs.Stored.{IsStored, IsNormal, quanta_of, datum_at, GivesAt};
 ghost use Rattle.apfloat_conversions.specs.Scalings.{IsScaled};

@@ -1,19 +1,13 @@
 -- Decimal texts: their grammar, their first fault, and the number that they spell (IEEE 754-2019 5.12.2).
-use Rattle.std.specs.Prelude.{◌≡◌, ◌⊎◌, ℕ, ◌≤◌, ℤ, pos, ◌-ℤ◌, Bool, not}
-use Rattle.std.specs.Prelude.{if◌then◌else◌, IsTrue, List}
-use Rattle.std.specs.Prelude.{[], ◌∷◌, ◌++◌, length, drop, codes, Option, Some, None, is_some, Result, Ok, Err}
+use Rattle.std.specs.Prelude.{◌≡◌, ◌⊎◌, ℕ, ◌≤◌, ℤ, pos, ◌-ℤ◌, Bool, not, if◌then◌else◌, IsTrue, List, [], ◌∷◌, ◌++◌}
+use Rattle.std.specs.Prelude.{length, drop, codes, Option, Some, None, is_some, Result, Ok, Err}
+use Rattle.apfloat_model.specs.{formats.Format.Format, formats.Datum.Datum, rounding.Flags.Gives}
+use Rattle.apfloat_model.specs.declared.{parse_error.ParseError.ParseError, status.StatusAnd.StatusAnd}
 use Rattle.apfloat_model.specs.declared.kinds.Round.{Round}
-use Rattle.apfloat_model.specs.declared.parse_error.Fault.{Fault}
-use Rattle.apfloat_model.specs.declared.parse_error.Fault.TheVariants.{EmptyText, LoneMark}
-use Rattle.apfloat_model.specs.declared.parse_error.ParseError.{ParseError}
-use Rattle.apfloat_model.specs.declared.status.StatusAnd.{StatusAnd}
-use Rattle.apfloat_model.specs.formats.Format.{Format}
-use Rattle.apfloat_model.specs.formats.Datum.{Datum}
-use Rattle.apfloat_model.specs.rounding.Flags.{Gives}
+use Rattle.apfloat_model.specs.declared.parse_error.Fault.{Fault, TheVariants.EmptyText, TheVariants.LoneMark}
+use Rattle.apfloat_model.specs.texts.{Literals.exponent_number, Readings.IsReading}
 use Rattle.apfloat_model.specs.texts.Digits.{every, begins, is_empty, run, after_run, is_decimal, number}
 use Rattle.apfloat_model.specs.texts.Faults.{words, is_dot, begins_literal, after_prefix_fault}
-use Rattle.apfloat_model.specs.texts.Literals.{exponent_number}
-use Rattle.apfloat_model.specs.texts.Readings.{IsReading}
 use Rattle.apfloat_model.specs.texts.Specials.{mark_of, after_mark, is_minus, special_of}
 use Rattle.apfloat_conversions.specs.DecimalTails.{is_e, fault_after}
 use Rattle.apfloat_decimals.specs.Decimals.{IsDecimalDelivery}

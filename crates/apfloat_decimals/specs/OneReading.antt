@@ -1,18 +1,12 @@
 -- A text is read in one way.
 use Rattle.std.specs.Prelude.{◌≡◌, ℕ, ⊤, List, Result, Ok, Err}
-use Rattle.apfloat_model.specs.declared.kinds.Round.{Round}
-use Rattle.apfloat_model.specs.declared.parse_error.ParseError.{ParseError}
-use Rattle.apfloat_model.specs.declared.status.StatusAnd.{StatusAnd}
-use Rattle.apfloat_model.specs.formats.Datum.{Datum}
-use Rattle.apfloat_model.specs.formats.Format.{Format}
+use Rattle.apfloat_model.specs.declared.{kinds.Round.Round, parse_error.ParseError.ParseError}
+use Rattle.apfloat_model.specs.{declared.status.StatusAnd.StatusAnd, formats.Datum.Datum, formats.Format.Format}
 use Rattle.apfloat_model.specs.Determined.{AreOneReading}
 use Rattle.apfloat_decimals.specs.declared.decimal.Decimal.{Decimal}
-use Rattle.apfloat_decimals.specs.declared.parsing.DecimalError.{DecimalError}
-use Rattle.apfloat_decimals.specs.declared.parsing.DecimalError.TheVariants.{NoDecimal, TooManyDigits}
-use Rattle.apfloat_decimals.specs.declared.parsing.DecimalError.TheVariants.{ExponentOutOfRange}
-use Rattle.apfloat_decimals.specs.DecimalTexts.{IsDecimalRead}
-use Rattle.apfloat_decimals.specs.Parsing.{IsParsed}
-use Rattle.apfloat_decimals.specs.ReadBack.{IsStoredDecimal}
+use Rattle.apfloat_decimals.specs.declared.parsing.DecimalError.{DecimalError, TheVariants.NoDecimal}
+use Rattle.apfloat_decimals.specs.declared.parsing.DecimalError.TheVariants.{TooManyDigits, ExponentOutOfRange}
+use Rattle.apfloat_decimals.specs.{DecimalTexts.IsDecimalRead, Parsing.IsParsed, ReadBack.IsStoredDecimal}
 
 -- ---- as a value
 

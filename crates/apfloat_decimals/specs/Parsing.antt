@@ -1,15 +1,12 @@
 -- A text that is read as a decimal (IEEE 754-2019 5.12.2).
-use Rattle.std.specs.Prelude.{◌≡◌, ◌⊎◌, ℕ, ◌+◌, ◌^◌, ◌<◌, ◌≤◌, ℤ, pos, neg_ℤ, ◌≤ℤ◌, Bool, List, if◌then◌else◌, Option}
-use Rattle.std.specs.Prelude.{Some, Result, Ok, Err}
-use Rattle.apfloat_model.specs.declared.parse_error.Fault.{Fault}
-use Rattle.apfloat_model.specs.declared.parse_error.Fault.TheVariants.{EmptyText, LoneMark}
-use Rattle.apfloat_model.specs.texts.Digits.{is_empty}
-use Rattle.apfloat_model.specs.texts.Faults.{words}
+use Rattle.std.specs.Prelude.{◌≡◌, ◌⊎◌, ℕ, ◌+◌, ◌^◌, ◌<◌, ◌≤◌, ℤ, pos, neg_ℤ}
+use Rattle.std.specs.Prelude.{◌≤ℤ◌, Bool, List, if◌then◌else◌, Option, Some, Result, Ok, Err}
+use Rattle.apfloat_model.specs.declared.parse_error.Fault.{Fault, TheVariants.EmptyText, TheVariants.LoneMark}
+use Rattle.apfloat_model.specs.texts.{Digits.is_empty, Faults.words}
 use Rattle.apfloat_model.specs.texts.Specials.{mark_of, after_mark, is_minus}
 use Rattle.apfloat_decimals.specs.declared.decimal.Decimal.{Decimal}
-use Rattle.apfloat_decimals.specs.declared.parsing.DecimalError.{DecimalError}
-use Rattle.apfloat_decimals.specs.declared.parsing.DecimalError.TheVariants.{NoDecimal, TooManyDigits}
-use Rattle.apfloat_decimals.specs.declared.parsing.DecimalError.TheVariants.{ExponentOutOfRange}
+use Rattle.apfloat_decimals.specs.declared.parsing.DecimalError.{DecimalError, TheVariants.NoDecimal}
+use Rattle.apfloat_decimals.specs.declared.parsing.DecimalError.TheVariants.{TooManyDigits, ExponentOutOfRange}
 use Rattle.apfloat_decimals.specs.DecimalTexts.{IsDecimalText, body_fault}
 
 -- the text spells digits * 10 ^ exponent with that sign

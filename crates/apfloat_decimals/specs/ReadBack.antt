@@ -1,8 +1,7 @@
 -- The decimal that the text of a decimal spells.
 use Rattle.std.specs.Prelude.{ℕ, ◌+◌, ◌-◌, ◌*◌, ◌^◌, ◌<◌, ℤ, pos, neg_ℤ, ◌≤ℤ◌, Bool, ◌&&◌, eqb, if◌then◌else◌}
 use Rattle.apfloat_model.specs.arithmetic.Exact.{up, down}
-use Rattle.apfloat_decimals.specs.declared.decimal.Decimal.{Decimal}
-use Rattle.apfloat_decimals.specs.Texts.{is_plain}
+use Rattle.apfloat_decimals.specs.{declared.decimal.Decimal.Decimal, Texts.is_plain}
 
 -- the numbers of a `Decimal` belong to their types
 pub record IsStoredDecimal (x : Decimal) : Type 0 where

@@ -3,10 +3,8 @@
 ghost use Rattle.apfloat_model.specs.formats.Formats.{half_constants, single_constants, double_constants};
 ghost use Rattle.apfloat_model.specs.formats.Formats.{quad_constants, bfloat_constants, e5m2_constants};
 ghost use Rattle.apfloat_model.specs.formats.Formats.{e4m3fn_constants, e4m3fnuz_constants, x87_constants};
-ghost use Rattle.apfloat_model.specs.formats.Formats.{e4m3_constants, e5m2fnuz_constants};
-ghost use Rattle.apfloat_model.specs.formats.Formats.{e4m3b11fnuz_constants, tf32_constants};
-ghost use Rattle.apfloat_model.specs.formats.Lawful.{format_with};
-ghost use Rattle.apfloat_model.specs.rounding.Flags.{Gives};
+ghost use Rattle.apfloat_model.specs.formats.Formats.{e4m3_constants, e5m2fnuz_constants, e4m3b11fnuz_constants};
+ghost use Rattle.apfloat_model.specs.{formats.Formats.tf32_constants, formats.Lawful.format_with, rounding.Flags.Gives};
 ghost use Rattle.apfloat_ieee.specs.FlaggedTypes.{format_of};
 ghost use Rattle.apfloat_decimals.specs.Decimals.{IsDecimalDelivery, HasQuadExponents};
 

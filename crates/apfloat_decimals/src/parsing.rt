@@ -2,24 +2,17 @@
 
 ghost use Rattle.std.specs.Prelude.{◌≡◌, ℕ, ℤ, pos, ◌-ℤ◌, ◌≤◌, ◌^◌, ◌++◌, List, Bool};
 ghost use Rattle.std.specs.Prelude.{IsTrue, MatchOption, Result, Ok, IsOkAnd};
-ghost use Rattle.apfloat_model.specs.declared.kinds.Round.{Round};
-ghost use Rattle.apfloat_model.specs.declared.parse_error.ParseError.{ParseError};
-ghost use Rattle.apfloat_model.specs.declared.status.StatusAnd.{StatusAnd};
-ghost use Rattle.apfloat_model.specs.formats.Datum.{Datum};
-ghost use Rattle.apfloat_model.specs.formats.Format.{Format};
-ghost use Rattle.apfloat_model.specs.rounding.Bounds.{IsWithin};
-ghost use Rattle.apfloat_model.specs.rounding.Flags.{Gives};
+ghost use Rattle.apfloat_model.specs.declared.{kinds.Round.Round, parse_error.ParseError.ParseError};
+ghost use Rattle.apfloat_model.specs.{declared.status.StatusAnd.StatusAnd, formats.Datum.Datum, formats.Format.Format};
+ghost use Rattle.apfloat_model.specs.rounding.{Bounds.IsWithin, Flags.Gives};
 ghost use Rattle.apfloat_model.specs.texts.Digits.{every, is_decimal, number};
 ghost use Rattle.apfloat_conversions.specs.hex_texts.Saturation.{IsNear, count_bound, far_bound};
-ghost use Rattle.apfloat_decimals.specs.declared.decimal.Decimal.{Decimal};
-ghost use Rattle.apfloat_decimals.specs.Decimals.{IsDecimalDelivery};
+ghost use Rattle.apfloat_decimals.specs.{declared.decimal.Decimal.Decimal, Decimals.IsDecimalDelivery};
 ghost use Rattle.apfloat_decimals.specs.DecimalTexts.{IsDecimalText, IsDecimalRead, body_fault};
-ghost use Rattle.apfloat_decimals.specs.LeadingDigits.{number_from};
-ghost use Rattle.apfloat_decimals.specs.OneReading.{IsReadOnce, IsParsedOnce};
+ghost use Rattle.apfloat_decimals.specs.{LeadingDigits.number_from, OneReading.IsReadOnce, OneReading.IsParsedOnce};
 ghost use Rattle.apfloat_decimals.specs.Parsing.{Spells, IsParsed, IsParsedBody, IsPast32Bits};
 ghost use Rattle.apfloat_decimals.specs.ReadBack.{IsStoredDecimal, written};
-ghost use Rattle.apfloat_decimals.specs.Shortest.{IsSameNumber};
-ghost use Rattle.apfloat_decimals.specs.Texts.{decimal_text};
+ghost use Rattle.apfloat_decimals.specs.{Shortest.IsSameNumber, Texts.decimal_text};
 
 use crate::decimal::Decimal;
 use crate::texts::parts::{has_some, split_digits, split_fraction};

@@ -2,13 +2,9 @@
 
 ghost use Rattle.std.specs.Prelude.{◌≡◌, ℕ, ℤ, ◌<◌, Some};
 ghost use Rattle.apfloat_model.specs.declared.kinds.Round.TheVariants.{NearestTiesToEven};
-ghost use Rattle.apfloat_model.specs.formats.Datum.{Datum};
-ghost use Rattle.apfloat_model.specs.formats.Format.{Format};
-ghost use Rattle.apfloat_model.specs.formats.Members.{IsMember};
-ghost use Rattle.apfloat_decimals.specs.declared.decimal.Decimal.{Decimal};
-ghost use Rattle.apfloat_decimals.specs.Decimals.{IsDecimalDelivery};
-ghost use Rattle.apfloat_decimals.specs.Shortest.{IsSameNumber};
-ghost use Rattle.apfloat_decimals.specs.ShortestSearch.{GivesShortest};
+ghost use Rattle.apfloat_model.specs.formats.{Datum.Datum, Format.Format, Members.IsMember};
+ghost use Rattle.apfloat_decimals.specs.{declared.decimal.Decimal.Decimal, Decimals.IsDecimalDelivery};
+ghost use Rattle.apfloat_decimals.specs.{Shortest.IsSameNumber, ShortestSearch.GivesShortest};
 
 /// Each decimal that is the same number as the shortest one of a value, with its sign, is rounded to that value.
 pub fn shortest_reads_back()

@@ -3,18 +3,12 @@
 //! A separate crate, so that the decimals do not depend on pairs, nor the pairs on decimals.
 
 ghost use Rattle.std.specs.Prelude.{◌≡◌, true, ℕ, ℤ, List, Option, Some, IsSome, Result, IsOkAnd};
-ghost use Rattle.apfloat_model.specs.Determined.{Determines};
-ghost use Rattle.apfloat_model.specs.declared.kinds.Round.{Round};
-ghost use Rattle.apfloat_model.specs.declared.kinds.Round.TheVariants.{NearestTiesToEven};
-ghost use Rattle.apfloat_model.specs.declared.parse_error.ParseError.{ParseError};
-ghost use Rattle.apfloat_model.specs.declared.status.StatusAnd.{StatusAnd};
-ghost use Rattle.apfloat_model.specs.order.Classes.{is_finite};
+ghost use Rattle.apfloat_model.specs.{Determined.Determines, declared.parse_error.ParseError.ParseError};
+ghost use Rattle.apfloat_model.specs.declared.{status.StatusAnd.StatusAnd, kinds.Round.Round};
+ghost use Rattle.apfloat_model.specs.{declared.kinds.Round.TheVariants.NearestTiesToEven, order.Classes.is_finite};
 ghost use Rattle.apfloat_pair_theory.specs.Pairs.{IsJoined, IsSplit, Pair};
-ghost use Rattle.apfloat_decimals.specs.declared.decimal.Decimal.{Decimal};
-ghost use Rattle.apfloat_decimals.specs.Parsing.{Spells};
-ghost use Rattle.apfloat_decimals.specs.ReadBack.{IsStoredDecimal};
-ghost use Rattle.apfloat_decimals.specs.Shortest.{IsSameNumber};
-ghost use Rattle.apfloat_decimals.specs.Texts.{decimal_text};
+ghost use Rattle.apfloat_decimals.specs.{declared.decimal.Decimal.Decimal, Parsing.Spells, ReadBack.IsStoredDecimal};
+ghost use Rattle.apfloat_decimals.specs.{Shortest.IsSameNumber, Texts.decimal_text};
 ghost use Rattle.apfloat_digits.specs.of_double_doubles.OneReading.{IsPairReadOnce};
 ghost use Rattle.apfloat_digits.specs.of_double_doubles.PairReadings.{IsPairDecimalRead, IsPairDecimalReading};
 ghost use Rattle.apfloat_digits.specs.of_double_doubles.PairShortest.{GivesPairShortest};

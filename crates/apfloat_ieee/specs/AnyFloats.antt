@@ -1,8 +1,6 @@
 -- A value together with its format.
-use Rattle.apfloat_model.specs.formats.Format.{Format}
-use Rattle.apfloat_model.specs.formats.Datum.{Datum}
-use Rattle.apfloat_rounding.specs.declared.shape.Shape.{Shape}
-use Rattle.apfloat_rounding.specs.Shapes.{format_at}
+use Rattle.apfloat_model.specs.formats.{Format.Format, Datum.Datum}
+use Rattle.apfloat_rounding.specs.{declared.shape.Shape.Shape, Shapes.format_at}
 
 -- the constants of a format, and a datum of it
 pub record AnyDatum : Type 0 where

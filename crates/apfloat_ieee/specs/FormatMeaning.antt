@@ -1,22 +1,15 @@
 -- What the calls on the values of a format return.
 use Rattle.apfloat_base.specs.Meaning.{Meaning}
-use Rattle.apfloat_model.specs.arithmetic.Exponents.{IsExactInverse, IsFrexp, IsIlogb}
-use Rattle.apfloat_model.specs.arithmetic.NextUp.{IsNextDown, IsNextUp}
-use Rattle.apfloat_model.specs.arithmetic.Products.{IsProduct}
-use Rattle.apfloat_model.specs.arithmetic.Quotients.{IsQuotient}
-use Rattle.apfloat_model.specs.arithmetic.Remainders.{IsNearestRemainder, IsTruncatedRemainder}
-use Rattle.apfloat_model.specs.arithmetic.Scaling.{IsScaling}
-use Rattle.apfloat_model.specs.arithmetic.Sums.{IsDifference, IsSum}
-use Rattle.apfloat_model.specs.bits.Layout.{Layout, IsEncodedBy, datum_of}
-use Rattle.apfloat_model.specs.formats.Constants.{infinity_datum, largest_datum, smallest_datum, smallest_normalized_datum, zero_datum}
-use Rattle.apfloat_model.specs.formats.Datum.{Datum}
-use Rattle.apfloat_model.specs.formats.Format.{Format}
-use Rattle.apfloat_model.specs.formats.Nan.{is_signaling_nan, qnan, snan}
+use Rattle.apfloat_model.specs.{order.Order.AreFiniteNonZero, order.Order.compared_magnitudes, rounding.Flags.Gives}
+use Rattle.apfloat_model.specs.{rounding.Flags.bits_of, rounding.Negation.negated, texts.Parsing.IsRead}
+use Rattle.apfloat_model.specs.arithmetic.{NextUp.IsNextDown, NextUp.IsNextUp, Products.IsProduct, Quotients.IsQuotient}
+use Rattle.apfloat_model.specs.arithmetic.{Scaling.IsScaling, Sums.IsDifference, Sums.IsSum, Exponents.IsExactInverse}
+use Rattle.apfloat_model.specs.arithmetic.{Exponents.IsFrexp, Exponents.IsIlogb, Remainders.IsNearestRemainder}
+use Rattle.apfloat_model.specs.{arithmetic.Remainders.IsTruncatedRemainder, bits.Layout.Layout, bits.Layout.IsEncodedBy}
+use Rattle.apfloat_model.specs.{bits.Layout.datum_of, formats.Datum.Datum, formats.Format.Format}
+use Rattle.apfloat_model.specs.formats.{Nan.is_signaling_nan, Nan.qnan, Nan.snan, Constants.infinity_datum}
+use Rattle.apfloat_model.specs.formats.Constants.{largest_datum, smallest_datum, smallest_normalized_datum, zero_datum}
 use Rattle.apfloat_model.specs.order.Classes.{category_of, is_denormal, is_integer, is_negative, same_datum}
-use Rattle.apfloat_model.specs.order.Order.{AreFiniteNonZero, compared_magnitudes}
-use Rattle.apfloat_model.specs.rounding.Flags.{Gives, bits_of}
-use Rattle.apfloat_model.specs.rounding.Negation.{negated}
-use Rattle.apfloat_model.specs.texts.Parsing.{IsRead}
 use Rattle.apfloat_model.specs.whole_numbers.WholeNumbers.{IsFromSigned, IsFromUnsigned, IsRoundToIntegral}
 use Rattle.apfloat_model.specs.whole_numbers.WholeNumbersOut.{IsToSigned, IsToUnsigned}
 

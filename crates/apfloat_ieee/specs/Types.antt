@@ -1,7 +1,6 @@
 -- The constants, the format and the layout of a format type.
-use Rattle.apfloat_model.specs.formats.Format.{Format}
-use Rattle.apfloat_model.specs.bits.Layout.{Layout}
-use Rattle.apfloat_model.specs.formats.Lawful.{Constants, constants_with, format_with, layout_with}
+use Rattle.apfloat_model.specs.formats.{Format.Format, Lawful.Constants, Lawful.constants_with, Lawful.format_with}
+use Rattle.apfloat_model.specs.{formats.Lawful.layout_with, bits.Layout.Layout}
 use Rattle.apfloat_ieee.specs.declared.semantics.Semantics.{Ghosts}
 
 abbrev pub constants_of : {X : Type 0} → Ghosts X → Constants

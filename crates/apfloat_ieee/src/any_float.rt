@@ -6,15 +6,12 @@
 ghost use Rattle.std.specs.Prelude.{◌≡◌};
 ghost use Rattle.apfloat_model.specs.rounding.Flags.{Gives, bits_of};
 ghost use Rattle.apfloat_model.specs.arithmetic.Conversions.{IsConversion, IsExactlyConverted};
-ghost use Rattle.apfloat_rounding.specs.Shapes.{format_at};
-ghost use Rattle.apfloat_rounding.specs.Stored.{IsStored};
+ghost use Rattle.apfloat_rounding.specs.{Shapes.format_at, Stored.IsStored};
 ghost use Rattle.apfloat_conversions.specs.Results.{ConvertsAt};
-ghost use Rattle.apfloat_arithmetic.specs.other_formats.Extended.{seen};
-ghost use Rattle.apfloat_arithmetic.specs.other_formats.FormatOf.{IsSumTo, IsDifferenceTo, IsProductTo, IsQuotientTo, IsFusedSumTo};
-ghost use Rattle.apfloat_arithmetic.specs.other_formats.Operands.{IsOperand, StandsFor};
-ghost use Rattle.apfloat_arithmetic.specs.other_formats.RootsOf.{IsRootTo};
-ghost use Rattle.apfloat_ieee.specs.FlaggedTypes.{format_of};
-ghost use Rattle.apfloat_ieee.specs.AnyFloats.{format_in};
+ghost use Rattle.apfloat_arithmetic.specs.other_formats.{Extended.seen, FormatOf.IsSumTo, FormatOf.IsDifferenceTo};
+ghost use Rattle.apfloat_arithmetic.specs.other_formats.FormatOf.{IsProductTo, IsQuotientTo, IsFusedSumTo};
+ghost use Rattle.apfloat_arithmetic.specs.other_formats.{Operands.IsOperand, Operands.StandsFor, RootsOf.IsRootTo};
+ghost use Rattle.apfloat_ieee.specs.{FlaggedTypes.format_of, AnyFloats.format_in};
 
 use crate::flagged::Flagged;
 use crate::ieee_float::{IeeeFloat, shape_of};

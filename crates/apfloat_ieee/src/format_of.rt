@@ -8,10 +8,9 @@
 //! converted too, so that it raises INEXACT in a target without infinities.
 
 ghost use Rattle.apfloat_model.specs.rounding.Flags.{Gives};
-ghost use Rattle.apfloat_arithmetic.specs.other_formats.Extended.{seen};
-ghost use Rattle.apfloat_arithmetic.specs.other_formats.FormatOf.{IsSumTo, IsDifferenceTo, IsProductTo, IsQuotientTo, IsFusedSumTo};
-ghost use Rattle.apfloat_arithmetic.specs.other_formats.Operands.{IsOperand, StandsFor};
-ghost use Rattle.apfloat_arithmetic.specs.other_formats.RootsOf.{IsRootTo};
+ghost use Rattle.apfloat_arithmetic.specs.other_formats.{Extended.seen, FormatOf.IsSumTo, FormatOf.IsDifferenceTo};
+ghost use Rattle.apfloat_arithmetic.specs.other_formats.FormatOf.{IsProductTo, IsQuotientTo, IsFusedSumTo};
+ghost use Rattle.apfloat_arithmetic.specs.other_formats.{Operands.IsOperand, Operands.StandsFor, RootsOf.IsRootTo};
 ghost use Rattle.apfloat_ieee.specs.FlaggedTypes.{format_of, shape_of};
 
 use crate::flagged::Flagged;

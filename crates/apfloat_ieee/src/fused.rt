@@ -1,8 +1,7 @@
 //! Fused sums of values of one format.
 
 ghost use Rattle.std.specs.Prelude.{◌≤◌};
-ghost use Rattle.apfloat_model.specs.declared.kinds.Round.TheVariants.{NearestTiesToEven};
-ghost use Rattle.apfloat_model.specs.rounding.Flags.{Gives};
+ghost use Rattle.apfloat_model.specs.{declared.kinds.Round.TheVariants.NearestTiesToEven, rounding.Flags.Gives};
 ghost use Rattle.apfloat_model.specs.arithmetic.FusedSums.{IsFusedSum, fused_limit};
 ghost use Rattle.apfloat_ieee.specs.FlaggedTypes.{format_of};
 

@@ -1,18 +1,13 @@
 //! A value of one format.
 
 ghost use Rattle.std.specs.Prelude.{◌≡◌, ℕ, ◌-◌, ◌*◌, ◌^◌, ◌<◌, ◌≤◌, ◌⊎◌, pos, ◌+ℤ◌, ◌≤ℤ◌, false};
-ghost use Rattle.apfloat_model.specs.declared.loss.Loss.{Loss};
-ghost use Rattle.apfloat_model.specs.declared.kinds.Category.TheVariants.{Normal};
+ghost use Rattle.apfloat_model.specs.{formats.Members.IsMember, rounding.Bounds.IsWithin};
+ghost use Rattle.apfloat_model.specs.declared.{loss.Loss.Loss, kinds.Category.TheVariants.Normal};
 ghost use Rattle.apfloat_model.specs.order.Classes.{category_of, quanta_of};
-ghost use Rattle.apfloat_model.specs.formats.Members.{IsMember};
-ghost use Rattle.apfloat_model.specs.rounding.Bounds.{IsWithin, exponent_bound};
-ghost use Rattle.apfloat_model.specs.rounding.Flags.{Gives};
-ghost use Rattle.apfloat_model.specs.rounding.Rounding.{IsDelivered};
+ghost use Rattle.apfloat_model.specs.rounding.{Bounds.exponent_bound, Flags.Gives, Rounding.IsDelivered};
 ghost use Rattle.apfloat_model.specs.rounding.Standing.{StandsFor, IsFineFor, up, down};
-ghost use Rattle.apfloat_model.specs.bits.Interchange.{IsInterchange};
-ghost use Rattle.apfloat_model.specs.bits.Layout.{IsEncodedBy, IsReadFrom};
-ghost use Rattle.apfloat_rounding.specs.Encoded.{layout_at};
-ghost use Rattle.apfloat_rounding.specs.Stored.{IsStored, datum_at};
+ghost use Rattle.apfloat_model.specs.bits.{Interchange.IsInterchange, Layout.IsEncodedBy, Layout.IsReadFrom};
+ghost use Rattle.apfloat_rounding.specs.{Encoded.layout_at, Stored.IsStored, Stored.datum_at};
 ghost use Rattle.apfloat_ieee.specs.FlaggedTypes.{shape_of, format_of, layout_of};
 
 use crate::flagged::Flagged;

@@ -1,22 +1,18 @@
 //! `Float` for each format, and `Default`.
 
 ghost use Rattle.std.specs.Prelude.{◌≡◌, ◌^◌, ◌<◌, ℕ, true, false, leb, IsTrue, refl};
-ghost use Rattle.apfloat_model.specs.rounding.Flags.{Gives, bits_of};
-ghost use Rattle.apfloat_model.specs.formats.Nan.{qnan, snan};
-ghost use Rattle.apfloat_model.specs.arithmetic.Sums.{IsSum, IsDifference, IsMonotone, IsNearby};
-ghost use Rattle.apfloat_model.proofs.whole_numbers.SignedNumbers.{signed_above, signed_below, largest_some};
-ghost use Rattle.apfloat_model.specs.formats.Members.{IsMember};
-ghost use Rattle.apfloat_model.specs.declared.kinds.NonfiniteBehavior.TheVariants.{IEEE754};
-ghost use Rattle.apfloat_model.specs.order.Classes.{category_of, is_negative, is_denormal, is_finite_non_zero, is_integer};
-ghost use Rattle.apfloat_model.specs.arithmetic.Products.{IsProduct, IsOpposite, product_limit};
 ghost use Rattle.std.proofs.lemmas.Bool.{leb-true};
-ghost use Rattle.apfloat_model.specs.formats.Constants.{zero_datum};
-ghost use Rattle.apfloat_model.specs.bits.Layout.{datum_of, IsEncodedBy, IsReadFrom};
+ghost use Rattle.apfloat_model.specs.rounding.{Flags.Gives, Flags.bits_of, Rounding.ok_bits};
+ghost use Rattle.apfloat_model.specs.formats.{Nan.qnan, Nan.snan, Members.IsMember, Constants.zero_datum};
+ghost use Rattle.apfloat_model.specs.arithmetic.Sums.{IsSum, IsDifference, IsMonotone, IsNearby};
+ghost use Rattle.apfloat_model.specs.arithmetic.Products.{IsProduct, IsOpposite, product_limit};
 ghost use Rattle.apfloat_model.specs.arithmetic.NextUp.{IsNextUp, IsNextDown};
-ghost use Rattle.apfloat_model.specs.rounding.Rounding.{ok_bits};
+ghost use Rattle.apfloat_model.specs.{declared.kinds.NonfiniteBehavior.TheVariants.IEEE754, order.Classes.category_of};
+ghost use Rattle.apfloat_model.specs.order.Classes.{is_negative, is_denormal, is_finite_non_zero, is_integer};
+ghost use Rattle.apfloat_model.specs.bits.Layout.{datum_of, IsEncodedBy, IsReadFrom};
+ghost use Rattle.apfloat_model.proofs.whole_numbers.SignedNumbers.{signed_above, signed_below, largest_some};
+ghost use Rattle.apfloat_model.proofs.{Determined.determined, Determined.scale_some, bits.Encodings.lawful_interchange};
 ghost use Rattle.apfloat_conversions.proofs.ToSigned.{to_signed_above, to_signed_below};
-ghost use Rattle.apfloat_model.proofs.Determined.{determined, scale_some};
-ghost use Rattle.apfloat_model.proofs.bits.Encodings.{lawful_interchange};
 ghost use Rattle.apfloat_ieee.specs.FlaggedTypes.{constants_of, format_of, layout_of};
 ghost use Rattle.apfloat_ieee.specs.FormatMeaning.{format_meaning};
 

@@ -1,10 +1,8 @@
 //! Products and quotients of values of one format, and the operators `*`, `/`, `*=` and `/=`.
 
 ghost use Rattle.std.specs.Prelude.{◌≡◌, ◌≤◌};
-ghost use Rattle.apfloat_model.specs.declared.kinds.Round.TheVariants.{NearestTiesToEven};
-ghost use Rattle.apfloat_model.specs.declared.status.StatusAnd.{StatusAnd};
-ghost use Rattle.apfloat_model.specs.rounding.Flags.{Gives};
-ghost use Rattle.apfloat_model.specs.arithmetic.Exponents.{IsExactInverse};
+ghost use Rattle.apfloat_model.specs.declared.{kinds.Round.TheVariants.NearestTiesToEven, status.StatusAnd.StatusAnd};
+ghost use Rattle.apfloat_model.specs.{rounding.Flags.Gives, arithmetic.Exponents.IsExactInverse};
 ghost use Rattle.apfloat_model.specs.arithmetic.Products.{IsProduct, IsOpposite, product_limit};
 ghost use Rattle.apfloat_model.specs.arithmetic.Quotients.{IsQuotient};
 ghost use Rattle.apfloat_ieee.specs.FlaggedTypes.{format_of};

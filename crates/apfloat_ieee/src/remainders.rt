@@ -1,8 +1,7 @@
 //! Remainders of values of one format, and the operators `%` and `%=`.
 
 ghost use Rattle.std.specs.Prelude.{◌≡◌, ℤ, ◌<◌, pos, ◌+ℤ◌, ◌-ℤ◌, ◌≤ℤ◌};
-ghost use Rattle.apfloat_model.specs.declared.status.StatusAnd.{StatusAnd};
-ghost use Rattle.apfloat_model.specs.rounding.Flags.{Gives};
+ghost use Rattle.apfloat_model.specs.{declared.status.StatusAnd.StatusAnd, rounding.Flags.Gives};
 ghost use Rattle.apfloat_model.specs.arithmetic.Exponents.{IsIlogb};
 ghost use Rattle.apfloat_model.specs.arithmetic.Remainders.{IsTruncatedRemainder, ones_of_quotient};
 ghost use Rattle.apfloat_ieee.specs.FlaggedTypes.{format_of};

@@ -1,9 +1,7 @@
 //! Square roots of values of one format.
 
 ghost use Rattle.apfloat_model.specs.declared.kinds.Round.TheVariants.{NearestTiesToEven, NearestTiesToAway};
-ghost use Rattle.apfloat_model.specs.rounding.Flags.{Gives};
-ghost use Rattle.apfloat_model.specs.formats.Members.{IsMember};
-ghost use Rattle.apfloat_model.specs.arithmetic.Roots.{IsRoot};
+ghost use Rattle.apfloat_model.specs.{rounding.Flags.Gives, formats.Members.IsMember, arithmetic.Roots.IsRoot};
 ghost use Rattle.apfloat_ieee.specs.FlaggedTypes.{format_of};
 
 use crate::flagged::Flagged;

@@ -1,10 +1,8 @@
 //! Sums and differences of values of one format, negation, and the operators `-`, `+`, `+=` and `-=`.
 
 ghost use Rattle.std.specs.Prelude.{◌≡◌};
-ghost use Rattle.apfloat_model.specs.declared.kinds.Round.TheVariants.{NearestTiesToEven};
-ghost use Rattle.apfloat_model.specs.declared.status.StatusAnd.{StatusAnd};
-ghost use Rattle.apfloat_model.specs.rounding.Flags.{Gives};
-ghost use Rattle.apfloat_model.specs.rounding.Negation.{negated};
+ghost use Rattle.apfloat_model.specs.declared.{kinds.Round.TheVariants.NearestTiesToEven, status.StatusAnd.StatusAnd};
+ghost use Rattle.apfloat_model.specs.rounding.{Flags.Gives, Negation.negated};
 ghost use Rattle.apfloat_model.specs.arithmetic.Sums.{IsSum, IsDifference, IsMonotone, IsNearby};
 ghost use Rattle.apfloat_ieee.specs.FlaggedTypes.{format_of};
 

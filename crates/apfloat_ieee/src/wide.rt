@@ -1,9 +1,7 @@
 //! Products and fused sums in every format, however many digits it has.
 
-ghost use Rattle.apfloat_model.specs.declared.kinds.Round.TheVariants.{NearestTiesToEven};
-ghost use Rattle.apfloat_model.specs.rounding.Flags.{Gives};
-ghost use Rattle.apfloat_model.specs.arithmetic.Products.{IsProduct};
-ghost use Rattle.apfloat_model.specs.arithmetic.FusedSums.{IsFusedSum};
+ghost use Rattle.apfloat_model.specs.{declared.kinds.Round.TheVariants.NearestTiesToEven, rounding.Flags.Gives};
+ghost use Rattle.apfloat_model.specs.arithmetic.{Products.IsProduct, FusedSums.IsFusedSum};
 ghost use Rattle.apfloat_ieee.specs.FlaggedTypes.{format_of};
 
 use crate::flagged::Flagged;

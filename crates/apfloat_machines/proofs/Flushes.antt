@@ -1,18 +1,18 @@
 -- What `flushed` makes of the answer of one rounding is the exact result, rounded or flushed.
-use Rattle.std.proofs.Common.{◌≡◌, ℕ, ◌+◌, ◌*◌, ◌<◌, ◌≤◌, Bool, true, false, not, ◌&&◌, ◌||◌, ltb, eqb, sym, refl, ap, ◌∙◌, ⊎_elim, if◌then◌else◌, arith}
+use Rattle.std.proofs.Common.{◌≡◌, ℕ, ◌+◌, ◌*◌, ◌<◌, ◌≤◌, Bool, true, false, not, ◌&&◌, ◌||◌, ltb, eqb, sym, refl, ap}
+use Rattle.std.proofs.Common.{◌∙◌, ⊎_elim, if◌then◌else◌, arith}
 use Rattle.std.proofs.Math.Nat.{mul-le-mul_right, mul-pos}
 use Rattle.std.proofs.lemmas.Bool.{cases_lt, cases_eq, lt-ltb, le-ltb, eq-eqb, ne_eqb, false≢true}
-use Rattle.apfloat_model.specs.declared.kinds.Round.{Round}
-use Rattle.apfloat_model.specs.declared.kinds.NonfiniteBehavior.{NonfiniteBehavior}
+use Rattle.apfloat_model.specs.declared.kinds.{Round.Round, NonfiniteBehavior.NonfiniteBehavior}
 use Rattle.apfloat_model.specs.declared.kinds.NonfiniteBehavior.TheVariants.{IEEE754, NanOnly, NanNegativeZero}
 use Rattle.apfloat_model.specs.formats.Format.{Format, smallest_normalized, largest, nan_base}
 use Rattle.apfloat_model.specs.formats.Datum.{Datum, finite}
-use Rattle.apfloat_model.specs.rounding.Rounding.{IsPick, IsDelivered, is_tiny, delivered_value, delivered_status, signed_quanta, zero_sign, past_largest, leads_out, raises_overflow, overflow_bit, underflow_bit, inexact_bit}
-use Rattle.apfloat_model.specs.rounding.Negation.{negated}
-use Rattle.apfloat_model.specs.arithmetic.Exact.{same_sign}
+use Rattle.apfloat_model.specs.rounding.Rounding.{IsPick, IsDelivered, is_tiny, delivered_value, delivered_status}
+use Rattle.apfloat_model.specs.rounding.Rounding.{signed_quanta, zero_sign, past_largest, leads_out, raises_overflow}
+use Rattle.apfloat_model.specs.rounding.Rounding.{overflow_bit, underflow_bit, inexact_bit}
+use Rattle.apfloat_model.specs.{rounding.Negation.negated, arithmetic.Exact.same_sign}
 use Rattle.apfloat_model.specs.order.Classes.{is_denormal, is_finite_non_zero, quanta_of, is_negative}
-use Rattle.apfloat_model.proofs.rounding.Laws.{pick_within, zero_on_grid}
-use Rattle.apfloat_model.proofs.rounding.Picks.{pick_unique}
+use Rattle.apfloat_model.proofs.rounding.{Laws.pick_within, Laws.zero_on_grid, Picks.pick_unique}
 use Rattle.apfloat_model.proofs.Once.{Once}
 use Rattle.ieee_operations.specs.StatusFlags.{is_raised}
 use Rattle.apfloat_machines.specs.declared.flushing.Flush.{Flush}

@@ -2,22 +2,21 @@
 use Rattle.std.proofs.Common.{ℕ, Bool, false, sym, ◌∙◌, ◌||◌}
 use Rattle.std.specs.Bool.{MatchBool}
 use Rattle.apfloat_model.specs.{declared.kinds.Round.Round, formats.Format.Format, formats.Datum.Datum}
-use Rattle.apfloat_model.specs.{rounding.Answer.IsAnswer, order.Classes.is_nan}
+use Rattle.apfloat_model.specs.{rounding.Answer.IsAnswer, order.Classes.is_nan, arithmetic.Conversions.IsConversion}
+use Rattle.apfloat_model.specs.{whole_numbers.WholeNumbers.IsRoundToIntegral}
 use Rattle.apfloat_model.specs.arithmetic.{Sums.IsSum, Sums.IsDifference, Products.IsProduct, Quotients.IsQuotient}
-use Rattle.apfloat_model.specs.arithmetic.Remainders.{IsTruncatedRemainder, IsNearestRemainder, truncated_quotient}
 use Rattle.apfloat_model.specs.arithmetic.{Remainders.nearest_quotient, Roots.IsRoot, FusedSums.IsFusedSum}
-use Rattle.apfloat_model.specs.{arithmetic.Conversions.IsConversion, whole_numbers.WholeNumbers.IsRoundToIntegral}
+use Rattle.apfloat_model.specs.arithmetic.Remainders.{IsTruncatedRemainder, IsNearestRemainder, truncated_quotient}
+use Rattle.apfloat_model.proofs.{Once.round_to_integral_once, Determined.same_answer, Determined.gives_once}
 use Rattle.apfloat_model.proofs.Once.{Once, answer_once, sum_once, difference_once, product_once, quotient_once}
 use Rattle.apfloat_model.proofs.Once.{remainder_once, root_once, fused_sum_once, conversion_once}
-use Rattle.apfloat_model.proofs.{Once.round_to_integral_once, Determined.same_answer, Determined.gives_once}
 use Rattle.apfloat_model.proofs.general.Choices.{match_case}
 use Rattle.ieee_operations.specs.WholeNumbers.{IsRoundedToIntegral}
 use Rattle.ieee_operations.proofs.IntegralOnce.{integral_once}
-use Rattle.apfloat_machines.specs.declared.machine.Machine.{Machine}
+use Rattle.apfloat_machines.specs.{Conversions.is_lost_nan, Theorems.HaveOneAnswer, declared.machine.Machine.Machine}
 use Rattle.apfloat_machines.specs.Invalid.{is_invalid_sum, is_invalid_difference, is_invalid_product}
 use Rattle.apfloat_machines.specs.Invalid.{is_invalid_quotient, is_invalid_remainder, is_invalid_root, is_invalid_fused}
 use Rattle.apfloat_machines.specs.Operations.{is_nan_of_three, IsOfTwo, IsOfThree}
-use Rattle.apfloat_machines.specs.{Conversions.is_lost_nan, Theorems.HaveOneAnswer}
 use Rattle.apfloat_machines.specs.Theorems.{ConversionsHaveOneAnswer, WholeNumbersHaveOneAnswer, FusedSumsHaveOneAnswer}
 
 pub of_two_once : (f : Format) (machine : Machine) (x y : Datum) (invalid : Bool) (Says : Datum → ℕ → Type 0)

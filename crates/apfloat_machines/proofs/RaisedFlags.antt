@@ -1,39 +1,40 @@
 -- OVERFLOW and UNDERFLOW are raised only together with INEXACT, by the operations of a machine.
-use Rattle.std.proofs.Common.{◌≡◌, ℕ, ◌+◌, Bool, true, false, not, ◌&&◌, ◌||◌, eqb, refl, sym, ◌∙◌, subst, lit<, if◌then◌else◌}
-use Rattle.std.specs.Prelude.{ℤ}
-use Rattle.std.specs.Bool.{MatchBool}
-use Rattle.apfloat_model.specs.declared.kinds.Round.{Round}
-use Rattle.apfloat_model.specs.formats.Format.{Format}
-use Rattle.apfloat_model.specs.formats.Datum.{Datum, finite, infinite, nan}
-use Rattle.apfloat_model.specs.formats.Nan.{invalid_bit}
-use Rattle.apfloat_model.specs.rounding.Answer.{IsAnswer}
-use Rattle.apfloat_model.specs.rounding.Outcome.{Outcome, settled, rounded, totalled, rooted, IsSound}
-use Rattle.apfloat_model.specs.rounding.RaisedFlags.{FlagsGoTogether}
-use Rattle.apfloat_model.specs.rounding.Rounding.{ok_bits, underflow_bit, inexact_bit, delivered_value, delivered_status}
-use Rattle.apfloat_model.specs.order.Classes.{is_nan}
+use Rattle.std.proofs.Common.{◌≡◌, ℕ, ◌+◌, Bool, true, false, not, ◌&&◌, ◌||◌, eqb, refl, sym, ◌∙◌, subst, lit<}
+use Rattle.std.proofs.Common.{if◌then◌else◌}
+use Rattle.std.specs.{Prelude.ℤ, Bool.MatchBool}
+use Rattle.apfloat_model.specs.{declared.kinds.Round.Round, formats.Format.Format}
+use Rattle.apfloat_model.specs.formats.{Datum.Datum, Datum.finite, Datum.infinite, Datum.nan, Nan.invalid_bit}
+use Rattle.apfloat_model.specs.rounding.{Answer.IsAnswer, Outcome.Outcome, Outcome.settled, Outcome.rounded}
+use Rattle.apfloat_model.specs.rounding.{Outcome.totalled, Outcome.rooted, Outcome.IsSound, RaisedFlags.FlagsGoTogether}
+use Rattle.apfloat_model.specs.rounding.Rounding.{ok_bits, underflow_bit, inexact_bit, delivered_value}
+use Rattle.apfloat_model.specs.{rounding.Rounding.delivered_status, order.Classes.is_nan}
 use Rattle.apfloat_model.specs.arithmetic.Exact.{sign_of, magnitude, zero_sum_sign}
-use Rattle.apfloat_model.specs.arithmetic.Sums.{sum, difference, IsSum, IsDifference}
-use Rattle.apfloat_model.specs.arithmetic.Products.{product, IsProduct}
-use Rattle.apfloat_model.specs.arithmetic.Quotients.{quotient, IsQuotient}
-use Rattle.apfloat_model.specs.arithmetic.Remainders.{IsTruncatedRemainder, IsNearestRemainder, truncated_quotient, nearest_quotient}
-use Rattle.apfloat_model.specs.arithmetic.Roots.{IsRoot}
-use Rattle.apfloat_model.specs.arithmetic.FusedSums.{fused_sum, IsFusedSum}
-use Rattle.apfloat_model.specs.arithmetic.Conversions.{IsConversion, loses_zero_sign}
+use Rattle.apfloat_model.specs.arithmetic.{Sums.sum, Sums.difference, Sums.IsSum, Sums.IsDifference, Products.product}
+use Rattle.apfloat_model.specs.arithmetic.{Products.IsProduct, Quotients.quotient, Quotients.IsQuotient}
+use Rattle.apfloat_model.specs.arithmetic.Remainders.{IsTruncatedRemainder, IsNearestRemainder, truncated_quotient}
+use Rattle.apfloat_model.specs.arithmetic.{Remainders.nearest_quotient, Roots.IsRoot, FusedSums.fused_sum}
+use Rattle.apfloat_model.specs.arithmetic.{FusedSums.IsFusedSum, Conversions.IsConversion, Conversions.loses_zero_sign}
 use Rattle.apfloat_model.specs.whole_numbers.WholeNumbers.{IsRoundToIntegral}
 use Rattle.apfloat_model.specs.whole_numbers.WholeNumbersOut.{to_signed, to_unsigned}
-use Rattle.apfloat_model.proofs.general.Choices.{match_case, if_case}
-use Rattle.apfloat_model.proofs.Outcomes.{yields_together, sum_sound, difference_sound, product_sound, quotient_sound, fused_sum_sound}
-use Rattle.apfloat_model.proofs.rounding.FlagsTogether.{inexact_together, only_inexact_together, ok_together, invalid_together, invalid_if_together, answer_together, delivered_together, sum_together, difference_together, product_together, quotient_together, root_together, fused_sum_together, remainder_together, conversion_together, round_to_integral_together, to_signed_together, to_unsigned_together}
-use Rattle.ieee_operations.specs.RaisedFlags.{RaisesTogether}
-use Rattle.ieee_operations.specs.WholeNumbers.{IsRoundedToIntegral}
-use Rattle.apfloat_machines.specs.declared.machine.Machine.{Machine}
-use Rattle.apfloat_machines.specs.declared.flushing.Flush.TheVariants.{X86}
-use Rattle.apfloat_machines.specs.Invalid.{is_invalid_sum, is_invalid_difference, is_invalid_product, is_invalid_quotient, is_invalid_remainder, is_invalid_root, is_invalid_fused}
+use Rattle.apfloat_model.proofs.{general.Choices.match_case, general.Choices.if_case, Outcomes.yields_together}
+use Rattle.apfloat_model.proofs.Outcomes.{sum_sound, difference_sound, product_sound, quotient_sound, fused_sum_sound}
+use Rattle.apfloat_model.proofs.rounding.FlagsTogether.{inexact_together, only_inexact_together, ok_together}
+use Rattle.apfloat_model.proofs.rounding.FlagsTogether.{invalid_together, invalid_if_together, answer_together}
+use Rattle.apfloat_model.proofs.rounding.FlagsTogether.{delivered_together, sum_together, difference_together}
+use Rattle.apfloat_model.proofs.rounding.FlagsTogether.{product_together, quotient_together, root_together}
+use Rattle.apfloat_model.proofs.rounding.FlagsTogether.{fused_sum_together, remainder_together, conversion_together}
+use Rattle.apfloat_model.proofs.rounding.FlagsTogether.{round_to_integral_together, to_signed_together}
+use Rattle.apfloat_model.proofs.rounding.FlagsTogether.{to_unsigned_together}
+use Rattle.ieee_operations.specs.{RaisedFlags.RaisesTogether, WholeNumbers.IsRoundedToIntegral}
+use Rattle.apfloat_machines.specs.declared.{machine.Machine.Machine, flushing.Flush.TheVariants.X86}
+use Rattle.apfloat_machines.specs.Invalid.{is_invalid_sum, is_invalid_difference, is_invalid_product}
+use Rattle.apfloat_machines.specs.Invalid.{is_invalid_quotient, is_invalid_remainder, is_invalid_root, is_invalid_fused}
 use Rattle.apfloat_machines.specs.Operations.{is_nan_of_three, IsOfTwo, IsOfThree}
 use Rattle.apfloat_machines.specs.Conversions.{is_lost_nan}
 use Rattle.apfloat_machines.specs.WholeNumbers.{invalid_flags, settled_flags, IsMachineSigned, IsMachineUnsigned}
 use Rattle.apfloat_machines.specs.Flushing.{flushes, IsRoundedOrFlushed}
-use Rattle.apfloat_machines.specs.FlushedOperations.{YieldsFlushed, IsFlushedSum, IsFlushedDifference, IsFlushedProduct, IsFlushedQuotient, IsFlushedFusedSum, IsFlushedConversion}
+use Rattle.apfloat_machines.specs.FlushedOperations.{YieldsFlushed, IsFlushedSum, IsFlushedDifference, IsFlushedProduct}
+use Rattle.apfloat_machines.specs.FlushedOperations.{IsFlushedQuotient, IsFlushedFusedSum, IsFlushedConversion}
 use Rattle.apfloat_machines.specs.RaisedFlags.{MachineFlagsGoTogether, FlushedFlagsGoTogether}
 
 -- ---- operations on one, two and three operands

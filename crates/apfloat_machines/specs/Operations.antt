@@ -1,15 +1,13 @@
 -- The operations of machines: value and flags (IEEE 754-2019 5.4.1, 6.2.3, 7.2).
-use Rattle.std.specs.Prelude.{◌≡◌, ℕ, Bool, true, false, not, ◌&&◌, ◌||◌, Option, Some, None}
-use Rattle.std.specs.Prelude.{if◌then◌else◌}
+use Rattle.std.specs.Prelude.{◌≡◌, ℕ, Bool, true, false, not, ◌&&◌, ◌||◌, Option, Some, None, if◌then◌else◌}
 use Rattle.std.specs.Bool.{MatchBool}
-use Rattle.apfloat_model.specs.declared.kinds.{Round.Round, NonfiniteBehavior.TheVariants.IEEE754}
-use Rattle.apfloat_model.specs.declared.status.StatusAnd.{StatusAnd}
+use Rattle.apfloat_model.specs.{formats.Nan.is_signaling_nan, order.Classes.is_nan, arithmetic.FusedSums.IsFusedSum}
+use Rattle.apfloat_model.specs.{whole_numbers.WholeNumbers.IsRoundToIntegral, declared.kinds.Round.Round}
+use Rattle.apfloat_model.specs.declared.{kinds.NonfiniteBehavior.TheVariants.IEEE754, status.StatusAnd.StatusAnd}
 use Rattle.apfloat_model.specs.rounding.{Flags.Gives, Flags.bits_of, Answer.IsAnswer}
 use Rattle.apfloat_model.specs.formats.{Format.Format, Datum.Datum, Nan.invalid_bit, Nan.invalid_if}
-use Rattle.apfloat_model.specs.{formats.Nan.is_signaling_nan, order.Classes.is_nan}
 use Rattle.apfloat_model.specs.arithmetic.{Sums.IsSum, Sums.IsDifference, Products.IsProduct, Quotients.IsQuotient}
 use Rattle.apfloat_model.specs.arithmetic.{Remainders.IsTruncatedRemainder, Remainders.IsNearestRemainder, Roots.IsRoot}
-use Rattle.apfloat_model.specs.{arithmetic.FusedSums.IsFusedSum, whole_numbers.WholeNumbers.IsRoundToIntegral}
 use Rattle.ieee_operations.specs.{WholeNumbers.IsRoundedToIntegral, Extrema.quieted_datum}
 use Rattle.apfloat_machines.specs.declared.machine.{Machine.Machine, FusedOrder.FusedOrder}
 use Rattle.apfloat_machines.specs.declared.machine.FusedOrder.TheVariants.{FactorsFirst, AddendFirst, AddendSecond}

@@ -1,6 +1,5 @@
 -- The integers that machines deliver for invalid conversions (IEEE 754-2019 5.8, 7.2).
-use Rattle.std.specs.Prelude.{◌≡◌, ℕ, ◌+◌, ◌-◌, ◌^◌, not, ◌&&◌, ◌||◌, eqb, ℤ, pos}
-use Rattle.std.specs.Prelude.{neg_ℤ, if◌then◌else◌, Bool}
+use Rattle.std.specs.Prelude.{◌≡◌, ℕ, ◌+◌, ◌-◌, ◌^◌, not, ◌&&◌, ◌||◌, eqb, ℤ, pos, neg_ℤ, if◌then◌else◌, Bool}
 use Rattle.apfloat_model.specs.declared.{kinds.Round.Round, status.StatusAnd.StatusAnd}
 use Rattle.apfloat_model.specs.rounding.{Flags.Gives, Flags.bits_of, Rounding.inexact_bit}
 use Rattle.apfloat_model.specs.formats.{Format.Format, Datum.Datum, Nan.invalid_bit}

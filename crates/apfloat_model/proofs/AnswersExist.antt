@@ -1,28 +1,19 @@
 -- Each operation has a result, in every format of at least one digit.
 use Rattle.std.proofs.Common.{ℕ, ◌+◌, ◌-◌, ◌^◌, ◌<◌, Bool, true, false, eqb, sym, refl, lit<}
-use Rattle.std.specs.Prelude.{ℤ}
-use Rattle.apfloat_model.specs.declared.kinds.Round.{Round}
-use Rattle.apfloat_model.specs.declared.kinds.Round.TheVariants.{NearestTiesToEven}
-use Rattle.apfloat_model.specs.formats.Format.{Format, largest}
-use Rattle.apfloat_model.specs.formats.Datum.{Datum, finite, infinite, nan}
-use Rattle.apfloat_model.specs.rounding.Negation.{negated}
-use Rattle.apfloat_model.specs.rounding.Answer.{IsAnswer}
-use Rattle.apfloat_model.specs.formats.Nan.{is_signaling}
-use Rattle.apfloat_model.specs.arithmetic.Sums.{IsSum, IsDifference}
-use Rattle.apfloat_model.specs.arithmetic.Products.{IsProduct}
-use Rattle.apfloat_model.specs.arithmetic.Quotients.{IsQuotient}
-use Rattle.apfloat_model.specs.arithmetic.Roots.{IsRoot}
-use Rattle.apfloat_model.specs.arithmetic.FusedSums.{IsFusedSum}
-use Rattle.apfloat_model.specs.arithmetic.Scaling.{IsScaling}
-use Rattle.apfloat_model.specs.whole_numbers.WholeNumbers.{IsRoundToIntegral}
-use Rattle.apfloat_model.specs.arithmetic.Remainders.{IsRemainder}
-use Rattle.apfloat_model.specs.arithmetic.NextUp.{IsNextGreater, IsNextOfNumber, IsNextUp, IsNextDown}
 use Rattle.std.proofs.lemmas.Nat.{pow_pos}
-use Rattle.apfloat_model.specs.arithmetic.Exact.{down}
-use Rattle.apfloat_model.proofs.general.Choices.{match_case}
+use Rattle.std.specs.Prelude.{ℤ}
+use Rattle.apfloat_model.specs.declared.kinds.Round.{Round, TheVariants.NearestTiesToEven}
+use Rattle.apfloat_model.specs.formats.Format.{Format, largest}
+use Rattle.apfloat_model.specs.formats.{Datum.Datum, Datum.finite, Datum.infinite, Datum.nan, Nan.is_signaling}
+use Rattle.apfloat_model.specs.{rounding.Negation.negated, rounding.Answer.IsAnswer, arithmetic.Sums.IsSum}
+use Rattle.apfloat_model.specs.arithmetic.{Sums.IsDifference, Products.IsProduct, Quotients.IsQuotient, Roots.IsRoot}
+use Rattle.apfloat_model.specs.arithmetic.{FusedSums.IsFusedSum, Scaling.IsScaling, Remainders.IsRemainder}
+use Rattle.apfloat_model.specs.arithmetic.NextUp.{IsNextGreater, IsNextOfNumber, IsNextUp, IsNextDown}
+use Rattle.apfloat_model.specs.{arithmetic.Exact.down, whole_numbers.WholeNumbers.IsRoundToIntegral}
+use Rattle.apfloat_model.proofs.general.{Choices.match_case, Powers.twice_half}
 use Rattle.apfloat_model.proofs.rounding.NeighboursExist.{below_exists, above_exists}
-use Rattle.apfloat_model.proofs.general.Powers.{twice_half}
-use Rattle.apfloat_model.proofs.Outcomes.{yields_something, sum_sound, difference_sound, product_sound, quotient_sound, root_sound, fused_sum_sound, integral_sound, remainder_sound}
+use Rattle.apfloat_model.proofs.Outcomes.{yields_something, sum_sound, difference_sound, product_sound, quotient_sound}
+use Rattle.apfloat_model.proofs.Outcomes.{root_sound, fused_sum_sound, integral_sound, remainder_sound}
 pub use Rattle.apfloat_model.proofs.rounding.DeliveriesExist.{HasAnswer, answer_exists}
 pub use Rattle.apfloat_model.proofs.rounding.DeliveriesExist.{rounded_exists, delivered_root_exists}
 

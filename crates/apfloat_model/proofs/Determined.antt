@@ -1,37 +1,29 @@
 -- The relations between a format's operations and their results determine the results.
-use Rattle.std.proofs.Common.{◌≡◌, ℕ, ◌-◌, ◌^◌, ◌<◌, ◌≤◌, Bool, eqb, List, Option, Some, None, Result, Ok, Err, sym, refl, ap, ◌∙◌, subst, arith}
+use Rattle.std.proofs.Common.{◌≡◌, ℕ, ◌-◌, ◌^◌, ◌<◌, ◌≤◌, Bool, eqb, List, Option, Some, None}
+use Rattle.std.proofs.Common.{Result, Ok, Err, sym, refl, ap, ◌∙◌, subst, arith}
+use Rattle.std.proofs.lemmas.{Nat.pow_pos, Int.ints, Option.none-some}
 use Rattle.std.specs.Prelude.{ℤ, pos, ◌-ℤ◌, unsigned_abs}
 use Rattle.std.specs.Option.{unwrap_or}
-use Rattle.std.proofs.lemmas.Nat.{pow_pos}
-use Rattle.std.proofs.lemmas.Int.{ints}
-use Rattle.std.proofs.lemmas.Option.{none-some}
-use Rattle.apfloat_model.specs.declared.parse_error.Fault.{Fault}
-use Rattle.apfloat_model.specs.declared.kinds.Round.{Round}
-use Rattle.apfloat_model.specs.declared.parse_error.ParseError.{ParseError}
-use Rattle.apfloat_model.specs.declared.status.StatusAnd.{StatusAnd}
-use Rattle.apfloat_model.specs.rounding.Flags.{Gives, bits_of}
-use Rattle.apfloat_model.specs.formats.Format.{Format}
-use Rattle.apfloat_model.specs.formats.Datum.{Datum, finite, infinite, nan}
+use Rattle.apfloat_model.specs.declared.{parse_error.Fault.Fault, parse_error.ParseError.ParseError, kinds.Round.Round}
+use Rattle.apfloat_model.specs.{declared.status.StatusAnd.StatusAnd, rounding.Flags.Gives, rounding.Flags.bits_of}
+use Rattle.apfloat_model.specs.formats.{Format.Format, Datum.Datum, Datum.finite, Datum.infinite, Datum.nan}
 use Rattle.apfloat_model.specs.formats.Lawful.{Constants, IsLawful, format_with}
-use Rattle.apfloat_model.specs.bits.Layout.{Layout, IsEncodedBy}
-use Rattle.apfloat_model.specs.bits.Interchange.{IsInterchange}
+use Rattle.apfloat_model.specs.bits.{Layout.Layout, Layout.IsEncodedBy, Interchange.IsInterchange}
 use Rattle.apfloat_model.specs.arithmetic.Sums.{IsSum, IsDifference}
-use Rattle.apfloat_model.specs.arithmetic.Products.{IsProduct}
-use Rattle.apfloat_model.specs.arithmetic.Quotients.{IsQuotient}
-use Rattle.apfloat_model.specs.arithmetic.Remainders.{IsTruncatedRemainder, IsNearestRemainder, truncated_quotient, nearest_quotient}
-use Rattle.apfloat_model.specs.arithmetic.Scaling.{IsScaling}
+use Rattle.apfloat_model.specs.arithmetic.{Products.IsProduct, Quotients.IsQuotient, Remainders.IsTruncatedRemainder}
+use Rattle.apfloat_model.specs.arithmetic.Remainders.{IsNearestRemainder, truncated_quotient, nearest_quotient}
+use Rattle.apfloat_model.specs.arithmetic.{Scaling.IsScaling, NextUp.IsNextUp, NextUp.IsNextDown, Exponents.IsIlogb}
+use Rattle.apfloat_model.specs.arithmetic.Exponents.{IsLogarithm, IsFraction, IsFrexp, AreInverse, IsExactInverse}
 use Rattle.apfloat_model.specs.whole_numbers.WholeNumbers.{IsFromUnsigned, IsFromSigned, IsRoundToIntegral}
 use Rattle.apfloat_model.specs.whole_numbers.WholeNumbersOut.{IsToUnsigned, IsToSigned, to_unsigned, to_signed}
-use Rattle.apfloat_model.specs.arithmetic.NextUp.{IsNextUp, IsNextDown}
-use Rattle.apfloat_model.specs.arithmetic.Exponents.{IsIlogb, IsLogarithm, IsFraction, IsFrexp, AreInverse, IsExactInverse}
 use Rattle.apfloat_model.specs.texts.Specials.{TextMeaning, infinity, not_a_number, hexadecimal}
-use Rattle.apfloat_model.specs.texts.Faults.{words}
-use Rattle.apfloat_model.specs.texts.Readings.{IsMeant, IsReading, IsRefusal}
+use Rattle.apfloat_model.specs.texts.{Faults.words, Readings.IsMeant, Readings.IsReading, Readings.IsRefusal}
 use Rattle.apfloat_model.specs.texts.Parsing.{IsRead}
 use Rattle.apfloat_model.specs.Determined.{Determines, DeterminesBoth, AreOneReading, IsDetermined}
-use Rattle.apfloat_model.proofs.rounding.Laws.{delivered_once}
-use Rattle.apfloat_model.proofs.Once.{Once, answer_once, sum_once, difference_once, product_once, quotient_once, scaling_once, from_unsigned_once, from_signed_once, round_to_integral_once, whole_once, remainder_once, next_up_once, next_down_once}
-use Rattle.apfloat_model.proofs.bits.EncodedOnce.{encoded_once}
+use Rattle.apfloat_model.proofs.{rounding.Laws.delivered_once, Once.Once, Once.answer_once, Once.sum_once}
+use Rattle.apfloat_model.proofs.Once.{difference_once, product_once, quotient_once, scaling_once, from_unsigned_once}
+use Rattle.apfloat_model.proofs.Once.{from_signed_once, round_to_integral_once, whole_once, remainder_once}
+use Rattle.apfloat_model.proofs.{Once.next_up_once, Once.next_down_once, bits.EncodedOnce.encoded_once}
 use Rattle.apfloat_model.proofs.arithmetic.Inverses.{logarithm_once, fraction_once, inverse_once}
 use Rattle.apfloat_model.proofs.general.Choices.{match_one, match_case}
 use Rattle.apfloat_model.proofs.texts.OneMeaning.{one_meaning, meaning_no_fault}

@@ -1,29 +1,21 @@
 -- Each relation determines the value and the status.
 use Rattle.std.proofs.Common.{◌≡◌, ℕ, zero, suc, ◌+◌, ◌-◌, Bool, true, false, not, eqb, sym, ap, ◌∙◌, arith}
 use Rattle.std.specs.Prelude.{ℤ}
-use Rattle.apfloat_model.specs.declared.kinds.Round.{Round}
-use Rattle.apfloat_model.specs.declared.kinds.Round.TheVariants.{NearestTiesToEven}
+use Rattle.apfloat_model.specs.declared.kinds.Round.{Round, TheVariants.NearestTiesToEven}
+use Rattle.apfloat_model.specs.formats.{Datum.Datum, Datum.finite, Datum.infinite, Datum.nan, Nan.is_signaling}
 use Rattle.apfloat_model.specs.formats.Format.{Format, largest}
-use Rattle.apfloat_model.specs.formats.Datum.{Datum, finite, infinite, nan}
-use Rattle.apfloat_model.specs.rounding.Rounding.{ok_bits, signed_quanta}
-use Rattle.apfloat_model.specs.rounding.Negation.{negated}
-use Rattle.apfloat_model.specs.rounding.Answer.{IsAnswer}
-use Rattle.apfloat_model.specs.formats.Nan.{is_signaling}
-use Rattle.apfloat_model.specs.arithmetic.Sums.{sum, difference, IsSum, IsDifference}
-use Rattle.apfloat_model.specs.arithmetic.Products.{product, IsProduct}
-use Rattle.apfloat_model.specs.arithmetic.Quotients.{quotient, IsQuotient}
-use Rattle.apfloat_model.specs.arithmetic.Roots.{root, IsRoot}
-use Rattle.apfloat_model.specs.arithmetic.FusedSums.{fused_sum, IsFusedSum}
-use Rattle.apfloat_model.specs.arithmetic.Scaling.{IsScaling}
-use Rattle.apfloat_model.specs.whole_numbers.WholeNumbers.{from_unsigned, from_signed, integral, IsFromUnsigned, IsFromSigned, IsRoundToIntegral}
-use Rattle.apfloat_model.specs.whole_numbers.WholeNumbersOut.{Whole, IsWhole}
+use Rattle.apfloat_model.specs.rounding.{Rounding.ok_bits, Rounding.signed_quanta, Negation.negated, Answer.IsAnswer}
+use Rattle.apfloat_model.specs.arithmetic.{Sums.sum, Sums.difference, Sums.IsSum, Sums.IsDifference, Products.product}
+use Rattle.apfloat_model.specs.arithmetic.{Products.IsProduct, Quotients.quotient, Quotients.IsQuotient, Roots.root}
+use Rattle.apfloat_model.specs.arithmetic.{Roots.IsRoot, FusedSums.fused_sum, FusedSums.IsFusedSum, Scaling.IsScaling}
 use Rattle.apfloat_model.specs.arithmetic.Conversions.{IsConverted, IsConvertedNumber, IsConversion}
 use Rattle.apfloat_model.specs.arithmetic.Remainders.{remainder, IsRemainder}
 use Rattle.apfloat_model.specs.arithmetic.NextUp.{IsNextGreater, IsNextLess, IsNextOfNumber, IsNextUp, IsNextDown}
-use Rattle.apfloat_model.proofs.rounding.Neighbours.{below_unique, above_unique}
-use Rattle.apfloat_model.proofs.general.Choices.{match_case, not_zero}
-use Rattle.apfloat_model.proofs.rounding.Laws.{delivered_once}
-use Rattle.apfloat_model.proofs.Outcomes.{yields_once}
+use Rattle.apfloat_model.specs.whole_numbers.WholeNumbers.{from_unsigned, from_signed, integral, IsFromUnsigned}
+use Rattle.apfloat_model.specs.whole_numbers.WholeNumbers.{IsFromSigned, IsRoundToIntegral}
+use Rattle.apfloat_model.specs.whole_numbers.WholeNumbersOut.{Whole, IsWhole}
+use Rattle.apfloat_model.proofs.{general.Choices.match_case, general.Choices.not_zero, Outcomes.yields_once}
+use Rattle.apfloat_model.proofs.rounding.{Neighbours.below_unique, Neighbours.above_unique, Laws.delivered_once}
 pub use Rattle.apfloat_model.proofs.rounding.RootsOnce.{Once, answer_once, delivered_root_once}
 pub use Rattle.apfloat_model.proofs.rounding.RootsOnce.{below_root_unique, above_root_unique}
 

@@ -1,27 +1,23 @@
 -- What holds of every outcome: it is delivered, as one value with one status, whose flags go together.
 use Rattle.std.proofs.Common.{◌≡◌, ℕ, ◌*◌, ◌^◌, ◌<◌, Bool, true, false, eqb, ⊎_elim, lit<, arith}
-use Rattle.std.proofs.lemmas.Nat.{pow_pos}
-use Rattle.std.proofs.lemmas.Bool.{cases_eq, eq-eqb, ne_eqb}
+use Rattle.std.proofs.lemmas.{Nat.pow_pos, Bool.cases_eq, Bool.eq-eqb, Bool.ne_eqb}
 use Rattle.std.specs.Prelude.{ℤ, if◌then◌else◌}
-use Rattle.apfloat_model.specs.declared.kinds.Round.{Round}
-use Rattle.apfloat_model.specs.formats.Format.{Format}
+use Rattle.apfloat_model.specs.{declared.kinds.Round.Round, formats.Format.Format}
 use Rattle.apfloat_model.specs.formats.Datum.{Datum, finite, infinite, nan}
-use Rattle.apfloat_model.specs.rounding.Rounding.{ok_bits}
-use Rattle.apfloat_model.specs.rounding.Negation.{negated}
-use Rattle.apfloat_model.specs.rounding.RaisedFlags.{FlagsGoTogether}
+use Rattle.apfloat_model.specs.rounding.{Rounding.ok_bits, Negation.negated, RaisedFlags.FlagsGoTogether}
 use Rattle.apfloat_model.specs.rounding.Outcome.{Outcome, settled, rounded, totalled, rooted, Yields, IsSound}
-use Rattle.apfloat_model.specs.arithmetic.Sums.{sum, difference}
-use Rattle.apfloat_model.specs.arithmetic.Products.{product}
-use Rattle.apfloat_model.specs.arithmetic.Quotients.{quotient}
-use Rattle.apfloat_model.specs.arithmetic.Roots.{root}
+use Rattle.apfloat_model.specs.arithmetic.{Sums.sum, Sums.difference, Products.product, Quotients.quotient, Roots.root}
 use Rattle.apfloat_model.specs.arithmetic.FusedSums.{on_product, with_product, fused_sum}
 use Rattle.apfloat_model.specs.arithmetic.Remainders.{remainder}
-use Rattle.apfloat_model.specs.whole_numbers.WholeNumbers.{from_unsigned, from_signed, integral}
 use Rattle.apfloat_model.specs.arithmetic.Exact.{same_sign, product_sign, sign_of, magnitude, zero_sum_sign}
-use Rattle.apfloat_model.proofs.rounding.Laws.{delivered_once}
-use Rattle.apfloat_model.proofs.rounding.StatusesTogether.{Together, answer_together, delivered_together, delivered_root_together, ok_together, invalid_together, invalid_if_together, div_by_zero_together, inexact_unless_together}
+use Rattle.apfloat_model.specs.whole_numbers.WholeNumbers.{from_unsigned, from_signed, integral}
+use Rattle.apfloat_model.proofs.rounding.{Laws.delivered_once, StatusesTogether.Together}
+use Rattle.apfloat_model.proofs.rounding.StatusesTogether.{answer_together, delivered_together, delivered_root_together}
+use Rattle.apfloat_model.proofs.rounding.StatusesTogether.{ok_together, invalid_together, invalid_if_together}
+use Rattle.apfloat_model.proofs.rounding.StatusesTogether.{div_by_zero_together, inexact_unless_together}
 use Rattle.apfloat_model.proofs.rounding.RootsOnce.{Once, answer_once, delivered_root_once}
-use Rattle.apfloat_model.proofs.rounding.DeliveriesExist.{HasAnswer, answer_exists, rounded_exists, delivered_root_exists}
+use Rattle.apfloat_model.proofs.rounding.DeliveriesExist.{HasAnswer, answer_exists, rounded_exists}
+use Rattle.apfloat_model.proofs.rounding.DeliveriesExist.{delivered_root_exists}
 
 -- ---- the three theorems
 

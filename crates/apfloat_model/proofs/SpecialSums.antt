@@ -2,14 +2,11 @@
 use Rattle.std.proofs.Common.{◌≡◌, ◌⊎◌, inl, inr, ℕ, Bool, true, false, eqb, subst}
 use Rattle.std.specs.Prelude.{⊤, if◌then◌else◌}
 use Rattle.std.specs.Bool.{MatchBool}
-use Rattle.apfloat_model.specs.declared.kinds.Round.{Round}
-use Rattle.apfloat_model.specs.formats.Format.{Format}
+use Rattle.apfloat_model.specs.{declared.kinds.Round.Round, formats.Format.Format}
 use Rattle.apfloat_model.specs.formats.Datum.{Datum, finite, infinite, nan}
-use Rattle.apfloat_model.specs.rounding.Rounding.{ok_bits}
-use Rattle.apfloat_model.specs.rounding.Answer.{IsAnswer}
+use Rattle.apfloat_model.specs.rounding.{Rounding.ok_bits, Answer.IsAnswer}
 use Rattle.apfloat_model.specs.rounding.Outcome.{Outcome, settled, rounded, totalled, rooted, Yields}
-use Rattle.apfloat_model.specs.arithmetic.Products.{product, IsProduct}
-use Rattle.apfloat_model.specs.arithmetic.Sums.{sum, IsSum}
+use Rattle.apfloat_model.specs.arithmetic.{Products.product, Products.IsProduct, Sums.sum, Sums.IsSum}
 use Rattle.apfloat_model.specs.arithmetic.FusedSums.{on_product, IsSumWithProduct}
 use Rattle.apfloat_model.specs.order.Classes.{is_finite}
 

@@ -1,12 +1,9 @@
 -- What holds of every chain of roundings: it leads to one result with one status, whose flags go together.
 use Rattle.std.proofs.Common.{ℕ, ◌<◌, refl, sym, ◌∙◌, subst}
-use Rattle.apfloat_model.specs.declared.kinds.Round.{Round}
-use Rattle.apfloat_model.specs.formats.Format.{Format}
-use Rattle.apfloat_model.specs.formats.Datum.{Datum}
+use Rattle.apfloat_model.specs.{declared.kinds.Round.Round, formats.Format.Format, formats.Datum.Datum}
 use Rattle.apfloat_model.specs.rounding.RaisedFlags.{FlagsGoTogether}
 use Rattle.apfloat_model.specs.rounding.Steps.{Steps, ends, after, Leads, AreSound}
-use Rattle.apfloat_model.proofs.rounding.RootsOnce.{Once}
-use Rattle.apfloat_model.proofs.rounding.StatusesTogether.{Together}
+use Rattle.apfloat_model.proofs.rounding.{RootsOnce.Once, StatusesTogether.Together}
 use Rattle.apfloat_model.proofs.Outcomes.{yields_once, yields_something, yields_together}
 
 pub leads_once : {A : Type 0} (f : Format) (mode : Round) (steps : Steps A) → Once (Leads f mode steps)

@@ -1,7 +1,6 @@
 -- The relations between a floating-point type's operations and their results: each determines its result.
 use Rattle.std.specs.Prelude.{◌≡◌, ℕ, ◌<◌, ℤ, Bool, List, Option, Result, Ok, Err}
-use Rattle.apfloat_model.specs.declared.kinds.Round.{Round}
-use Rattle.apfloat_model.specs.declared.parse_error.ParseError.{ParseError}
+use Rattle.apfloat_model.specs.declared.{kinds.Round.Round, parse_error.ParseError.ParseError}
 use Rattle.apfloat_model.specs.declared.status.StatusAnd.{StatusAnd}
 
 -- at most one result satisfies the relation

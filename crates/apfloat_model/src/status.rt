@@ -1,8 +1,7 @@
 //! Statuses, which are sets of flags, and results with a status.
 
 ghost use Rattle.std.specs.Prelude.{⊤, ◌≡◌, [], ◌∷◌, codes};
-ghost use Rattle.apfloat_model.specs.rounding.Rounding.{ok_bits};
-ghost use Rattle.apfloat_model.specs.rounding.Flags.{bits_of};
+ghost use Rattle.apfloat_model.specs.rounding.{Rounding.ok_bits, Flags.bits_of};
 
 use bitflags::{Flag, Flags, bitflag_items};
 

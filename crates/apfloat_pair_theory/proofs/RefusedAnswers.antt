@@ -1,21 +1,16 @@
 -- The laws reject results that were computed with a step left out.
 use Rattle.std.proofs.Common.{◌≡◌, ◌+◌, ◌^◌, false, true, refl, sym, ap, subst, eqb, lit≤, lit<}
-use Rattle.std.specs.Prelude.{ℤ, pos, neg_ℤ}
 use Rattle.std.proofs.lemmas.Bool.{false≢true, le-leb}
-use Rattle.apfloat_model.specs.declared.kinds.Round.TheVariants.{NearestTiesToEven}
-use Rattle.apfloat_model.specs.formats.Datum.{Datum, finite}
-use Rattle.apfloat_model.specs.arithmetic.Exact.{magnitude}
-use Rattle.apfloat_model.specs.order.Order.{is_equal}
-use Rattle.apfloat_model.specs.rounding.Rounding.{ok_bits, inexact_bit}
-use Rattle.apfloat_model.specs.arithmetic.Sums.{IsSum}
-use Rattle.apfloat_model.proofs.Once.{sum_once}
-use Rattle.apfloat_model.proofs.rows.RowsIn.{rounded}
-use Rattle.apfloat_pair_theory.specs.PairFormats.{double}
-use Rattle.apfloat_pair_theory.specs.Pairs.{IsNormalised}
+use Rattle.std.specs.Prelude.{ℤ, pos, neg_ℤ}
+use Rattle.apfloat_model.specs.{declared.kinds.Round.TheVariants.NearestTiesToEven, formats.Datum.Datum}
+use Rattle.apfloat_model.specs.{formats.Datum.finite, arithmetic.Exact.magnitude, arithmetic.Sums.IsSum}
+use Rattle.apfloat_model.specs.{order.Order.is_equal, rounding.Rounding.ok_bits, rounding.Rounding.inexact_bit}
+use Rattle.apfloat_model.proofs.{Once.sum_once, rows.RowsIn.rounded}
+use Rattle.apfloat_pair_theory.specs.{PairFormats.double, Pairs.IsNormalised}
 use Rattle.apfloat_pair_theory.specs.PairAccuracy.{HaveExponents, IsErrorFreeSum, IsAccurateSum, IsAccurateProduct}
-use Rattle.apfloat_pair_theory.proofs.pairs.Normalised.{normalised_by}
-use Rattle.apfloat_pair_theory.proofs.products.ProductRanges.{have_exponents}
-use Rattle.apfloat_pair_theory.specs.WrongAnswers.{one, least, half_unit, one_and_half_unit, one_and_quarter_unit, before_closing}
+use Rattle.apfloat_pair_theory.specs.WrongAnswers.{one, least, half_unit, one_and_half_unit, one_and_quarter_unit}
+use Rattle.apfloat_pair_theory.specs.WrongAnswers.{before_closing}
+use Rattle.apfloat_pair_theory.proofs.{pairs.Normalised.normalised_by, products.ProductRanges.have_exponents}
 
 -- 1 is not an error-free sum of 1 and the least double
 pub dropped_error : IsErrorFreeSum one least one → ⊥

@@ -3,8 +3,7 @@
 -- does.
 use Rattle.std.specs.Prelude.{ℕ}
 use Rattle.std.proofs.Common.{lit<}
-use Rattle.apfloat_model.specs.declared.kinds.Round.TheVariants.{NearestTiesToEven}
-use Rattle.apfloat_model.specs.formats.Datum.{Datum}
+use Rattle.apfloat_model.specs.{declared.kinds.Round.TheVariants.NearestTiesToEven, formats.Datum.Datum}
 use Rattle.apfloat_model.specs.arithmetic.Sums.{IsSum}
 use Rattle.apfloat_model.proofs.AnswersExist.{sum_exists}
 use Rattle.apfloat_pair_theory.specs.PairFormats.{double}

@@ -3,17 +3,11 @@
 -- quanta of 2 ^ -1074. So the product of two counts of quanta is the exact product in parts of a quantum, of which a
 -- quantum has 2 ^ 1074.
 use Rattle.std.specs.Prelude.{◌≡◌, ◌⊎◌, ℕ, ◌+◌, ◌*◌, ◌^◌, ◌≤◌, ℤ, pos, neg_ℤ, ◌+ℤ◌, ◌-ℤ◌, ◌*ℤ◌, ◌≤ℤ◌, true}
-use Rattle.apfloat_model.specs.formats.Format.{largest}
-use Rattle.apfloat_model.specs.formats.Datum.{Datum}
-use Rattle.apfloat_model.specs.order.Order.{number}
-use Rattle.apfloat_model.specs.rounding.Rounding.{ok_bits, inexact_bit}
-use Rattle.apfloat_model.specs.order.Classes.{is_finite, is_finite_non_zero, quanta_of}
-use Rattle.apfloat_model.specs.arithmetic.Exact.{magnitude}
-use Rattle.apfloat_model.specs.arithmetic.Exponents.{IsIlogb}
-use Rattle.apfloat_model.specs.formats.Members.{IsMember}
-use Rattle.apfloat_model.specs.declared.kinds.Round.{Round}
-use Rattle.apfloat_model.specs.arithmetic.Quotients.{IsQuotient}
-use Rattle.apfloat_model.specs.arithmetic.Remainders.{IsTruncatedRemainder, IsNearestRemainder}
+use Rattle.apfloat_model.specs.{rounding.Rounding.ok_bits, rounding.Rounding.inexact_bit, arithmetic.Exact.magnitude}
+use Rattle.apfloat_model.specs.{arithmetic.Remainders.IsNearestRemainder, declared.kinds.Round.Round}
+use Rattle.apfloat_model.specs.formats.{Format.largest, Datum.Datum, Members.IsMember}
+use Rattle.apfloat_model.specs.order.{Order.number, Classes.is_finite, Classes.is_finite_non_zero, Classes.quanta_of}
+use Rattle.apfloat_model.specs.arithmetic.{Exponents.IsIlogb, Quotients.IsQuotient, Remainders.IsTruncatedRemainder}
 use Rattle.apfloat_pair_theory.specs.PairFormats.{double, wide}
 use Rattle.apfloat_pair_theory.specs.Pairs.{Pair, positive_zero, pair_number, IsJoined, IsNormalised}
 

@@ -1,25 +1,18 @@
 -- Operations on pairs of doubles that join a pair into the wide format, operate there, and split the result; the status
 -- is that of the wide operation. Signed integers are converted from unsigned ones, and the next value down is the
 -- negation of the next value up of the negation.
-use Rattle.std.specs.Prelude.{◌≡◌, ⊤, ℕ, ◌-◌, ℤ, pos, Bool, Option, Some, None, Result, Ok, Err, List, unsigned_abs, int_lt}
-use Rattle.std.specs.Bool.{MatchBool}
-use Rattle.apfloat_model.specs.declared.kinds.Round.{Round}
-use Rattle.apfloat_model.specs.declared.parse_error.ParseError.{ParseError}
-use Rattle.apfloat_model.specs.declared.status.StatusAnd.{StatusAnd}
-use Rattle.apfloat_model.specs.rounding.Flags.{Gives}
-use Rattle.apfloat_model.specs.formats.Datum.{Datum}
-use Rattle.apfloat_model.specs.rounding.Negation.{swapped}
-use Rattle.apfloat_model.specs.order.Classes.{is_negative, is_zero}
-use Rattle.apfloat_model.specs.arithmetic.Quotients.{IsQuotient}
-use Rattle.apfloat_model.specs.arithmetic.Remainders.{IsTruncatedRemainder, IsNearestRemainder}
-use Rattle.apfloat_model.specs.arithmetic.Exponents.{IsExactInverse}
+use Rattle.std.specs.Prelude.{◌≡◌, ⊤, ℕ, ◌-◌, ℤ, pos, Bool, Option, Some, None, Result, Ok, Err, List}
+use Rattle.std.specs.{Prelude.unsigned_abs, Prelude.int_lt, Bool.MatchBool}
+use Rattle.apfloat_model.specs.declared.{kinds.Round.Round, parse_error.ParseError.ParseError}
+use Rattle.apfloat_model.specs.{declared.status.StatusAnd.StatusAnd, rounding.Flags.Gives, rounding.Negation.swapped}
+use Rattle.apfloat_model.specs.{formats.Datum.Datum, order.Classes.is_negative, order.Classes.is_zero}
+use Rattle.apfloat_model.specs.arithmetic.{Quotients.IsQuotient, Remainders.IsTruncatedRemainder}
+use Rattle.apfloat_model.specs.arithmetic.{Remainders.IsNearestRemainder, Exponents.IsExactInverse, NextUp.IsNextUp}
 use Rattle.apfloat_model.specs.whole_numbers.WholeNumbers.{IsFromUnsigned, IsRoundToIntegral}
-use Rattle.apfloat_model.specs.whole_numbers.WholeNumbersOut.{IsToUnsigned}
-use Rattle.apfloat_model.specs.whole_numbers.SignedWholes.{IsNegatedWhole}
-use Rattle.apfloat_model.specs.arithmetic.NextUp.{IsNextUp}
+use Rattle.apfloat_model.specs.whole_numbers.{WholeNumbersOut.IsToUnsigned, SignedWholes.IsNegatedWhole}
 use Rattle.apfloat_model.specs.texts.Readings.{IsReading, IsRefusal}
-use Rattle.apfloat_pair_theory.specs.PairFormats.{wide}
-use Rattle.apfloat_pair_theory.specs.Pairs.{Pair, negated_pair, IsJoined, IsSplit, IsSplitAnswer, IsWideAnswer, IsWideAnswerOfTwo}
+use Rattle.apfloat_pair_theory.specs.{PairFormats.wide, Pairs.Pair, Pairs.negated_pair}
+use Rattle.apfloat_pair_theory.specs.Pairs.{IsJoined, IsSplit, IsSplitAnswer, IsWideAnswer, IsWideAnswerOfTwo}
 
 -- ---- on two pairs
 

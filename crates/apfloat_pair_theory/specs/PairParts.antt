@@ -1,23 +1,15 @@
 -- Operations on pairs of doubles that work on their parts.
 use Rattle.std.specs.Prelude.{◌≡◌, ℕ, ℤ, neg_ℤ, Bool, true, false, not, ◌&&◌, ◌||◌, Option}
-use Rattle.std.specs.Bool.{MatchBool}
-use Rattle.std.specs.Ordering.{ordering_then, partial_ordering_then}
-use Rattle.std.specs.declared.cmp.Ordering.{Ordering}
-use Rattle.std.specs.declared.cmp.Ordering.TheVariants.{Less, Equal, Greater}
+use Rattle.std.specs.{Bool.MatchBool, Ordering.ordering_then, Ordering.partial_ordering_then}
+use Rattle.std.specs.declared.cmp.Ordering.{Ordering, TheVariants.Less, TheVariants.Equal, TheVariants.Greater}
 use Rattle.apfloat_model.specs.declared.kinds.Category.TheVariants.{Normal}
-use Rattle.apfloat_model.specs.declared.kinds.Round.{Round}
-use Rattle.apfloat_model.specs.declared.kinds.Round.TheVariants.{NearestTiesToEven}
-use Rattle.apfloat_model.specs.formats.Datum.{Datum}
-use Rattle.apfloat_model.specs.arithmetic.Exact.{same_sign}
-use Rattle.apfloat_model.specs.order.Classes.{is_negative, is_finite_non_zero, is_denormal, is_integer, same_datum, category_of}
-use Rattle.apfloat_model.specs.formats.Constants.{smallest_datum, infinity_datum}
-use Rattle.apfloat_model.specs.formats.Nan.{qnan, snan, is_signaling_nan}
-use Rattle.apfloat_model.specs.arithmetic.Sums.{IsSum}
-use Rattle.apfloat_model.specs.order.Order.{compared, is_equal, compared_magnitudes}
-use Rattle.apfloat_model.specs.arithmetic.Scaling.{IsScaling}
-use Rattle.apfloat_model.specs.arithmetic.Exponents.{IsIlogb, IsFrexp}
-use Rattle.apfloat_pair_theory.specs.PairFormats.{double}
-use Rattle.apfloat_pair_theory.specs.NearestSums.{nearest_sum}
+use Rattle.apfloat_model.specs.declared.kinds.Round.{Round, TheVariants.NearestTiesToEven}
+use Rattle.apfloat_model.specs.formats.{Datum.Datum, Constants.smallest_datum, Constants.infinity_datum, Nan.qnan}
+use Rattle.apfloat_model.specs.{formats.Nan.snan, formats.Nan.is_signaling_nan, arithmetic.Exact.same_sign}
+use Rattle.apfloat_model.specs.arithmetic.{Sums.IsSum, Scaling.IsScaling, Exponents.IsIlogb, Exponents.IsFrexp}
+use Rattle.apfloat_model.specs.order.Classes.{is_negative, is_finite_non_zero, is_denormal, is_integer, same_datum}
+use Rattle.apfloat_model.specs.order.{Classes.category_of, Order.compared, Order.is_equal, Order.compared_magnitudes}
+use Rattle.apfloat_pair_theory.specs.{PairFormats.double, NearestSums.nearest_sum}
 use Rattle.apfloat_pair_theory.specs.Pairs.{Pair, alone, positive_zero, pair_of}
 
 -- ---- named pairs

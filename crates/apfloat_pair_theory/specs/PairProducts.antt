@@ -1,19 +1,12 @@
 -- The product of two pairs of doubles, as a chain of roundings in the mode; the flags of the steps are joined.
 use Rattle.std.specs.Prelude.{ℕ, if◌then◌else◌}
-use Rattle.apfloat_model.specs.declared.kinds.Round.{Round}
-use Rattle.apfloat_model.specs.declared.kinds.NonfiniteBehavior.TheVariants.{IEEE754}
-use Rattle.apfloat_model.specs.declared.kinds.Category.{Category}
+use Rattle.apfloat_model.specs.declared.kinds.{Round.Round, NonfiniteBehavior.TheVariants.IEEE754, Category.Category}
 use Rattle.apfloat_model.specs.declared.kinds.Category.TheVariants.{Zero, Normal, Infinity, NaN}
-use Rattle.apfloat_model.specs.formats.Datum.{Datum}
-use Rattle.apfloat_model.specs.rounding.Rounding.{ok_bits}
-use Rattle.apfloat_model.specs.rounding.Negation.{negated}
+use Rattle.apfloat_model.specs.{formats.Datum.Datum, rounding.Rounding.ok_bits, rounding.Negation.negated}
 use Rattle.apfloat_model.specs.rounding.Steps.{Steps, ends, after, Leads}
 use Rattle.apfloat_model.specs.order.Classes.{is_finite_non_zero}
-use Rattle.apfloat_model.specs.arithmetic.Sums.{sum}
-use Rattle.apfloat_model.specs.arithmetic.Products.{product}
-use Rattle.apfloat_model.specs.arithmetic.FusedSums.{fused_sum}
-use Rattle.apfloat_pair_theory.specs.PairFormats.{double}
-use Rattle.apfloat_pair_theory.specs.Pairs.{Pair, alone, pair_category, pair_nan}
+use Rattle.apfloat_model.specs.arithmetic.{Sums.sum, Products.product, FusedSums.fused_sum}
+use Rattle.apfloat_pair_theory.specs.{PairFormats.double, Pairs.Pair, Pairs.alone, Pairs.pair_category, Pairs.pair_nan}
 use Rattle.apfloat_pair_theory.specs.PairSums.{◌∪◌, continued, closing}
 
 -- the error of t = a * c, rounded once, plus the products of a high part and a low part

@@ -1,17 +1,11 @@
 -- The sum of two pairs of doubles, as a chain of roundings in the mode; the flags of the steps are joined.
 use Rattle.std.specs.Prelude.{ℕ, ltb, if◌then◌else◌, bit_or}
-use Rattle.apfloat_model.specs.arithmetic.Exact.{same_sign}
-use Rattle.apfloat_model.specs.declared.kinds.Round.{Round}
-use Rattle.apfloat_model.specs.declared.kinds.NonfiniteBehavior.TheVariants.{IEEE754}
-use Rattle.apfloat_model.specs.declared.kinds.Category.{Category}
+use Rattle.apfloat_model.specs.arithmetic.{Exact.same_sign, Sums.sum, Sums.difference}
+use Rattle.apfloat_model.specs.declared.kinds.{Round.Round, NonfiniteBehavior.TheVariants.IEEE754, Category.Category}
 use Rattle.apfloat_model.specs.declared.kinds.Category.TheVariants.{Zero, Normal, Infinity, NaN}
-use Rattle.apfloat_model.specs.formats.Datum.{Datum}
-use Rattle.apfloat_model.specs.formats.Nan.{invalid_bit}
-use Rattle.apfloat_model.specs.rounding.Rounding.{ok_bits}
-use Rattle.apfloat_model.specs.rounding.Negation.{negated}
-use Rattle.apfloat_model.specs.rounding.Steps.{Steps, ends, after, Leads}
+use Rattle.apfloat_model.specs.{formats.Datum.Datum, formats.Nan.invalid_bit, rounding.Rounding.ok_bits}
+use Rattle.apfloat_model.specs.rounding.{Negation.negated, Steps.Steps, Steps.ends, Steps.after, Steps.Leads}
 use Rattle.apfloat_model.specs.order.Classes.{is_negative, is_finite, is_infinite, quanta_of, same_datum}
-use Rattle.apfloat_model.specs.arithmetic.Sums.{sum, difference}
 use Rattle.apfloat_pair_theory.specs.PairFormats.{double}
 use Rattle.apfloat_pair_theory.specs.Pairs.{Pair, alone, positive_zero, negated_pair, pair_category, pair_nan_signed_as}
 

@@ -1,21 +1,15 @@
 -- Pairs of doubles: the number of a pair is the exact sum of its parts.
-use Rattle.std.specs.Prelude.{◌≡◌, ℕ, ◌/◌, ◌%◌, ◌^◌, ◌<◌, ℤ, ◌+ℤ◌, ◌-ℤ◌, Bool, false, true, ◌&&◌, not, eqb, if◌then◌else◌}
+use Rattle.std.specs.Prelude.{◌≡◌, ℕ, ◌/◌, ◌%◌, ◌^◌, ◌<◌, ℤ, ◌+ℤ◌, ◌-ℤ◌, Bool}
+use Rattle.std.specs.Prelude.{false, true, ◌&&◌, not, eqb, if◌then◌else◌}
 use Rattle.std.specs.Bool.{MatchBool}
 use Rattle.apfloat_model.specs.declared.kinds.Round.TheVariants.{NearestTiesToEven}
-use Rattle.apfloat_model.specs.declared.kinds.NonfiniteBehavior.TheVariants.{IEEE754}
-use Rattle.apfloat_model.specs.formats.Datum.{Datum, finite, nan}
-use Rattle.apfloat_model.specs.rounding.Rounding.{ok_bits}
-use Rattle.apfloat_model.specs.rounding.Negation.{negated}
-use Rattle.apfloat_model.specs.order.Classes.{is_negative, is_finite, is_finite_non_zero, category_of}
-use Rattle.apfloat_model.specs.formats.Nan.{qnan, quiet_significand}
-use Rattle.apfloat_model.specs.declared.kinds.Category.{Category}
-use Rattle.apfloat_model.specs.arithmetic.Exact.{signed, sign_of, magnitude}
-use Rattle.apfloat_model.specs.order.Order.{number, is_equal}
-use Rattle.apfloat_model.specs.arithmetic.Sums.{IsSum}
-use Rattle.apfloat_model.specs.arithmetic.Conversions.{IsConversion}
-use Rattle.apfloat_model.specs.bits.Layout.{datum_of, IsEncodedBy}
-use Rattle.apfloat_model.specs.formats.Lawful.{layout_with}
-use Rattle.apfloat_model.specs.formats.Formats.{double_constants}
+use Rattle.apfloat_model.specs.declared.kinds.{NonfiniteBehavior.TheVariants.IEEE754, Category.Category}
+use Rattle.apfloat_model.specs.formats.{Datum.Datum, Datum.finite, Datum.nan, Nan.qnan, Nan.quiet_significand}
+use Rattle.apfloat_model.specs.{formats.Lawful.layout_with, formats.Formats.double_constants, rounding.Rounding.ok_bits}
+use Rattle.apfloat_model.specs.{rounding.Negation.negated, order.Classes.is_negative, order.Classes.is_finite}
+use Rattle.apfloat_model.specs.order.{Classes.is_finite_non_zero, Classes.category_of, Order.number, Order.is_equal}
+use Rattle.apfloat_model.specs.arithmetic.{Exact.signed, Exact.sign_of, Exact.magnitude, Sums.IsSum}
+use Rattle.apfloat_model.specs.{arithmetic.Conversions.IsConversion, bits.Layout.datum_of, bits.Layout.IsEncodedBy}
 use Rattle.apfloat_pair_theory.specs.PairFormats.{double, wide}
 
 pub record Pair : Type 0 where

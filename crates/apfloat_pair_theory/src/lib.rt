@@ -9,20 +9,23 @@
 #![tactic(auto)]
 
 ghost use Rattle.std.specs.Prelude.{◌≡◌, ℕ, ◌^◌, ◌<◌, ℤ};
-ghost use Rattle.apfloat_model.specs.declared.kinds.Round.{Round};
-ghost use Rattle.apfloat_model.specs.declared.kinds.Round.TheVariants.{NearestTiesToEven};
-ghost use Rattle.apfloat_model.specs.formats.Datum.{Datum};
-ghost use Rattle.apfloat_model.specs.formats.Members.{IsMember};
+ghost use Rattle.apfloat_model.specs.declared.kinds.Round.{Round, TheVariants.NearestTiesToEven};
+ghost use Rattle.apfloat_model.specs.formats.{Datum.Datum, Members.IsMember};
 ghost use Rattle.apfloat_pair_theory.specs.PairFormats.{double};
 ghost use Rattle.apfloat_pair_theory.specs.Pairs.{Pair, IsSplit, negated_pair, pair_of, IsPairEncodedBy};
-ghost use Rattle.apfloat_pair_theory.specs.PairSums.{IsPairSum, IsPairDifference};
-ghost use Rattle.apfloat_pair_theory.specs.PairProducts.{IsPairProduct};
+ghost use Rattle.apfloat_pair_theory.specs.{PairSums.IsPairSum, PairSums.IsPairDifference, PairProducts.IsPairProduct};
 ghost use Rattle.apfloat_pair_theory.specs.PairParts.{IsDenormalPair, is_denormal_pair};
-ghost use Rattle.apfloat_pair_theory.specs.PairCalls.{IsPairQuotient, IsPairTruncatedRemainder, IsPairNearestRemainder, IsPairRoundToIntegral, IsPairNextUp, IsPairNextDown, IsPairFromUnsigned, IsPairFromSigned};
-ghost use Rattle.apfloat_pair_theory.specs.PairRoots.{IsPairRoot};
-ghost use Rattle.apfloat_pair_theory.specs.PairAnswers.{HasOneAnswer};
-ghost use Rattle.apfloat_pair_theory.specs.PairAccuracy.{IsErrorFreeSum, IsAccurateSum, IsErrorFreeDifference, IsAccurateDifference, IsErrorFreeProduct, IsAccurateProduct, HasPlainStatus, IsExactSplit, IsLosslessSplit, IsExactQuotient, IsExactTruncatedRemainder, IsExactNearestRemainder};
-ghost use Rattle.apfloat_pair_theory.specs.WrongAnswers.{before_closing, half_unit, least, one, one_and_half_unit, one_and_quarter_unit};
+ghost use Rattle.apfloat_pair_theory.specs.PairCalls.{IsPairQuotient, IsPairTruncatedRemainder, IsPairNearestRemainder};
+ghost use Rattle.apfloat_pair_theory.specs.PairCalls.{IsPairRoundToIntegral, IsPairNextUp, IsPairNextDown};
+ghost use Rattle.apfloat_pair_theory.specs.PairCalls.{IsPairFromUnsigned, IsPairFromSigned};
+ghost use Rattle.apfloat_pair_theory.specs.{PairRoots.IsPairRoot, PairAnswers.HasOneAnswer};
+ghost use Rattle.apfloat_pair_theory.specs.PairAccuracy.{IsErrorFreeSum, IsAccurateSum, IsErrorFreeDifference};
+ghost use Rattle.apfloat_pair_theory.specs.PairAccuracy.{IsAccurateDifference, IsErrorFreeProduct, IsAccurateProduct};
+ghost use Rattle.apfloat_pair_theory.specs.PairAccuracy.{HasPlainStatus, IsExactSplit, IsLosslessSplit};
+ghost use Rattle.apfloat_pair_theory.specs.PairAccuracy.{IsExactQuotient, IsExactTruncatedRemainder};
+ghost use Rattle.apfloat_pair_theory.specs.PairAccuracy.{IsExactNearestRemainder};
+ghost use Rattle.apfloat_pair_theory.specs.WrongAnswers.{before_closing, half_unit, least, one, one_and_half_unit};
+ghost use Rattle.apfloat_pair_theory.specs.WrongAnswers.{one_and_quarter_unit};
 
 /// The laws of each sum of pairs, rounded to nearest.
 pub fn sum_laws()

@@ -1,12 +1,10 @@
 -- The significands of NaNs, and their payloads in formats of a greater precision.
-use Rattle.std.proofs.Common.{◌≡◌, ℕ, Bool, true, false, ◌-◌, ◌*◌, ◌%◌, ◌^◌, ◌<◌, ◌≤◌, arith}
-use Rattle.std.proofs.lemmas.Nat.{pow_pos}
-use Rattle.std.proofs.Math.Nat.{mod-eq_of_lt}
+use Rattle.std.proofs.Common.{◌≡◌, ℕ, Bool, true, false, ◌-◌, ◌*◌, ◌%◌, ◌^◌, ◌<◌, ◌≤◌}
+use Rattle.std.proofs.{Common.arith, lemmas.Nat.pow_pos, Math.Nat.mod-eq_of_lt}
 use Rattle.apfloat_model.specs.declared.kinds.NonfiniteBehavior.{NonfiniteBehavior}
 use Rattle.apfloat_model.specs.declared.kinds.NonfiniteBehavior.TheVariants.{IEEE754, NanOnly, NanNegativeZero}
 use Rattle.apfloat_model.specs.formats.Members.{IsNanSignificand}
-use Rattle.apfloat_model.proofs.general.Powers.{twice_half}
-use Rattle.apfloat_model.proofs.rounding.KeptDigits.{fits_shifted}
+use Rattle.apfloat_model.proofs.{general.Powers.twice_half, rounding.KeptDigits.fits_shifted}
 
 -- the significand of a NaN has no more digits than the precision
 pub nan_fits : (kind : NonfiniteBehavior) (explicit : Bool) (precision s : ℕ) → 3 ≤ precision

@@ -4,23 +4,18 @@ use Rattle.std.proofs.Common.{refl, ap, ◌∙◌, subst, inl, inr, ⊎_elim, ar
 use Rattle.std.proofs.Math.Nat.{mul-pos, mul-le-mul_right, mul-le-mul_left, pow-le-pow_right}
 use Rattle.std.proofs.lemmas.Nat.{pow_pos, pow-add, mod_below, mod-pow-add, shr-shr}
 use Rattle.std.proofs.lemmas.Bool.{cases_lt, lt-ltb, le-ltb, eq-eqb, ne_eqb}
-use Rattle.apfloat_model.specs.declared.kinds.Round.{Round}
-use Rattle.apfloat_model.specs.declared.loss.Loss.{Loss}
+use Rattle.apfloat_model.specs.declared.{kinds.Round.Round, loss.Loss.Loss}
 use Rattle.apfloat_model.specs.declared.loss.Loss.TheVariants.{ExactlyZero, LessThanHalf, ExactlyHalf, MoreThanHalf}
-use Rattle.apfloat_model.specs.formats.Format.{Format, greatest_significand, largest}
-use Rattle.apfloat_model.specs.formats.Datum.{Datum}
+use Rattle.apfloat_model.specs.formats.{Format.Format, Format.greatest_significand, Format.largest, Datum.Datum}
+use Rattle.apfloat_model.specs.rounding.{Rounding.inexact_bit, Standing.StandsFor}
 use Rattle.apfloat_model.specs.rounding.Enclosure.{IsEnclosed, rounds_up}
 use Rattle.apfloat_model.specs.rounding.Rounding.{IsPick, IsDelivered, is_tiny, signed_quanta, ok_bits, underflow_bit}
-use Rattle.apfloat_model.specs.rounding.Rounding.{inexact_bit}
-use Rattle.apfloat_model.specs.rounding.Standing.{StandsFor}
-use Rattle.apfloat_model.proofs.formats.Greatest.{greatest_full}
-use Rattle.apfloat_model.proofs.general.Powers.{two_pos, twice_half}
+use Rattle.apfloat_model.proofs.{formats.Greatest.greatest_full, general.Powers.two_pos, general.Powers.twice_half}
+use Rattle.apfloat_model.proofs.rounding.{Picks.pick_is, Tininess.not_below}
 use Rattle.apfloat_model.proofs.rounding.Deliveries.{tiny_before, tiny_after, delivered_exactly, delivered_inexactly}
 use Rattle.apfloat_model.proofs.rounding.Deliveries.{exact_if, inexact_if}
 use Rattle.apfloat_model.proofs.rounding.KeptDigits.{kept_stands, fits_cut, full_cut, enclosed_from}
 use Rattle.apfloat_model.proofs.rounding.Losses.{cut_less, cut_more, cut_at}
-use Rattle.apfloat_model.proofs.rounding.Picks.{pick_is}
-use Rattle.apfloat_model.proofs.rounding.Tininess.{not_below}
 use Rattle.apfloat_rounding.specs.Cuts.{loss_at}
 
 -- ---- the loss of a rest

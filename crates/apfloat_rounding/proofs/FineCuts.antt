@@ -1,14 +1,10 @@
 -- Facts about cuts for which no digit below them is needed.
 use Rattle.std.proofs.Common.{◌≡◌, ℕ, ◌+◌, ◌-◌, ◌*◌, ◌/◌, ◌^◌, ◌<◌, ◌≤◌, ◌⊎◌, true, not, eqb, sym, ap, ◌∙◌, subst}
-use Rattle.std.proofs.Common.{⊎_elim, arith}
-use Rattle.std.proofs.lemmas.Bool.{cases_lt, eq-eqb}
-use Rattle.apfloat_model.specs.declared.loss.Loss.{Loss}
-use Rattle.apfloat_model.specs.declared.loss.Loss.TheVariants.{ExactlyZero}
-use Rattle.apfloat_model.specs.rounding.Enclosure.{IsEnclosed}
-use Rattle.apfloat_model.specs.rounding.Standing.{StandsFor}
+use Rattle.std.proofs.{Common.⊎_elim, Common.arith, lemmas.Bool.cases_lt, lemmas.Bool.eq-eqb}
+use Rattle.apfloat_model.specs.declared.loss.Loss.{Loss, TheVariants.ExactlyZero}
+use Rattle.apfloat_model.specs.rounding.{Enclosure.IsEnclosed, Standing.StandsFor}
 use Rattle.apfloat_model.proofs.general.Powers.{twice_half}
-use Rattle.apfloat_rounding.specs.Cuts.{IsCutFinely}
-use Rattle.apfloat_rounding.specs.declared.rounding.Cut.{Cut}
+use Rattle.apfloat_rounding.specs.{Cuts.IsCutFinely, declared.rounding.Cut.Cut}
 
 -- a cut that keeps all digits is fine, since it is not just below the smallest normalized value
 pub all_kept : (precision : ℕ) (cut : Cut) (amount parts : ℕ) → 2 ^ (precision - 1) ≤ cut.significand

@@ -3,17 +3,13 @@ use Rattle.std.proofs.Common.{◌≡◌, ℕ, zero, suc, ℤ, pos, negsuc, ◌+�
 use Rattle.std.proofs.Common.{◌<◌, ◌≤◌, ◌⊎◌, sym, refl, ap, ◌∙◌, subst, inl, inr, ⊎_elim, arith}
 use Rattle.std.proofs.Math.Path.{subst₂}
 use Rattle.std.proofs.Math.Nat.{pow-le-pow_right, mul-le-mul_right, mul-lt-mul_of_pos_right, mul-pos, div-add-mod'}
-use Rattle.std.proofs.lemmas.Bool.{cases_lt}
-use Rattle.std.proofs.lemmas.Int.{ints}
-use Rattle.std.proofs.lemmas.Nat.{pow-add, pow_pos}
-use Rattle.apfloat_model.specs.declared.loss.Loss.{Loss}
-use Rattle.apfloat_model.specs.declared.loss.Loss.TheVariants.{ExactlyZero, LessThanHalf, MoreThanHalf}
-use Rattle.apfloat_model.specs.rounding.Enclosure.{IsEnclosed}
-use Rattle.apfloat_model.specs.rounding.RoundingToOdd.{IsRoundedToOdd}
-use Rattle.apfloat_model.specs.rounding.Standing.{StandsFor, up, down}
+use Rattle.std.proofs.lemmas.{Bool.cases_lt, Int.ints, Nat.pow-add, Nat.pow_pos}
+use Rattle.apfloat_model.specs.{declared.loss.Loss.TheVariants.MoreThanHalf, rounding.Enclosure.IsEnclosed}
+use Rattle.apfloat_model.specs.declared.loss.Loss.{Loss, TheVariants.ExactlyZero, TheVariants.LessThanHalf}
+use Rattle.apfloat_model.specs.rounding.{RoundingToOdd.IsRoundedToOdd, Standing.StandsFor, Standing.up, Standing.down}
 use Rattle.apfloat_model.proofs.general.Powers.{two_pos, twice_half, exponent_below, pow3}
-use Rattle.apfloat_model.proofs.rounding.KeptDigits.{kept_stands, fits_cut, fits_shifted, full_cut, full_shifted, enclosed_from}
-use Rattle.apfloat_model.proofs.rounding.OddRoundings.{whole_to_odd}
+use Rattle.apfloat_model.proofs.rounding.{KeptDigits.enclosed_from, OddRoundings.whole_to_odd}
+use Rattle.apfloat_model.proofs.rounding.KeptDigits.{kept_stands, fits_cut, fits_shifted, full_cut, full_shifted}
 use Rattle.apfloat_rounding.specs.Cuts.{loss_at}
 use Rattle.apfloat_rounding.proofs.CutRests.{loss_less, loss_more, rest_stands, rest_below}
 

@@ -1,33 +1,24 @@
 -- The cut of a significand of one word where at most half a unit may be left of it: at the quantum, or at a binary
 -- point.
-use Rattle.std.proofs.Common.{◌≡◌, ℕ, ◌+◌, ◌-◌, ◌*◌, ◌/◌, ◌%◌, ◌^◌, ◌<◌, ◌≤◌, Bool, sym, refl, ap, ◌∙◌, subst, inl, inr}
-use Rattle.std.proofs.Common.{⊎_elim, arith, lit<, lit≤}
-use Rattle.std.proofs.Math.Path.{subst₂}
-use Rattle.std.proofs.Math.Nat.{div-eq_of_lt, mul-le-mul_right, mul-lt-mul_of_pos_right, lt_of_mul-lt-mul_right}
-use Rattle.std.proofs.Math.Nat.{mul-pos, pow-le-pow_right, div-add-mod', mod-eq_of_lt}
-use Rattle.std.proofs.lemmas.Nat.{pow-add, pow_pos, mod_below, mod-mul-add}
-use Rattle.std.proofs.lemmas.Bool.{cases_lt}
-use Rattle.apfloat_model.specs.declared.kinds.Round.{Round}
-use Rattle.apfloat_model.specs.declared.loss.Loss.{Loss}
+use Rattle.std.proofs.Common.{◌≡◌, ℕ, ◌+◌, ◌-◌, ◌*◌, ◌/◌, ◌%◌, ◌^◌, ◌<◌, ◌≤◌}
+use Rattle.std.proofs.Common.{Bool, sym, refl, ap, ◌∙◌, subst, inl, inr, ⊎_elim, arith, lit<, lit≤}
+use Rattle.std.proofs.Math.{Path.subst₂, Nat.div-eq_of_lt, Nat.mul-le-mul_right, Nat.mul-lt-mul_of_pos_right}
+use Rattle.std.proofs.Math.Nat.{lt_of_mul-lt-mul_right, mul-pos, pow-le-pow_right, div-add-mod', mod-eq_of_lt}
+use Rattle.std.proofs.lemmas.{Nat.pow-add, Nat.pow_pos, Nat.mod_below, Nat.mod-mul-add, Bool.cases_lt}
+use Rattle.apfloat_model.specs.declared.{kinds.Round.Round, loss.Loss.Loss}
 use Rattle.apfloat_model.specs.declared.loss.Loss.TheVariants.{ExactlyZero, LessThanHalf, ExactlyHalf, MoreThanHalf}
-use Rattle.apfloat_model.specs.formats.Format.{Format}
-use Rattle.apfloat_model.specs.formats.Datum.{Datum}
-use Rattle.apfloat_model.specs.rounding.Enclosure.{IsEnclosed}
+use Rattle.apfloat_model.specs.{formats.Format.Format, formats.Datum.Datum, rounding.Enclosure.IsEnclosed}
 use Rattle.apfloat_model.specs.rounding.Rounding.{IsDelivered, signed_quanta, ok_bits}
-use Rattle.apfloat_model.specs.rounding.RoundingToOdd.{IsRoundedToOdd}
-use Rattle.apfloat_model.specs.rounding.Standing.{StandsFor}
+use Rattle.apfloat_model.specs.rounding.{RoundingToOdd.IsRoundedToOdd, Standing.StandsFor}
 use Rattle.apfloat_model.proofs.formats.Ranges.{half_within}
 use Rattle.apfloat_model.proofs.general.Powers.{two_pos, twice_half, exponent_below, pow3}
-use Rattle.apfloat_words.proofs.LongDivisions.{whole_quotient}
 use Rattle.apfloat_model.proofs.rounding.KeptDigits.{kept_stands, stands_cancel, stands_times, fits_cut, full_cut}
-use Rattle.apfloat_model.proofs.rounding.KeptDigits.{enclosed_from}
-use Rattle.apfloat_model.proofs.rounding.Laws.{exact_delivered}
-use Rattle.apfloat_model.proofs.rounding.Losses.{cut_at}
+use Rattle.apfloat_model.proofs.rounding.{KeptDigits.enclosed_from, Laws.exact_delivered, Losses.cut_at}
 use Rattle.apfloat_model.proofs.rounding.OddRoundings.{to_odd_cancel, to_odd_times}
+use Rattle.apfloat_words.proofs.LongDivisions.{whole_quotient}
 use Rattle.apfloat_rounding.specs.Cuts.{loss_at}
-use Rattle.apfloat_rounding.proofs.OddCuts.{odd_rest}
-use Rattle.apfloat_rounding.proofs.CutRests.{loss_past_half, loss_scaled, rest_below, rest_stands}
-use Rattle.apfloat_rounding.proofs.HalfQuanta.{half_stands}
+use Rattle.apfloat_rounding.proofs.{OddCuts.odd_rest, CutRests.loss_past_half, CutRests.loss_scaled}
+use Rattle.apfloat_rounding.proofs.{CutRests.rest_below, CutRests.rest_stands, HalfQuanta.half_stands}
 
 -- ---- farther places
 

@@ -1,10 +1,8 @@
 -- The exponents of a shape, which fit in the machine word.
 use Rattle.std.proofs.Common.{◌≡◌, ℕ, ◌-◌, ℤ, pos, ◌-ℤ◌, to_z, of_z, w32, arith}
 use Rattle.std.proofs.lemmas.Int.{ints, to_z-of_z}
+use Rattle.apfloat_rounding.specs.{declared.shape.Shape.Shape, Shapes.format_at, Stored.IsNormalAt}
 use borrow.Author.Differences.{fits_in}
-use Rattle.apfloat_rounding.specs.declared.shape.Shape.{Shape}
-use Rattle.apfloat_rounding.specs.Shapes.{format_at}
-use Rattle.apfloat_rounding.specs.Stored.{IsNormalAt}
 
 -- the scale is the precision minus 1, minus the least exponent
 pub scale_is : (shape : Shape)

@@ -1,18 +1,11 @@
 -- A stored value belongs to the format, and has the category that it states.
+use Rattle.std.proofs.{lemmas.Nat.pow_pos, lemmas.Bool.ne_eqb, Math.Nat.mul-le-mul_left}
 use Rattle.std.proofs.Common.{◌≡◌, ℕ, ◌*◌, ◌^◌, ◌<◌, ◌≤◌, ◌⊎◌, ◌-ℤ◌, inl, inr, sym, refl, ap, ◌∙◌, arith}
-use Rattle.std.proofs.lemmas.Nat.{pow_pos}
-use Rattle.std.proofs.lemmas.Bool.{ne_eqb}
-use Rattle.std.proofs.Math.Nat.{mul-le-mul_left}
+use Rattle.apfloat_model.specs.{rounding.Grid.IsOnGrid, order.Classes.category_of, formats.Members.IsMember}
 use Rattle.apfloat_model.specs.declared.kinds.Category.{Category}
 use Rattle.apfloat_model.specs.declared.kinds.Category.TheVariants.{Infinity, NaN, Normal, Zero}
-use Rattle.apfloat_model.specs.rounding.Grid.{IsOnGrid}
-use Rattle.apfloat_model.specs.order.Classes.{category_of}
-use Rattle.apfloat_model.specs.formats.Members.{IsMember}
-use Rattle.apfloat_model.proofs.rounding.Laws.{zero_on_grid}
-use Rattle.apfloat_model.proofs.arithmetic.Signs.{one_side}
-use Rattle.apfloat_rounding.specs.declared.shape.Shape.{Shape}
-use Rattle.apfloat_rounding.specs.declared.unpacked.Unpacked.{Unpacked}
-use Rattle.apfloat_rounding.specs.Shapes.{format_at}
+use Rattle.apfloat_model.proofs.{rounding.Laws.zero_on_grid, arithmetic.Signs.one_side}
+use Rattle.apfloat_rounding.specs.{declared.shape.Shape.Shape, declared.unpacked.Unpacked.Unpacked, Shapes.format_at}
 use Rattle.apfloat_rounding.specs.Stored.{IsStored, IsStoredBy, datum_at, datum_by, quanta_at}
 use Rattle.apfloat_rounding.proofs.StoredBack.{quanta_some}
 

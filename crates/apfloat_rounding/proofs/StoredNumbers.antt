@@ -1,18 +1,13 @@
 -- Numbers of quanta and their stored form.
-use Rattle.std.proofs.Common.{refl, zero, suc, ◌≡◌, ℕ, ◌+◌, ◌-◌, ◌*◌, ◌/◌, ◌^◌, ◌<◌, ◌≤◌, ℤ, pos, ◌+ℤ◌, ◌-ℤ◌, sym, ap}
-use Rattle.std.proofs.Common.{◌∙◌, ⊎_elim, arith}
-use Rattle.std.specs.Prelude.{neg_ℤ}
+use Rattle.std.proofs.Common.{refl, zero, suc, ◌≡◌, ℕ, ◌+◌, ◌-◌, ◌*◌, ◌/◌, ◌^◌, ◌<◌}
+use Rattle.std.proofs.Common.{◌≤◌, ℤ, pos, ◌+ℤ◌, ◌-ℤ◌, sym, ap, ◌∙◌, ⊎_elim, arith}
 use Rattle.std.proofs.Math.Nat.{mul-le-mul_right, mul-le-mul_left, pow-le-pow_right}
-use Rattle.std.proofs.lemmas.Nat.{pow-add, pow_pos, shl-shr}
-use Rattle.std.proofs.lemmas.Int.{ints}
-use Rattle.std.proofs.lemmas.Bool.{cases_lt}
-use Rattle.apfloat_model.specs.formats.Format.{greatest_significand}
-use Rattle.apfloat_model.specs.arithmetic.Exact.{up, down}
-use Rattle.apfloat_model.proofs.general.Powers.{two_pos, twice_half}
-use Rattle.apfloat_model.proofs.formats.Greatest.{greatest_fits}
+use Rattle.std.proofs.lemmas.{Nat.pow-add, Nat.pow_pos, Nat.shl-shr, Int.ints, Bool.cases_lt}
+use Rattle.std.specs.Prelude.{neg_ℤ}
+use Rattle.apfloat_model.specs.{formats.Format.greatest_significand, arithmetic.Exact.up, arithmetic.Exact.down}
+use Rattle.apfloat_model.proofs.{general.Powers.two_pos, general.Powers.twice_half, formats.Greatest.greatest_fits}
 use Rattle.apfloat_model.proofs.rounding.KeptDigits.{digits_le, some_digits, fits_shifted, full_shifted, same_quanta}
-use Rattle.apfloat_rounding.specs.declared.shape.Shape.{Shape}
-use Rattle.apfloat_rounding.specs.Shapes.{format_at}
+use Rattle.apfloat_rounding.specs.{declared.shape.Shape.Shape, Shapes.format_at}
 use Rattle.apfloat_rounding.specs.Stored.{IsQuantaAt, quanta_at, IsNormalAt}
 
 -- if a number is an integral number of quanta, `quanta_at` is that number

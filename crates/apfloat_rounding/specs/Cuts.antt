@@ -2,8 +2,7 @@
 use Rattle.std.specs.Prelude.{◌≡◌, ℕ, ◌+◌, ◌-◌, ◌*◌, ◌^◌, ◌<◌, true, ltb, eqb, if◌then◌else◌}
 use Rattle.apfloat_model.specs.declared.loss.Loss.{Loss}
 use Rattle.apfloat_model.specs.declared.loss.Loss.TheVariants.{ExactlyZero, LessThanHalf, ExactlyHalf, MoreThanHalf}
-use Rattle.apfloat_model.specs.formats.Format.{Format}
-use Rattle.apfloat_model.specs.rounding.Enclosure.{IsEnclosed}
+use Rattle.apfloat_model.specs.{formats.Format.Format, rounding.Enclosure.IsEnclosed}
 use Rattle.apfloat_model.specs.rounding.Standing.{StandsFor, reads_halves}
 use Rattle.apfloat_rounding.specs.declared.rounding.Cut.{Cut}
 

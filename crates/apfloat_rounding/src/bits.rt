@@ -1,12 +1,11 @@
 //! Encoding and decoding. From the top, an encoding has the sign, the biased exponent and the trailing significand.
 
-ghost use Rattle.std.specs.Prelude.{◌≡◌, ℕ, ◌+◌, ◌-◌, ◌*◌, ◌/◌, ◌%◌, ◌^◌, ◌<◌, ◌≤◌, ltb, ◌&&◌, true, false};
-ghost use Rattle.std.specs.Prelude.{if◌then◌else◌};
-ghost use Rattle.apfloat_model.specs.formats.Format.{largest, smallest_normalized};
+ghost use Rattle.std.specs.Prelude.{◌≡◌, ℕ, ◌+◌, ◌-◌, ◌*◌, ◌/◌, ◌%◌, ◌^◌, ◌<◌};
+ghost use Rattle.std.specs.Prelude.{◌≤◌, ltb, ◌&&◌, true, false, if◌then◌else◌};
+ghost use Rattle.apfloat_model.specs.formats.{Format.largest, Format.smallest_normalized, Datum.nan};
 ghost use Rattle.apfloat_model.specs.rounding.Rounding.{zero_sign};
 ghost use Rattle.apfloat_model.specs.bits.Layout.{all_ones, trailing_bits, fields_of, implied_number, implied_datum};
 ghost use Rattle.apfloat_model.specs.bits.Layout.{written_number, written_datum, datum_of, IsEncodedBy};
-ghost use Rattle.apfloat_model.specs.formats.Datum.{nan};
 ghost use Rattle.apfloat_model.specs.bits.Interchange.{IsInterchange, AreWithin, AreFieldsOf, bits_of_fields};
 ghost use Rattle.apfloat_rounding.specs.Shapes.{format_at};
 ghost use Rattle.apfloat_rounding.specs.Stored.{IsStored, IsNormal, IsNan, quanta_of, datum_at, number_of};

@@ -1,13 +1,11 @@
 //! NaNs: which of them are signaling, and the results that are NaNs (IEEE 754-2019 6.2).
 
 ghost use Rattle.std.specs.Prelude.{◌≡◌};
-ghost use Rattle.apfloat_model.specs.declared.kinds.Category.TheVariants.{NaN};
-ghost use Rattle.apfloat_model.specs.rounding.Flags.{bits_of};
+ghost use Rattle.apfloat_model.specs.{declared.kinds.Category.TheVariants.NaN, rounding.Flags.bits_of};
 ghost use Rattle.apfloat_model.specs.formats.Format.{nan_base, payload_mask, quiet_bits};
-ghost use Rattle.apfloat_model.specs.formats.Datum.{nan};
-ghost use Rattle.apfloat_model.specs.formats.Nan.{quiet_bit, is_signaling, is_signaling_nan, quieted};
-ghost use Rattle.apfloat_model.specs.formats.Nan.{quiet_significand, signaling_significand, with_payload, qnan, snan};
-ghost use Rattle.apfloat_model.specs.formats.Nan.{invalid_if, IsOfNan, IsOfNans, IsInvalid};
+ghost use Rattle.apfloat_model.specs.formats.{Datum.nan, Nan.quiet_bit, Nan.is_signaling};
+ghost use Rattle.apfloat_model.specs.formats.Nan.{is_signaling_nan, quieted, quiet_significand, signaling_significand};
+ghost use Rattle.apfloat_model.specs.formats.Nan.{with_payload, qnan, snan, invalid_if, IsOfNan, IsOfNans, IsInvalid};
 ghost use Rattle.apfloat_rounding.specs.Shapes.{format_at};
 ghost use Rattle.apfloat_rounding.specs.Stored.{IsNanSignificandAt, IsStored, datum_at, GivesAt};
 

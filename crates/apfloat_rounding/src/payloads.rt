@@ -3,8 +3,7 @@
 
 ghost use Rattle.std.specs.Prelude.{◌≡◌, ◌-◌, ◌*◌, ◌/◌, ◌^◌, ◌<◌};
 ghost use Rattle.apfloat_model.specs.arithmetic.Conversions.{places_out, nan_loses, converted_nan};
-ghost use Rattle.apfloat_model.specs.formats.Nan.{invalid_if, is_signaling};
-ghost use Rattle.apfloat_model.specs.rounding.Answer.{IsAnswer};
+ghost use Rattle.apfloat_model.specs.{formats.Nan.invalid_if, formats.Nan.is_signaling, rounding.Answer.IsAnswer};
 ghost use Rattle.apfloat_rounding.specs.Shapes.{format_at};
 ghost use Rattle.apfloat_rounding.specs.Stored.{IsNan, IsNanSignificandAt, IsStored, GivesAt};
 

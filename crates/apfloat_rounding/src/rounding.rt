@@ -19,19 +19,16 @@
 
 ghost use Rattle.std.specs.Prelude.{◌≡◌, ℕ, ◌+◌, ◌-◌, ◌*◌, ◌/◌, ◌%◌, ◌^◌, ◌<◌, ◌≤◌, ◌⊎◌, eqb, ltb, pos, neg_ℤ, ◌≤ℤ◌};
 ghost use Rattle.std.specs.Prelude.{◌+ℤ◌, if◌then◌else◌, true, false};
+ghost use Rattle.apfloat_model.specs.rounding.{Flags.bits_of, Answer.IsAnswer};
 ghost use Rattle.apfloat_model.specs.rounding.Bounds.{IsWithin, exponent_bound, unit_bound, place_bound};
-ghost use Rattle.apfloat_model.specs.rounding.Flags.{bits_of};
-ghost use Rattle.apfloat_model.specs.formats.Format.{largest, nan_base};
-ghost use Rattle.apfloat_model.specs.formats.Datum.{finite};
-ghost use Rattle.apfloat_model.specs.rounding.Answer.{IsAnswer};
 ghost use Rattle.apfloat_model.specs.rounding.Standing.{StandsFor, IsFineEnough, IsFineFor, up, down};
 ghost use Rattle.apfloat_model.specs.rounding.Enclosure.{rounds_up};
 ghost use Rattle.apfloat_model.specs.rounding.Rounding.{points_away, ok_bits, overflow_bit, underflow_bit, inexact_bit};
 ghost use Rattle.apfloat_model.specs.rounding.Rounding.{IsDelivered, leads_out, past_largest, raises_overflow};
 ghost use Rattle.apfloat_model.specs.rounding.Rounding.{rounds_below_normal, is_tiny, signed_quanta};
+ghost use Rattle.apfloat_model.specs.formats.{Format.largest, Format.nan_base, Datum.finite};
+ghost use Rattle.apfloat_rounding.specs.{Shapes.format_at, Stored.IsStored, Stored.GivesAt, Stored.datum_at};
 ghost use Rattle.apfloat_rounding.specs.Cuts.{IsCut, IsCutFinely, IsFineCut, loss_at};
-ghost use Rattle.apfloat_rounding.specs.Shapes.{format_at};
-ghost use Rattle.apfloat_rounding.specs.Stored.{IsStored, GivesAt, datum_at};
 
 mod denormal;
 pub mod from_u128;

@@ -1,7 +1,6 @@
 //! The constants of a format that rounding reads.
 
-ghost use Rattle.apfloat_model.specs.formats.Lawful.{AreParameters};
-ghost use Rattle.apfloat_model.specs.rounding.Bounds.{span_bound};
+ghost use Rattle.apfloat_model.specs.{formats.Lawful.AreParameters, rounding.Bounds.span_bound};
 
 use apfloat_model::{ExpInt, NonfiniteBehavior};
 use apfloat_words::power_of_two;

@@ -2,12 +2,11 @@
 
 ghost use Rattle.std.specs.Prelude.{◌≡◌, ◌+◌, ◌-◌, ◌*◌, ◌^◌, ◌<◌, ◌≤◌, pos, neg_ℤ, ◌+ℤ◌, ◌-ℤ◌, ◌≤ℤ◌};
 ghost use Rattle.apfloat_model.specs.arithmetic.Exact.{up, down};
-ghost use Rattle.apfloat_model.specs.formats.Format.{largest};
-ghost use Rattle.apfloat_model.specs.formats.Datum.{finite, infinite, nan};
-ghost use Rattle.apfloat_model.specs.rounding.Bounds.{IsWithin, number_bound, format_bound, place_bound};
-ghost use Rattle.apfloat_model.specs.rounding.Rounding.{zero_sign, signed_quanta};
+ghost use Rattle.apfloat_model.specs.formats.{Format.largest, Datum.finite, Datum.infinite, Datum.nan};
 ghost use Rattle.apfloat_model.specs.formats.Constants.{infinity_of, smallest_datum, smallest_normalized_datum};
 ghost use Rattle.apfloat_model.specs.formats.Nan.{nan_sign};
+ghost use Rattle.apfloat_model.specs.rounding.Bounds.{IsWithin, number_bound, format_bound, place_bound};
+ghost use Rattle.apfloat_model.specs.rounding.Rounding.{zero_sign, signed_quanta};
 ghost use Rattle.apfloat_rounding.specs.Shapes.{format_at};
 ghost use Rattle.apfloat_rounding.specs.Stored.{IsNanSignificandAt, IsNormal, IsStored, datum_at};
 

@@ -1,17 +1,12 @@
 -- Sums and differences of magnitudes, in units with a loss.
-use Rattle.std.proofs.Common.{◌≡◌, ℕ, ℤ, pos, ◌+ℤ◌, ◌-ℤ◌, ◌≤ℤ◌, ◌+◌, ◌-◌, ◌*◌, ◌^◌, ◌<◌, ◌≤◌, ◌⊎◌, Bool, true, false, cond, sym, refl, ap, ◌∙◌, subst, inl, inr, ⊎_elim, arith}
-use Rattle.std.proofs.Math.Nat.{mul-le-mul_right}
-use Rattle.std.proofs.lemmas.Bool.{cases_lt}
-use Rattle.std.proofs.lemmas.Nat.{pow_pos}
-use Rattle.std.proofs.lemmas.Int.{ints}
+use Rattle.std.proofs.{Math.Nat.mul-le-mul_right, lemmas.Bool.cases_lt, lemmas.Nat.pow_pos, lemmas.Int.ints}
+use Rattle.std.proofs.Common.{◌≡◌, ℕ, ℤ, pos, ◌+ℤ◌, ◌-ℤ◌, ◌≤ℤ◌, ◌+◌, ◌-◌, ◌*◌, ◌^◌, ◌<◌, ◌≤◌, ◌⊎◌, Bool, true, false}
+use Rattle.std.proofs.Common.{cond, sym, refl, ap, ◌∙◌, subst, inl, inr, ⊎_elim, arith}
+use Rattle.apfloat_model.specs.{arithmetic.Exact.up, arithmetic.Exact.signed, rounding.Standing.StandsFor}
 use Rattle.apfloat_model.specs.declared.loss.Loss.{Loss}
 use Rattle.apfloat_model.specs.declared.loss.Loss.TheVariants.{ExactlyZero, LessThanHalf, ExactlyHalf, MoreThanHalf}
-use Rattle.apfloat_model.specs.arithmetic.Exact.{up, signed}
-use Rattle.apfloat_model.specs.rounding.Standing.{StandsFor}
-use Rattle.apfloat_model.proofs.general.Powers.{twice_half}
-use Rattle.apfloat_model.proofs.arithmetic.Signs.{no_sign, swapped_sum}
-use Rattle.apfloat_model.proofs.rounding.Losses.{stands_from, stands_to}
-use Rattle.apfloat_model.proofs.rounding.KeptDigits.{stands_times}
+use Rattle.apfloat_model.proofs.{general.Powers.twice_half, arithmetic.Signs.no_sign, arithmetic.Signs.swapped_sum}
+use Rattle.apfloat_model.proofs.rounding.{Losses.stands_from, Losses.stands_to, KeptDigits.stands_times}
 use Rattle.apfloat_words.specs.Totals.{counted, StandsForSigned, Balances, IsApart}
 use Rattle.apfloat_words.proofs.Totals.{like_signs, unlike_signs, raised, balances_times}
 

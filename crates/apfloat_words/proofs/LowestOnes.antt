@@ -1,11 +1,9 @@
 -- The lowest digit of a number that is 1, and how many zeros are below it.
-use Rattle.std.proofs.Common.{◌≡◌, ℕ, zero, suc, ◌+◌, ◌-◌, ◌*◌, ◌/◌, ◌%◌, ◌^◌, ◌<◌, ◌≤◌, Bool, true, false, cond}
-use Rattle.std.proofs.Common.{bit_and, bit_or, refl, sym, ap, ◌∙◌, arith}
+use Rattle.std.proofs.Common.{◌≡◌, ℕ, zero, suc, ◌+◌, ◌-◌, ◌*◌, ◌/◌, ◌%◌, ◌^◌, ◌<◌}
+use Rattle.std.proofs.Common.{◌≤◌, Bool, true, false, cond, bit_and, bit_or, refl, sym, ap, ◌∙◌, arith}
 use Rattle.std.proofs.lemmas.Nat.{and_le_l, mod-pow-add, mod_below, or_block, or_comm, or_disjoint, pow_pos}
-use Rattle.std.proofs.lemmas.Nat.Bits.{bit_at-trailing_zeros}
-use Rattle.std.proofs.Math.Nat.{mod-eq_of_lt}
-use Rattle.std.specs.Int.{trailing_zeros, w128}
-use Rattle.std.specs.Int.Count.{trailing_of_zero}
+use Rattle.std.proofs.{lemmas.Nat.Bits.bit_at-trailing_zeros, Math.Nat.mod-eq_of_lt}
+use Rattle.std.specs.Int.{trailing_zeros, w128, Count.trailing_of_zero}
 
 -- if the lowest digits are all 0, the rest is 0
 all_zero : (n places : ℕ) → ((i : ℕ) → i < places → n / 2 ^ i % 2 ≡ 0) → n % 2 ^ places ≡ 0

@@ -1,23 +1,18 @@
 -- Sums and differences of magnitudes that are rounded to odd, and their signs.
-use Rattle.std.proofs.Common.{◌≡◌, ℕ, zero, suc, ℤ, pos, ◌+ℤ◌, ◌-ℤ◌, ◌≤ℤ◌, ◌+◌, ◌-◌, ◌*◌, ◌/◌, ◌%◌, ◌^◌, ◌<◌, ◌≤◌}
-use Rattle.std.proofs.Common.{◌⊎◌, Bool, true, false, cond, not, ltb, sym, refl, ap, ◌∙◌, subst, inl, inr, ⊎_elim}
-use Rattle.std.proofs.Common.{to_z, of_z, w32, arith}
-use mathlib.Core.Bool.{beq}
-use Rattle.std.proofs.Math.Path.{subst₂}
-use Rattle.std.proofs.Math.Nat.{mul-le-mul_left, mul-le-mul_right, pow-le-pow_right}
-use Rattle.std.proofs.lemmas.Bool.{cases_lt, lt-ltb, le-ltb}
-use Rattle.std.proofs.lemmas.Nat.{pow-add, pow_pos}
-use Rattle.std.proofs.lemmas.Int.{ints}
+use Rattle.std.proofs.Common.{◌≡◌, ℕ, zero, suc, ℤ, pos, ◌+ℤ◌, ◌-ℤ◌, ◌≤ℤ◌, ◌+◌, ◌-◌, ◌*◌, ◌/◌, ◌%◌, ◌^◌, ◌<◌, ◌≤◌, ◌⊎◌}
+use Rattle.std.proofs.Common.{Bool, true, false, cond, not, ltb, sym, refl, ap, ◌∙◌, subst, inl, inr, ⊎_elim, to_z}
+use Rattle.std.proofs.Common.{of_z, w32, arith}
+use Rattle.std.proofs.Math.{Path.subst₂, Nat.mul-le-mul_left, Nat.mul-le-mul_right, Nat.pow-le-pow_right}
+use Rattle.std.proofs.lemmas.{Bool.cases_lt, Bool.lt-ltb, Bool.le-ltb, Nat.pow-add, Nat.pow_pos, Int.ints}
 use Rattle.apfloat_model.specs.arithmetic.Exact.{up, signed}
-use Rattle.apfloat_model.specs.rounding.Bounds.{IsWithin, exponent_bound}
+use Rattle.apfloat_model.specs.rounding.{Bounds.IsWithin, Bounds.exponent_bound, RoundingToOdd.IsRoundedToOdd}
+use Rattle.apfloat_model.proofs.{general.Powers.two_pos, arithmetic.Signs.swapped_sum}
+use Rattle.apfloat_model.proofs.rounding.OddRoundings.{whole_to_odd, to_odd_times, odd_together, odd_apart}
 use Rattle.apfloat_words.specs.declared.terms.Term.{Term}
 use Rattle.apfloat_words.specs.Totals.{counted, IsSignedToOdd, IsApartToOdd, Balances}
-use Rattle.apfloat_model.specs.rounding.RoundingToOdd.{IsRoundedToOdd}
-use Rattle.apfloat_model.proofs.general.Powers.{two_pos}
-use Rattle.apfloat_model.proofs.arithmetic.Signs.{swapped_sum}
 use Rattle.apfloat_words.proofs.Orders.{of_high, of_low}
 use Rattle.apfloat_words.proofs.Totals.{raised, like_signs, unlike_signs, balances_times}
-use Rattle.apfloat_model.proofs.rounding.OddRoundings.{whole_to_odd, to_odd_times, odd_together, odd_apart}
+use mathlib.Core.Bool.{beq}
 
 -- ---- significands that are moved up, with at least one free digit below them
 

@@ -1,10 +1,8 @@
 -- Two terms in the order of their exponents.
 use Rattle.std.proofs.Common.{◌≡◌, ℕ, ℤ, ◌≤ℤ◌, ◌⊎◌, Bool, true, false, cond, sym, refl, ap, ◌∙◌, subst, inl, inr, arith}
 use Rattle.std.proofs.lemmas.Int.{ints}
-use Rattle.apfloat_model.specs.declared.loss.Loss.{Loss}
-use Rattle.apfloat_model.specs.declared.loss.Loss.TheVariants.{ExactlyZero}
-use Rattle.apfloat_words.specs.declared.terms.Term.{Term}
-use Rattle.apfloat_words.specs.Totals.{IsGreater}
+use Rattle.apfloat_model.specs.declared.loss.Loss.{Loss, TheVariants.ExactlyZero}
+use Rattle.apfloat_words.specs.{declared.terms.Term.Term, Totals.IsGreater}
 
 -- what holds of both terms holds of each of them in order
 pub of_high : {T : Type 0} (P : T → Type 0) (high low x y : T)

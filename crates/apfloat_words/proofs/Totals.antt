@@ -1,8 +1,7 @@
 -- The signs of sums and differences of magnitudes, and their exponents.
-use Rattle.std.proofs.Common.{◌≡◌, ℕ, ℤ, pos, negsuc, ◌+ℤ◌, ◌-ℤ◌, ◌≤ℤ◌, ◌+◌, ◌*◌, ◌^◌, Bool, true, false, cond, refl}
-use Rattle.std.proofs.Common.{ap, ◌∙◌, arith}
-use Rattle.std.proofs.lemmas.Nat.{pow-add}
-use Rattle.std.proofs.lemmas.Int.{ints}
+use Rattle.std.proofs.Common.{◌≡◌, ℕ, ℤ, pos, negsuc, ◌+ℤ◌, ◌-ℤ◌, ◌≤ℤ◌, ◌+◌, ◌*◌}
+use Rattle.std.proofs.Common.{◌^◌, Bool, true, false, cond, refl, ap, ◌∙◌, arith}
+use Rattle.std.proofs.lemmas.{Nat.pow-add, Int.ints}
 use Rattle.apfloat_model.specs.arithmetic.Exact.{up, down, signed}
 use Rattle.apfloat_words.specs.Totals.{Balances}
 

@@ -1,9 +1,7 @@
 -- Sums of signed significands, counted in one small unit.
 use Rattle.std.specs.Prelude.{◌≡◌, ℕ, ◌+◌, ◌*◌, ◌^◌, ◌⊎◌, Bool, true, false, ℤ, ◌-ℤ◌, ◌≤ℤ◌}
-use Rattle.apfloat_model.specs.declared.loss.Loss.{Loss}
-use Rattle.apfloat_model.specs.arithmetic.Exact.{up, signed}
-use Rattle.apfloat_model.specs.rounding.RoundingToOdd.{IsRoundedToOdd}
-use Rattle.apfloat_model.specs.rounding.Standing.{StandsFor}
+use Rattle.apfloat_model.specs.{declared.loss.Loss.Loss, arithmetic.Exact.up, arithmetic.Exact.signed}
+use Rattle.apfloat_model.specs.rounding.{RoundingToOdd.IsRoundedToOdd, Standing.StandsFor}
 
 -- significand * 2 ^ exponent with that sign, counted in units of 2 ^ low, for a `low` that is not above the exponent
 abbrev pub counted : ℤ → Bool → ℤ → ℕ → ℤ

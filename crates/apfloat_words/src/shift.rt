@@ -1,9 +1,7 @@
 //! Shifts of a significand.
 
-ghost use Rattle.std.specs.Prelude.{◌≡◌, ℕ, ◌-◌, ◌*◌, ◌/◌, ◌%◌, ◌^◌, ◌<◌, ◌≤◌, pos, ◌-ℤ◌, ◌≤ℤ◌};
-ghost use Rattle.std.specs.Prelude.{eqb};
-ghost use Rattle.apfloat_model.specs.rounding.Bounds.{IsWithin, exponent_bound};
-ghost use Rattle.apfloat_model.specs.rounding.Standing.{StandsFor};
+ghost use Rattle.std.specs.Prelude.{◌≡◌, ℕ, ◌-◌, ◌*◌, ◌/◌, ◌%◌, ◌^◌, ◌<◌, ◌≤◌, pos, ◌-ℤ◌, ◌≤ℤ◌, eqb};
+ghost use Rattle.apfloat_model.specs.rounding.{Bounds.IsWithin, Bounds.exponent_bound, Standing.StandsFor};
 
 use crate::loss::loss_of_rest;
 use apfloat_model::{ExpInt, Loss};

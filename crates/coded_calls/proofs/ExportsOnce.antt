@@ -1,30 +1,27 @@
 -- What an export leaves is determined by its arguments: one code, and one result.
-use Rattle.std.proofs.Common.{◌≡◌, ℕ, ◌^◌, ◌<◌, ◌≤◌, Bool, Option, Some, None, Ok, refl, sym, ap}
-use Rattle.std.proofs.Common.{◌∙◌, subst, ⊎_elim, arith, lit<}
-use Rattle.std.proofs.lemmas.Bool.{cases_lt}
+use Rattle.std.proofs.Common.{◌≡◌, ℕ, ◌<◌, lit<, Bool, Option, Some, None, Ok, refl, sym, ap, ◌∙◌, subst}
 use Rattle.std.specs.{Int.w128, Int.cast_unsigned, Prelude.ℤ, Prelude.⊤}
 use Rattle.rustc_apfloat.specs.{declared.Round.Round, declared.StatusAnd.StatusAnd, Datum.Datum, Flags.bits_of}
-use Rattle.rustc_apfloat.specs.Lawful.{Constants, format_with, layout_with}
 use Rattle.rustc_apfloat.specs.{Meaning.AreDetermined, Determined.Determines, Determined.DeterminesBoth, Roots.IsRoot}
 use Rattle.rustc_apfloat.specs.{PairFormats.wide, Pairs.Pair, PairAnswers.OncePair, PairRoots.IsPairRoot}
+use Rattle.rustc_apfloat.specs.Lawful.{Constants, format_with, layout_with}
 use Rattle.apfloat_model.proofs.Determined.{determined, gives_once, same_answer, scale_some}
 use Rattle.apfloat_model.proofs.bits.Encodings.{lawful_interchange}
 use Rattle.apfloat_model.proofs.Once.{OnceWith, conversion_once, fused_sum_once, root_once}
 use Rattle.apfloat_pair_theory.proofs.calls.{PairsDetermined.pairs_determined, PairsOnce.wide_answer_once}
-use Rattle.coded_calls.specs.declared.{data.Answer.Answer, data.Halves.Halves, exported_call.ExportedCall.ExportedCall}
+use Rattle.coded_calls.specs.{OneReply.SameAnswer, KnownCalls.fault_in, KnownCalls.known_call, KnownCalls.without}
+use Rattle.coded_calls.specs.declared.{data.Answer.Answer, exported_call.ExportedCall.ExportedCall}
 use Rattle.coded_calls.specs.declared.exported_call.ExportedCall.TheVariants.{OfTwo, FusedSum, SquareRoot, FromUnsigned}
 use Rattle.coded_calls.specs.declared.exported_call.ExportedCall.TheVariants.{FromSigned, ToUnsigned, ToSigned}
 use Rattle.coded_calls.specs.declared.exported_call.ExportedCall.TheVariants.{RoundToIntegral, Scaling, Fraction}
 use Rattle.coded_calls.specs.declared.exported_call.ExportedCall.TheVariants.{Exponent, NextUp, NextDown, Comparison}
 use Rattle.coded_calls.specs.declared.exported_call.ExportedCall.TheVariants.{Class, Conversion, Text}
-use Rattle.coded_calls.specs.{OneReply.SameAnswer, KnownCalls.fault_in, KnownCalls.known_call, KnownCalls.without}
 use Rattle.coded_calls.specs.Answers.{IsKindAnswer, IsConverted, IsConvertedInto, IsAnswerConverted, IsFractionOf}
 use Rattle.coded_calls.specs.Answers.{IsNumberAlone, IsReturned, IsSignedAnswer, IsTypeAnswer, IsUnsigned, IsUntold}
 use Rattle.coded_calls.specs.Answers.{IsValue, IsValueWritten, one_if, whole}
-use Rattle.formats_at_run_time.specs.declared.BuiltInKind.{BuiltInKind}
+use Rattle.formats_at_run_time.specs.{BuiltIns.kind_of, FlaggedKinds.flagged_kind_of, declared.BuiltInKind.BuiltInKind}
 use Rattle.formats_at_run_time.specs.declared.BuiltInKind.TheVariants.{OfFormat as OfBuiltIn, Pairs as PairsOfDoubles}
 use Rattle.formats_at_run_time.specs.declared.FlaggedKind.{FlaggedKind, TheVariants.OfFormat, TheVariants.Pairs}
-use Rattle.formats_at_run_time.specs.{BuiltIns.kind_of, FlaggedKinds.flagged_kind_of}
 use Rattle.formats_at_run_time.specs.Relations.{Relations, in_format, in_pairs}
 use Rattle.formats_at_run_time.specs.ValueKinds.{Kind, of_format, of_pairs, value_of}
 use Rattle.formats_at_run_time.proofs.OfTwoOnce.{of_two_once}
@@ -225,45 +222,3 @@ reply_once None mode call old a b code other x y = (x.0 ∙ sym y.0, unchanged o
 reply_once (Some known) None call old a b code other x y = (x.0 ∙ sym y.0, unchanged old a b x.1 y.1)
 reply_once (Some known) (Some mode) call old a b code other x y =
     without_once (fault_in (flagged_kind_of known) call) known mode call old a b code other x y
-
--- ---- results as they are stored for C, whose halves have 64 bits
-
--- two pairs of halves of the same number have the same upper half
-high_once : (first second : Halves) → first.low < 2 ^ 64 → second.low < 2 ^ 64 → whole first ≡ whole second
-    → first.high ≡ second.high
-high_once a b a_fits b_fits same =
-    ⊎_elim
-    (λ (c : a.high < b.high). absurd (omega arith))
-    (λ (c : b.high ≤ a.high).
-    ⊎_elim
-    (λ (d : b.high < a.high). absurd (omega arith))
-    (λ (d : a.high ≤ b.high). omega arith)
-    (cases_lt b.high a.high))
-    (cases_lt a.high b.high)
-
--- two pairs of halves of the same number, with the same upper half, have the same lower half
-low_once : (first second : Halves) → first.high ≡ second.high → whole first ≡ whole second
-    → first.low ≡ second.low
-low_once a b high same = omega arith
-
--- two pairs of halves are equal if both halves are
-halves_of : (first second : Halves) → first.low ≡ second.low → first.high ≡ second.high → first ≡ second
-halves_of a b low high =
-    ap (λ (n : ℕ). record { low = n; high = a.high }) low
-    ∙ ap (λ (n : ℕ). record { low = b.low; high = n }) high
-
--- two pairs of halves of the same number are equal
-halves_once : (first second : Halves) → first.low < 2 ^ 64 → second.low < 2 ^ 64 → whole first ≡ whole second
-    → first ≡ second
-halves_once a b a_fits b_fits same =
-    let high = high_once a b a_fits b_fits same in
-    halves_of a b (low_once a b high same) high
-
--- two results that are stored for C are equal if they represent the same result
-pub same_bytes : (first second : Answer) → first.bits.low < 2 ^ 64 → second.bits.low < 2 ^ 64
-    → SameAnswer first second → first ≡ second
-same_bytes a b a_fits b_fits same =
-    ap (λ (h : Halves). record { bits = h; status = a.status; number = a.number })
-    (halves_once a.bits b.bits a_fits b_fits same.bits)
-    ∙ ap (λ (s : ℕ). record { bits = b.bits; status = s; number = a.number }) same.status
-    ∙ ap (λ (n : ℤ). record { bits = b.bits; status = b.status; number = n }) same.number

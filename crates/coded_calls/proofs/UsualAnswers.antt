@@ -1,7 +1,6 @@
 -- The plain answer of usual operands is that of every machine.
-use Rattle.std.proofs.Common.{◌≡◌, ℕ, ◌+◌, ◌-◌, ◌*◌, ◌/◌, ◌%◌, ◌^◌, ◌<◌, ◌≤◌}
-use Rattle.std.proofs.Common.{ap, sym, subst, ◌∙◌, arith, Bool, true, false, not, ◌&&◌, eqb, leb, Option}
-use Rattle.std.proofs.Common.{Some, None, Result, Ok, refl, pos, if◌then◌else◌}
+use Rattle.std.proofs.Common.{◌≡◌, ℕ, ◌+◌, ◌-◌, ◌*◌, ◌/◌, ◌%◌, ◌^◌, ◌<◌, ◌≤◌, ap, sym, subst, ◌∙◌, arith, Bool, true}
+use Rattle.std.proofs.Common.{false, not, ◌&&◌, eqb, leb, Option, Some, None, Result, Ok, refl, pos, if◌then◌else◌}
 use Rattle.std.proofs.lemmas.Bool.{false≢true, true≢false, and_left, and_right, cond-true, le-leb, ne_eqb}
 use Rattle.std.proofs.lemmas.Nat.{mul-lt, pow_pos}
 use Rattle.std.specs.{Prelude.option_and_then, Bool.MatchBool}
@@ -16,10 +15,12 @@ use Rattle.apfloat_model.specs.rounding.Answer.{IsAnswer as IsGivenDatum}
 use Rattle.apfloat_model.specs.whole_numbers.WholeNumbers.{IsRoundToIntegral}
 use Rattle.apfloat_machines.specs.{declared.machine.Machine.Machine, Nans.default_nan}
 use Rattle.apfloat_machines.specs.Operations.{IsMachineFusedSum, IsMachineIntegralExact, IsMachineRoot}
+use Rattle.formats_at_run_time.specs.{OfTwo.IsOfTwo, Relations.in_format, ValueKinds.of_format, ValueKinds.value_of}
+use Rattle.formats_at_run_time.specs.declared.{Arithmetic.TheVariants.TruncatedRemainder, FlaggedKind.FlaggedKind}
 use Rattle.formats_at_run_time.specs.declared.Arithmetic.{Arithmetic, TheVariants.Sum}
 use Rattle.formats_at_run_time.specs.declared.Arithmetic.TheVariants.{Difference, Product, Quotient, NearestRemainder}
-use Rattle.formats_at_run_time.specs.declared.{Arithmetic.TheVariants.TruncatedRemainder, FlaggedKind.FlaggedKind}
-use Rattle.formats_at_run_time.specs.{OfTwo.IsOfTwo, Relations.in_format, ValueKinds.of_format, ValueKinds.value_of}
+use Rattle.coded_calls.specs.{Answers.IsKindAnswer, Answers.IsLeftBy, Answers.IsValueWritten, KnownCalls.answered}
+use Rattle.coded_calls.specs.{KnownCalls.without, MachineCalls.IsMachineAnswer, MachineCalls.IsMachineCallAnswer}
 use Rattle.coded_calls.specs.declared.machine_call.{CodedMachine.CodedMachine, MachineCall.MachineCall}
 use Rattle.coded_calls.specs.declared.machine_call.{MachineCall.TheVariants.Conversion, MachineFormat.MachineFormat}
 use Rattle.coded_calls.specs.declared.machine_call.MachineOperation.{MachineOperation, TheVariants.OfTwo}
@@ -28,8 +29,6 @@ use Rattle.coded_calls.specs.declared.data.Answer.{Answer}
 use Rattle.coded_calls.specs.declared.exported_call.ExportedCall.TheVariants.{OfTwo as PlainOfTwo}
 use Rattle.coded_calls.specs.declared.exported_call.ExportedCall.TheVariants.{FusedSum as PlainFusedSum}
 use Rattle.coded_calls.specs.declared.exported_call.ExportedCall.TheVariants.{SquareRoot as PlainRoot, RoundToIntegral}
-use Rattle.coded_calls.specs.{Answers.IsKindAnswer, Answers.IsLeftBy, Answers.IsValueWritten, KnownCalls.answered}
-use Rattle.coded_calls.specs.{KnownCalls.without, MachineCalls.IsMachineAnswer, MachineCalls.IsMachineCallAnswer}
 use Rattle.coded_calls.specs.MachineCalls.{IsMachineOfTwo, IsMachineReply, MachineRequest, are_usual}
 use Rattle.coded_calls.specs.MachineCalls.{are_usual_of_three, choices, conversion_call, divides, fits, is_divisor}
 use Rattle.coded_calls.specs.MachineCalls.{is_number, is_root_of, known_machine_call, lacking_operation, machine_fault}

@@ -1,11 +1,10 @@
 -- What a call returns.
-use Rattle.std.specs.Prelude.{⊤, FitsSigned, ◌≡◌, ℕ, ◌+◌, ◌*◌, ◌^◌, ℤ, pos, neg_ℤ, Bool}
-use Rattle.std.specs.Prelude.{if◌then◌else◌, Option, Some, None, Result, Ok, Err}
-use Rattle.std.specs.Int.{w32, w128, cast_unsigned}
+use Rattle.std.specs.Prelude.{⊤, FitsSigned, ◌≡◌, ℕ, ◌+◌, ◌*◌, ◌^◌, ℤ, pos, neg_ℤ, Bool, if◌then◌else◌, Option, Some}
+use Rattle.std.specs.{Prelude.None, Prelude.Result, Prelude.Ok, Prelude.Err, Int.w32, Int.w128, Int.cast_unsigned}
 use Rattle.std.specs.declared.cmp.Ordering.{Ordering, TheVariants.Less, TheVariants.Equal, TheVariants.Greater}
-use Rattle.rustc_apfloat.specs.declared.Category.{Category, TheVariants.Infinity, TheVariants.NaN, TheVariants.Normal}
-use Rattle.rustc_apfloat.specs.declared.{Category.TheVariants.Zero, Round.Round, StatusAnd.StatusAnd}
 use Rattle.rustc_apfloat.specs.{Flags.Gives, Flags.bits_of, Datum.Datum, FusedSums.IsFusedSum, Conversions.IsConversion}
+use Rattle.rustc_apfloat.specs.declared.{Category.TheVariants.Zero, Round.Round, StatusAnd.StatusAnd}
+use Rattle.rustc_apfloat.specs.declared.Category.{Category, TheVariants.Infinity, TheVariants.NaN, TheVariants.Normal}
 use Rattle.rustc_apfloat.specs.Lawful.{Constants, format_with}
 use Rattle.coded_calls.specs.declared.{data.Halves.Halves, data.Answer.Answer, exported_call.ExportedCall.ExportedCall}
 use Rattle.coded_calls.specs.declared.exported_call.ExportedCall.TheVariants.{OfTwo, FusedSum, SquareRoot, FromUnsigned}
@@ -14,9 +13,9 @@ use Rattle.coded_calls.specs.declared.exported_call.ExportedCall.TheVariants.{Ro
 use Rattle.coded_calls.specs.declared.exported_call.ExportedCall.TheVariants.{Exponent, NextUp, NextDown, Comparison}
 use Rattle.coded_calls.specs.declared.exported_call.ExportedCall.TheVariants.{Class, Conversion, Text}
 use Rattle.coded_calls.specs.KnownCalls.{KnownCall, answered, fault_in, type_fault}
-use Rattle.formats_at_run_time.specs.{declared.FlaggedKind.FlaggedKind, FlaggedKinds.flagged_kind_of}
+use Rattle.formats_at_run_time.specs.{declared.FlaggedKind.FlaggedKind, FlaggedKinds.flagged_kind_of, OfTwo.IsOfTwo}
+use Rattle.formats_at_run_time.specs.{Relations.Relations, Relations.in_format, Relations.in_pairs}
 use Rattle.formats_at_run_time.specs.ValueKinds.{Kind, of_format, of_pairs, value_of}
-use Rattle.formats_at_run_time.specs.{OfTwo.IsOfTwo, Relations.Relations, Relations.in_format, Relations.in_pairs}
 
 -- the number that two halves represent
 abbrev pub whole : Halves → ℕ

@@ -1,15 +1,14 @@
 -- Augmented operations and payloads of NaNs.
-use Rattle.std.specs.Prelude.{◌≡◌, ℕ, pos, ◌==◌, if◌then◌else◌, Option, Some, None, ok_or, Result, Ok}
-use Rattle.std.specs.Prelude.{Err}
+use Rattle.std.specs.Prelude.{◌≡◌, ℕ, pos, ◌==◌, if◌then◌else◌, Option, Some, None, ok_or, Result, Ok, Err}
 use Rattle.rustc_apfloat.specs.{Datum.Datum, Flags.bits_of, Format.Format, Layout.IsEncodedBy}
 use Rattle.rustc_apfloat.specs.Lawful.{Constants, format_with, layout_with}
 use Rattle.ieee_operations.specs.augmented.Augmented.{IsAugmentedDifference, IsAugmentedProduct, IsAugmentedSum}
 use Rattle.ieee_operations.specs.augmented.Payloads.{get_payload, set_payload, set_payload_signaling}
-use Rattle.formats_at_run_time.specs.declared.{BuiltInFormat.BuiltInFormat, FlaggedKind.FlaggedKind}
 use Rattle.formats_at_run_time.specs.{BuiltIns.constants_in, ValueKinds.value_of}
+use Rattle.formats_at_run_time.specs.declared.{BuiltInFormat.BuiltInFormat, FlaggedKind.FlaggedKind}
 use Rattle.coded_calls.specs.declared.{data.Answer.Answer, data.Halves.Halves, augmented.Augmentation.Augmentation}
-use Rattle.coded_calls.specs.declared.augmented.Augmentation.TheVariants.{Sum, Difference, Product}
 use Rattle.coded_calls.specs.declared.augmented.{Parts.Parts, PayloadCall.PayloadCall}
+use Rattle.coded_calls.specs.declared.augmented.Augmentation.TheVariants.{Sum, Difference, Product}
 use Rattle.coded_calls.specs.declared.augmented.PayloadCall.TheVariants.{Get, Set, SetSignaling}
 use Rattle.coded_calls.specs.Answers.{whole}
 use Rattle.coded_calls.specs.KnownCalls.{◌>>=◌, answered, no_such_operation, text_format}

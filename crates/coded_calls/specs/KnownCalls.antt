@@ -1,7 +1,6 @@
 -- What a call asks for, or its error.
-use Rattle.std.specs.Prelude.{ℕ, ◌+◌, ◌==◌, Bool, ◌&&◌, nat_le, if◌then◌else◌, List, [], ◌∷◌}
-use Rattle.std.specs.Prelude.{Option, is_none, Some, None, ok_or, Result, Ok, Err}
-use Rattle.std.specs.Char.{is_ascii}
+use Rattle.std.specs.Prelude.{ℕ, ◌+◌, ◌==◌, Bool, ◌&&◌, nat_le, if◌then◌else◌, List, [], ◌∷◌, Option, is_none, Some}
+use Rattle.std.specs.{Prelude.None, Prelude.ok_or, Prelude.Result, Prelude.Ok, Prelude.Err, Char.is_ascii}
 use Rattle.rustc_apfloat.specs.{declared.Round.Round, Digits.every, Faults.fault_of}
 use Rattle.formats_at_run_time.specs.declared.{BuiltInFormat.BuiltInFormat, FlaggedKind.FlaggedKind}
 use Rattle.formats_at_run_time.specs.declared.FlaggedKind.TheVariants.{OfFormat, Pairs}

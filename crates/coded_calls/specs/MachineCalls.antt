@@ -1,12 +1,11 @@
 -- The operations of machines, as their export makes them.
-use Rattle.std.specs.Prelude.{◌≡◌, ℕ, ◌^◌, ◌==◌, ltb, pos, Bool, true, false, not, ◌&&◌}
-use Rattle.std.specs.Prelude.{if◌then◌else◌, Option, Some, None, ok_or, option_and_then, option_map, Result, Ok}
-use Rattle.std.specs.Prelude.{Err, [], ◌∷◌}
+use Rattle.std.specs.Prelude.{◌≡◌, ℕ, ◌^◌, ◌==◌, ltb, pos, Bool, true, false, not, ◌&&◌, if◌then◌else◌, Option, Some}
+use Rattle.std.specs.Prelude.{None, ok_or, option_and_then, option_map, Result, Ok, Err, [], ◌∷◌}
 use Rattle.std.specs.Int.{w128, cast_unsigned}
 use Rattle.apfloat_model.specs.declared.kinds.NonfiniteBehavior.TheVariants.{IEEE754}
-use Rattle.rustc_apfloat.specs.declared.{Round.Round, StatusAnd.StatusAnd}
 use Rattle.rustc_apfloat.specs.{Classes.is_finite, Classes.is_negative, Classes.is_zero, Datum.Datum, Flags.Gives}
 use Rattle.rustc_apfloat.specs.{Flags.bits_of, Format.Format, Lawful.Constants, Lawful.format_with}
+use Rattle.rustc_apfloat.specs.declared.{Round.Round, StatusAnd.StatusAnd}
 use Rattle.apfloat_machines.specs.declared.{machine.Machine.Machine, minima.MinimumRule.MinimumRule}
 use Rattle.apfloat_machines.specs.declared.minima.MinimumRule.TheVariants.{Second, SecondQuietly, FirstNan, Number2008}
 use Rattle.apfloat_machines.specs.declared.minima.MinimumRule.TheVariants.{Number2019, Propagated}
@@ -18,28 +17,27 @@ use Rattle.apfloat_machines.specs.Operations.{IsMachineSum, IsMachineDifference,
 use Rattle.apfloat_machines.specs.Operations.{IsMachineTruncatedRemainder, IsMachineNearestRemainder, IsMachineRoot}
 use Rattle.apfloat_machines.specs.Operations.{IsMachineIntegralExact, IsMachineIntegral, IsMachineFusedSum}
 use Rattle.apfloat_machines.specs.WholeNumbers.{IsMachineSigned, IsMachineUnsigned}
-use Rattle.formats_at_run_time.specs.declared.Arithmetic.{Arithmetic}
+use Rattle.formats_at_run_time.specs.{declared.IeeeFormat.IeeeFormat, BuiltIns.constants_in, BuiltIns.kind_coded}
+use Rattle.formats_at_run_time.specs.{FlaggedKinds.ieee_format_in, Relations.in_format, declared.Arithmetic.Arithmetic}
 use Rattle.formats_at_run_time.specs.declared.Arithmetic.TheVariants.{Sum, Difference, Product, Quotient}
 use Rattle.formats_at_run_time.specs.declared.Arithmetic.TheVariants.{NearestRemainder, TruncatedRemainder}
 use Rattle.formats_at_run_time.specs.declared.BuiltInKind.TheVariants.{OfFormat as OfBuiltIn}
 use Rattle.formats_at_run_time.specs.declared.FlaggedFormat.{FlaggedFormat}
 use Rattle.formats_at_run_time.specs.declared.FlaggedFormat.TheVariants.{BuiltIn, AfterRounding, BeforeRounding}
 use Rattle.formats_at_run_time.specs.declared.FlaggedKind.{FlaggedKind, TheVariants.OfFormat, TheVariants.Pairs}
-use Rattle.formats_at_run_time.specs.{declared.IeeeFormat.IeeeFormat, BuiltIns.constants_in, BuiltIns.kind_coded}
 use Rattle.formats_at_run_time.specs.FlaggedKinds.{flagged_constants, flagged_kind_coded, format_of_ieee}
-use Rattle.formats_at_run_time.specs.{FlaggedKinds.ieee_format_in, Relations.in_format}
 use Rattle.formats_at_run_time.specs.ValueKinds.{Kind, of_format, of_pairs, value_of}
 use Rattle.coded_calls.specs.declared.{data.Answer.Answer, machine_call.CodedMachine.CodedMachine}
+use Rattle.coded_calls.specs.declared.machine_call.{MachineCall.TheVariants.Conversion, MachineFormat.MachineFormat}
+use Rattle.coded_calls.specs.declared.machine_call.{MachineOperation.TheVariants.Greatest, OneOperation.OneOperation}
 use Rattle.coded_calls.specs.declared.machine_call.CodedMachine.TheVariants.{X86, X87, Arm, ArmDefaultNan, ArmAlternate}
 use Rattle.coded_calls.specs.declared.machine_call.CodedMachine.TheVariants.{RiscV, Power, S390x}
 use Rattle.coded_calls.specs.declared.machine_call.CodedMachine.TheVariants.{ArmAlternateDefaultNan, Webassembly, Ptx}
 use Rattle.coded_calls.specs.declared.machine_call.CodedMachine.TheVariants.{Mips2008, Loongarch, Sparc, M68k}
 use Rattle.coded_calls.specs.declared.machine_call.MachineCall.{MachineCall, TheVariants.Operation}
-use Rattle.coded_calls.specs.declared.machine_call.{MachineCall.TheVariants.Conversion, MachineFormat.MachineFormat}
 use Rattle.coded_calls.specs.declared.machine_call.MachineOperation.{MachineOperation, TheVariants.OfTwo}
 use Rattle.coded_calls.specs.declared.machine_call.MachineOperation.TheVariants.{FusedSum, SquareRoot, IntegralExact}
 use Rattle.coded_calls.specs.declared.machine_call.MachineOperation.TheVariants.{Integral, ToUnsigned, ToSigned, Least}
-use Rattle.coded_calls.specs.declared.machine_call.{MachineOperation.TheVariants.Greatest, OneOperation.OneOperation}
 use Rattle.coded_calls.specs.declared.machine_call.OneOperation.TheVariants.{SquareRoot as SquareRootOf}
 use Rattle.coded_calls.specs.declared.machine_call.OneOperation.TheVariants.{IntegralExact as IntegralExactOf}
 use Rattle.coded_calls.specs.declared.machine_call.OneOperation.TheVariants.{Integral as IntegralOf}

@@ -1,17 +1,16 @@
 -- Calls that convert one value into a format of IEEE P3109 or out of it.
-use Rattle.std.specs.Prelude.{◌≡◌, ℕ, ◌/◌, ◌%◌, ◌^◌, ◌<◌, ◌==◌, Bool, true, false}
-use Rattle.std.specs.Prelude.{if◌then◌else◌, Option, Some, None, ok_or, option_and_then, option_map, Result, Ok}
-use Rattle.std.specs.Prelude.{Err}
+use Rattle.std.specs.Prelude.{◌≡◌, ℕ, ◌/◌, ◌%◌, ◌^◌, ◌<◌, ◌==◌, Bool, true, false, if◌then◌else◌, Option, Some, None}
+use Rattle.std.specs.Prelude.{ok_or, option_and_then, option_map, Result, Ok, Err}
 use Rattle.rustc_apfloat.specs.{declared.Round.Round, Conversions.IsConversion, Datum.Datum, Format.Format}
 use Rattle.rustc_apfloat.specs.Lawful.{Constants, format_with}
-use Rattle.formats_at_run_time.specs.declared.FlaggedKind.{FlaggedKind, TheVariants.OfFormat, TheVariants.Pairs}
 use Rattle.formats_at_run_time.specs.{BuiltIns.constants_in, FlaggedKinds.flagged_constants}
 use Rattle.formats_at_run_time.specs.{FlaggedKinds.format_without_rule, ValueKinds.value_of, Modes.mode_coded}
+use Rattle.formats_at_run_time.specs.declared.FlaggedKind.{FlaggedKind, TheVariants.OfFormat, TheVariants.Pairs}
 use Rattle.small_formats.specs.declared.ConversionRound.{ConversionRound, TheVariants.Ieee, TheVariants.ToOdd}
+use Rattle.p3109_formats.specs.{LawTest.descriptor_with, ModeConversions.IsIntoProjectionBy}
 use Rattle.p3109_formats.specs.declared.{descriptor.Descriptor.Descriptor, rules.ProjectionRound.TheVariants.By}
 use Rattle.p3109_formats.specs.declared.rules.{ProjectionRule.ProjectionRule, Saturation.Saturation}
 use Rattle.p3109_formats.specs.declared.rules.Saturation.TheVariants.{Finite, Overflow, Propagate}
-use Rattle.p3109_formats.specs.{LawTest.descriptor_with, ModeConversions.IsIntoProjectionBy}
 use Rattle.p3109_formats.specs.Projections.{IsProjection, projected_datum, projected_format}
 use Rattle.coded_calls.specs.declared.{data.Answer.Answer, p3109.P3109Call.P3109Call, p3109.P3109Call.TheVariants.Into}
 use Rattle.coded_calls.specs.declared.p3109.{P3109Call.TheVariants.OutOf, P3109Format.P3109Format}

@@ -1,18 +1,17 @@
 -- The words of a command: how many there are, and their places.
-use Rattle.std.proofs.Common.{◌≡◌, ◌≤◌, ◌<◌, ◌⊎◌, inl, inr, ℕ, zero, suc, ◌-◌, Bool, true, false, ◌&&◌, nat_le, List, [], ◌∷◌, length, get_or, map, take, drop, Some, Result, Ok, arith, refl, subst, sym}
-use Rattle.std.proofs.lemmas.Bool.{lt-leb, le-leb}
-use Rattle.std.proofs.lemmas.List.{get_or-map, length-map}
-use denote.Ref.{Bor}
+use Rattle.std.proofs.Common.{◌≡◌, ◌≤◌, ◌<◌, ◌⊎◌, inl, inr, ℕ, zero, suc, ◌-◌, Bool, true, false, ◌&&◌, nat_le, List}
+use Rattle.std.proofs.Common.{[], ◌∷◌, length, get_or, map, take, drop, Some, Result, Ok, arith, refl, subst, sym}
+use Rattle.std.proofs.lemmas.{Bool.lt-leb, Bool.le-leb, List.get_or-map, List.length-map}
 use Rattle.rustc_apfloat.specs.declared.Round.{Round}
-use Rattle.formats_at_run_time.specs.declared.command_kind.CommandKind.{CommandKind}
-use Rattle.formats_at_run_time.specs.BuiltIns.{kind_of}
-use Rattle.formats_at_run_time.specs.CommandKinds.{built_in_kind, command_kind_named}
-use Rattle.formats_at_run_time.specs.ValueKinds.{Kind}
+use Rattle.formats_at_run_time.specs.{declared.command_kind.CommandKind.CommandKind, BuiltIns.kind_of}
+use Rattle.formats_at_run_time.specs.{CommandKinds.built_in_kind, CommandKinds.command_kind_named, ValueKinds.Kind}
 use Rattle.commands.specs.declared.operation.Operation.{Operation}
 use Rattle.commands.specs.declared.operation.Operation.TheVariants.{OfTwo, FusedSum, WholeNumber, Text}
-use Rattle.commands.specs.Commands.{Command, arguments, calculation, command_of, commanded, named, operand_count, provided, with_format, word_at}
+use Rattle.commands.specs.Commands.{Command, arguments, calculation, command_of, commanded, named, operand_count}
+use Rattle.commands.specs.Commands.{provided, with_format, word_at}
 use Rattle.commands.specs.Replies.{Reply, IsOnly, IsReply, IsReplyTo, refused}
 use Rattle.commands.proofs.Named.{named_count}
+use denote.Ref.{Bor}
 
 -- ---- too few or too many
 

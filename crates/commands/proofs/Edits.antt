@@ -1,6 +1,7 @@
 -- The test `is_one_edit` decides whether two words are one edit apart.
-use Rattle.std.proofs.Common.{◌≡◌, ◌≢◌, ◌↔◌, ℕ, ◌==◌, Bool, true, false, ◌&&◌, ◌||◌, refl, ⊎_elim, arith, List, [], ◌∷◌, length}
-use Rattle.std.proofs.lemmas.Bool.{and_parts, and_from, or_cases, or_left, or_right, cases_Bool, eqb-true, eqb-false, eq-eqb, ne_eqb, false≢true}
+use Rattle.std.proofs.Common.{◌≡◌, ◌≢◌, ◌↔◌, ℕ, ◌==◌, Bool, true, false, ◌&&◌, ◌||◌, refl, ⊎_elim, arith, List, [], ◌∷◌}
+use Rattle.std.proofs.{Common.length, lemmas.Bool.and_parts, lemmas.Bool.and_from, lemmas.Bool.or_cases}
+use Rattle.std.proofs.lemmas.Bool.{or_left, or_right, cases_Bool, eqb-true, eqb-false, eq-eqb, ne_eqb, false≢true}
 use Rattle.rustc_apfloat.specs.Digits.{same}
 use Rattle.commands.specs.Suggestions.{IsOneEdit, put_in, taken_out, replaced, swapped, later, is_one_edit, is_swap}
 

@@ -1,12 +1,11 @@
 -- Names of flags, written one after another.
-use Rattle.std.proofs.Common.{◌≡◌, ℕ, ◌+◌, ◌<◌, ◌==◌, Bool, true, false, List, [], ◌∷◌, ◌++◌, length, get_or, take, map, Option, refl, sym, ap, ◌∙◌, subst, append_assoc, append-nil, cond, codes, ◌≤◌, not}
-use Rattle.std.proofs.lemmas.List.{map-append, get_or-map, length-map, take_all}
-use lib.Bits.{and_zero_r}
-use Rattle.std.specs.List.{join_with_byte, filter}
-use Rattle.std.specs.Io.KnownBytes.{Appends}
+use Rattle.std.proofs.Common.{◌≡◌, ℕ, ◌+◌, ◌<◌, ◌==◌, Bool, true, false, List, [], ◌∷◌, ◌++◌, length, get_or, take, map}
+use Rattle.std.proofs.Common.{Option, refl, sym, ap, ◌∙◌, subst, append_assoc, append-nil, cond, codes, ◌≤◌, not}
+use Rattle.std.proofs.lemmas.List.{map-append, get_or-map, length-map, take_all, Elements.filter_more}
 use Rattle.std.proofs.KnownBytes.{Appends-nil, Appends-trans}
-use Rattle.std.proofs.lemmas.List.Elements.{filter_more}
+use Rattle.std.specs.{List.join_with_byte, List.filter, Io.KnownBytes.Appends}
 use Rattle.commands.specs.Replies.{bar, flags, is_raised, raised_names, status_text}
+use lib.Bits.{and_zero_r}
 
 -- the separator before the next name
 abbrev pub bar_after : List (List ℕ) → List ℕ

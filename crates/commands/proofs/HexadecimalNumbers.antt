@@ -1,12 +1,11 @@
 -- At most 32 hexadecimal digits represent a number below 2 ^ 128.
-use Rattle.std.proofs.Common.{◌≡◌, ℕ, ◌+◌, ◌*◌, ◌^◌, ◌<◌, ◌≤◌, Bool, true, false, not, ◌&&◌, nat_lt, nat_le, if◌then◌else◌, List, [], ◌∷◌, length, fold, Some, None, refl, sym, subst, arith, lit<}
-use Rattle.std.proofs.lemmas.Bool.{false≢true, lt-ltb, le-leb}
-use Rattle.std.proofs.lemmas.Bool.Decides.{nat_tests}
+use Rattle.std.proofs.Common.{◌≡◌, ℕ, ◌+◌, ◌*◌, ◌^◌, ◌<◌, ◌≤◌, Bool, true, false, not, ◌&&◌, nat_lt, nat_le}
+use Rattle.std.proofs.Common.{if◌then◌else◌, List, [], ◌∷◌, length, fold, Some, None, refl, sym, subst, arith, lit<}
+use Rattle.std.proofs.lemmas.Bool.{false≢true, lt-ltb, le-leb, Decides.nat_tests}
 use Rattle.std.proofs.Math.Nat.{pow-le-pow_right}
 use Rattle.apfloat_model.proofs.general.MoreDigits.{digit_more}
-use Rattle.apfloat_model.specs.declared.marks.Radix.TheVariants.{Sixteen}
+use Rattle.apfloat_model.specs.{declared.marks.Radix.TheVariants.Sixteen, texts.Specials.number_of_digits}
 use Rattle.rustc_apfloat.specs.Digits.{every, is_empty, is_hexadecimal, digit_value, number}
-use Rattle.apfloat_model.specs.texts.Specials.{number_of_digits}
 use Rattle.apfloat_conversions.specs.hex_texts.Payloads.{longer}
 use Rattle.commands.specs.Commands.{bits_of_digits}
 

@@ -1,8 +1,8 @@
 -- Hexadecimal digits, written from the last to the first.
-use Rattle.std.proofs.Common.{◌≡◌, ℕ, suc, zero, ◌+◌, ◌-◌, ◌*◌, ◌/◌, ◌%◌, ◌^◌, ◌<◌, ◌≤◌, List, ◌∷◌, length, take, drop, set, refl, sym, ap, ◌∙◌, arith, add-one, length-set, []}
+use Rattle.std.proofs.Common.{◌≡◌, ℕ, suc, zero, ◌+◌, ◌-◌, ◌*◌, ◌/◌, ◌%◌, ◌^◌, ◌<◌, ◌≤◌, List, ◌∷◌, length, take, drop}
+use Rattle.std.proofs.Common.{set, refl, sym, ap, ◌∙◌, arith, add-one, length-set, []}
 use Rattle.std.proofs.lemmas.List.{drop-set, take_all}
-use Rattle.std.proofs.Math.Nat.{div-div-eq-div-mul, div-one, pow-suc}
-use Rattle.std.proofs.Math.ListN.{drop_of_length-le}
+use Rattle.std.proofs.Math.{Nat.div-div-eq-div-mul, Nat.div-one, Nat.pow-suc, ListN.drop_of_length-le}
 use Rattle.commands.specs.Replies.{hexadecimal_digit, hexadecimal_text}
 
 -- the last `place` digits of the number are written, and `rest` is the number above them

@@ -1,29 +1,23 @@
 -- A calculation has only one reply.
-use Rattle.std.proofs.Common.{◌≡◌, ◌≤◌, ℕ, ◌/◌, false, List, Some, None, Result, Ok, Err, nat_le, refl, sym, ap, ◌∙◌, subst}
-use Rattle.std.proofs.Math.Path.{subst₂, subst₃}
-use Rattle.std.proofs.lemmas.Bool.{le-leb}
-use Rattle.rustc_apfloat.specs.declared.Round.{Round}
-use Rattle.rustc_apfloat.specs.declared.StatusAnd.{StatusAnd}
-use Rattle.rustc_apfloat.specs.Determined.{Determines}
-use Rattle.rustc_apfloat.specs.Faults.{fault_of}
-use Rattle.rustc_apfloat.specs.Flags.{Gives, bits_of}
-use Rattle.rustc_apfloat.specs.Datum.{Datum}
+use Rattle.std.proofs.Common.{◌≡◌, ◌≤◌, ℕ, ◌/◌, false, List, Some, None, Result, Ok, Err, nat_le}
+use Rattle.std.proofs.Common.{refl, sym, ap, ◌∙◌, subst}
+use Rattle.std.proofs.{Math.Path.subst₂, Math.Path.subst₃, lemmas.Bool.le-leb}
+use Rattle.rustc_apfloat.specs.declared.{Round.Round, StatusAnd.StatusAnd}
+use Rattle.rustc_apfloat.specs.{Determined.Determines, Faults.fault_of, Flags.Gives, Flags.bits_of, Datum.Datum}
 use Rattle.rustc_apfloat.specs.FusedSums.{IsFusedSum, fused_limit}
-use Rattle.rustc_apfloat.specs.Lawful.{Constants, format_with}
-use Rattle.rustc_apfloat.specs.Meaning.{AreDetermined}
-use Rattle.rustc_apfloat.specs.Readings.{IsRefusal}
-use Rattle.apfloat_model.proofs.Once.{fused_sum_once}
-use Rattle.apfloat_model.proofs.Determined.{gives_once}
-use Rattle.formats_at_run_time.specs.declared.Arithmetic.{Arithmetic}
-use Rattle.formats_at_run_time.specs.Limits.{multiplies}
-use Rattle.formats_at_run_time.specs.OfTwo.{IsOfTwo}
+use Rattle.rustc_apfloat.specs.{Lawful.Constants, Lawful.format_with, Meaning.AreDetermined, Readings.IsRefusal}
+use Rattle.apfloat_model.proofs.{Once.fused_sum_once, Determined.gives_once}
+use Rattle.formats_at_run_time.specs.{declared.Arithmetic.Arithmetic, Limits.multiplies, OfTwo.IsOfTwo}
 use Rattle.formats_at_run_time.specs.Relations.{Relations, in_format, in_pairs}
 use Rattle.formats_at_run_time.specs.ValueKinds.{bits_in, of_format, of_pairs, value_of}
 use Rattle.formats_at_run_time.proofs.OfTwoOnce.{of_two_once}
 use Rattle.commands.specs.declared.operation.Operation.{Operation}
 use Rattle.commands.specs.declared.operation.Operation.TheVariants.{OfTwo, FusedSum, WholeNumber, Text}
-use Rattle.commands.specs.Commands.{Calculation, of_two, fused_sum, from_whole_number, from_text, bits_of_word, calculation, commanded, provided, type_has, whole_number_of, word_at, with_operands, with_text, with_three, with_two, with_whole_number}
-use Rattle.commands.specs.Replies.{Reply, line, refused, IsFormatReply, IsFormatResult, IsLineOf, IsLineWhere, IsOnly, IsReplyIn, IsReplyTo, IsResult}
+use Rattle.commands.specs.Commands.{Calculation, of_two, fused_sum, from_whole_number, from_text, bits_of_word}
+use Rattle.commands.specs.Commands.{calculation, commanded, provided, type_has, whole_number_of, word_at, with_operands}
+use Rattle.commands.specs.Commands.{with_text, with_three, with_two, with_whole_number}
+use Rattle.commands.specs.Replies.{Reply, line, refused, IsFormatReply, IsFormatResult, IsLineOf, IsLineWhere, IsOnly}
+use Rattle.commands.specs.Replies.{IsReplyIn, IsReplyTo, IsResult}
 
 -- ---- one line
 

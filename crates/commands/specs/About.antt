@@ -3,8 +3,7 @@ use Rattle.std.specs.Prelude.{ℕ, if◌then◌else◌, List, [], ◌∷◌, ◌
 use Rattle.std.specs.Option.{option_or}
 use Rattle.rustc_apfloat.specs.Digits.{same}
 use Rattle.commands.specs.Commands.{found}
-use Rattle.commands.specs.declared.about.About.{About}
-use Rattle.commands.specs.declared.about.About.TheVariants.{Help, Version}
+use Rattle.commands.specs.declared.about.About.{About, TheVariants.Help, TheVariants.Version}
 
 -- the words that ask something about a program
 abbrev pub questions : List (List ℕ × About)

@@ -1,19 +1,16 @@
 -- What the words of a command ask for, or the word of its refusal.
-use Rattle.std.specs.Prelude.{ℕ, ◌^◌, Bool, false, true, not, ◌&&◌, ◌==◌, nat_lt, nat_le, if◌then◌else◌, List, [], ◌∷◌, length, take, drop, slice_index_or, codes, Option, Some, None, ok_or, Result, Ok, Err}
-use Rattle.rustc_apfloat.specs.declared.Round.{Round}
-use Rattle.rustc_apfloat.specs.Digits.{same, every, is_empty, is_hexadecimal, number}
-use Rattle.apfloat_model.specs.declared.marks.Radix.TheVariants.{Ten}
+use Rattle.std.specs.Prelude.{ℕ, ◌^◌, Bool, false, true, not, ◌&&◌, ◌==◌, nat_lt, nat_le, if◌then◌else◌, List, [], ◌∷◌}
+use Rattle.std.specs.Prelude.{length, take, drop, slice_index_or, codes, Option, Some, None, ok_or, Result, Ok, Err}
+use Rattle.rustc_apfloat.specs.{declared.Round.Round, Digits.same, Digits.every, Digits.is_empty, Digits.is_hexadecimal}
+use Rattle.rustc_apfloat.specs.{Digits.number, Faults.fault_of, Faults.words}
+use Rattle.apfloat_model.specs.declared.{marks.Radix.TheVariants.Ten, parse_error.Fault.Fault}
 use Rattle.apfloat_model.specs.texts.Specials.{number_of_digits}
-use Rattle.apfloat_model.specs.declared.parse_error.Fault.{Fault}
-use Rattle.rustc_apfloat.specs.Faults.{fault_of, words}
+use Rattle.formats_at_run_time.specs.{ValueKinds.Kind, ValueKinds.bits_in, BuiltIns.kind_of, Limits.fuses}
+use Rattle.formats_at_run_time.specs.{Limits.multiplies, Modes.mode_named, OfTwo.has_operation}
 use Rattle.formats_at_run_time.specs.declared.Arithmetic.{Arithmetic}
-use Rattle.formats_at_run_time.specs.declared.Arithmetic.TheVariants.{Sum, Difference, Product, Quotient, NearestRemainder, TruncatedRemainder}
-use Rattle.formats_at_run_time.specs.ValueKinds.{Kind, bits_in}
-use Rattle.formats_at_run_time.specs.BuiltIns.{kind_of}
+use Rattle.formats_at_run_time.specs.declared.Arithmetic.TheVariants.{Sum, Difference, Product, Quotient}
+use Rattle.formats_at_run_time.specs.declared.Arithmetic.TheVariants.{NearestRemainder, TruncatedRemainder}
 use Rattle.formats_at_run_time.specs.CommandKinds.{built_in_kind, command_kind_named}
-use Rattle.formats_at_run_time.specs.Limits.{fuses, multiplies}
-use Rattle.formats_at_run_time.specs.Modes.{mode_named}
-use Rattle.formats_at_run_time.specs.OfTwo.{has_operation}
 use Rattle.commands.specs.declared.operation.Operation.{Operation}
 use Rattle.commands.specs.declared.operation.Operation.TheVariants.{OfTwo, FusedSum, WholeNumber, Text}
 

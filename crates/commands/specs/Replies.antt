@@ -1,20 +1,13 @@
 -- The reply to a command, and how it is written.
-use Rattle.std.specs.Prelude.{◌≡◌, ℕ, zero, suc, ◌+◌, ◌/◌, ◌%◌, ◌^◌, Bool, not, ◌==◌, nat_lt, if◌then◌else◌, List, [], ◌∷◌, ◌++◌, filter, map, codes, Option, Result, Ok, Err}
-use Rattle.std.specs.List.{join_with_byte}
-use Rattle.std.specs.Int.RustNames.{bit_and}
-use Rattle.std.specs.Io.KnownBytes.{Appends}
-use Rattle.std.specs.declared.io.ErrorKind.{ErrorKind}
-use Rattle.std.specs.declared.io.ErrorKind.TheVariants.{OutOfMemory}
-use Rattle.rustc_apfloat.specs.declared.Round.{Round}
-use Rattle.rustc_apfloat.specs.declared.StatusAnd.{StatusAnd}
-use Rattle.rustc_apfloat.specs.Flags.{Gives, bits_of}
-use Rattle.rustc_apfloat.specs.Datum.{Datum}
-use Rattle.rustc_apfloat.specs.FusedSums.{IsFusedSum}
-use Rattle.rustc_apfloat.specs.Lawful.{Constants, format_with}
+use Rattle.std.specs.{List.join_with_byte, Int.RustNames.bit_and, Io.KnownBytes.Appends}
+use Rattle.std.specs.Prelude.{◌≡◌, ℕ, zero, suc, ◌+◌, ◌/◌, ◌%◌, ◌^◌, Bool, not, ◌==◌, nat_lt, if◌then◌else◌, List, []}
+use Rattle.std.specs.Prelude.{◌∷◌, ◌++◌, filter, map, codes, Option, Result, Ok, Err}
+use Rattle.std.specs.declared.io.ErrorKind.{ErrorKind, TheVariants.OutOfMemory}
+use Rattle.rustc_apfloat.specs.{declared.Round.Round, declared.StatusAnd.StatusAnd, Flags.Gives, Flags.bits_of}
+use Rattle.rustc_apfloat.specs.{Datum.Datum, FusedSums.IsFusedSum, Lawful.Constants, Lawful.format_with}
 use Rattle.commands.specs.declared.reply.Reply as program
 use Rattle.formats_at_run_time.specs.ValueKinds.{Kind, bits_in, of_format, of_pairs, value_of}
-use Rattle.formats_at_run_time.specs.OfTwo.{IsOfTwo}
-use Rattle.formats_at_run_time.specs.Relations.{Relations, in_format, in_pairs}
+use Rattle.formats_at_run_time.specs.{OfTwo.IsOfTwo, Relations.Relations, Relations.in_format, Relations.in_pairs}
 use Rattle.commands.specs.Commands.{Calculation, of_two, fused_sum, from_whole_number, from_text, Command, command_of}
 
 -- bits with the number of their hexadecimal digits and the flags, or the word of a refusal

@@ -1,5 +1,6 @@
 -- Words that are one edit apart: a byte is put in, taken out or replaced, or two neighbours are swapped.
-use Rattle.std.specs.Prelude.{ℕ, ◌==◌, Bool, false, ◌&&◌, ◌||◌, if◌then◌else◌, List, [], ◌∷◌, length, Option, Some, None, ◌≢◌}
+use Rattle.std.specs.Prelude.{ℕ, ◌==◌, Bool, false, ◌&&◌, ◌||◌, if◌then◌else◌, List, [], ◌∷◌, length, Option, Some}
+use Rattle.std.specs.Prelude.{None, ◌≢◌}
 use Rattle.rustc_apfloat.specs.Digits.{same}
 
 -- two words that are one edit apart: at their beginning, or after a byte that they share

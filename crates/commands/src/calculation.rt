@@ -3,8 +3,8 @@
 ghost use Rattle.std.specs.Prelude.{◌≡◌, ◌≤◌, ◌<◌};
 ghost use Rattle.rustc_apfloat.specs.Types.{constants_of};
 ghost use Rattle.formats_at_run_time.specs.Relations.{in_format, relations_of};
-ghost use Rattle.commands.specs.Commands.{calculation, commanded, provided, type_has, with_operands, with_text, with_three, with_two, with_whole_number};
-ghost use Rattle.commands.specs.Operands.{words_of};
+ghost use Rattle.commands.specs.Commands.{calculation, commanded, provided, type_has, with_operands, with_text};
+ghost use Rattle.commands.specs.{Commands.with_three, Commands.with_two, Commands.with_whole_number, Operands.words_of};
 ghost use Rattle.commands.specs.Replies.{IsFormatReply, IsLineOf, IsOnly, IsReplyIn, IsReplyTo, digit_count, reply_of};
 
 use crate::operation::Operation;

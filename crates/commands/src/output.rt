@@ -3,11 +3,12 @@
 //! A reply is assembled first and written in one call, so that the replies of programs that run in parallel are not
 //! interleaved. Only a refusal longer than `REFUSAL_ROOM` is written in parts.
 
-ghost use Rattle.std.specs.Prelude.{◌≡◌, ◌≢◌, ◌<◌, ◌≤◌, ◌++◌, ◌-◌, codes, drop, if◌then◌else◌, IfErr, is_ok, map, MatchResult, OnErr, OnOk, string_bytes};
-ghost use Rattle.std.specs.IoError.{error_kind};
-ghost use Rattle.std.specs.Io.KnownBytes.{Appends};
+ghost use Rattle.std.specs.Prelude.{◌≡◌, ◌≢◌, ◌<◌, ◌≤◌, ◌++◌, ◌-◌, codes, drop, if◌then◌else◌, IfErr, is_ok, map};
+ghost use Rattle.std.specs.Prelude.{MatchResult, OnErr, OnOk, string_bytes};
+ghost use Rattle.std.specs.{IoError.error_kind, Io.KnownBytes.Appends};
 ghost use Rattle.rustc_apfloat.specs.Flags.{bits_of};
-ghost use Rattle.commands.specs.Replies.{IsMemoryRefused, IsRun, hexadecimal_digit, hexadecimal_text, line_text, refusal_text, status_text};
+ghost use Rattle.commands.specs.Replies.{IsMemoryRefused, IsRun, hexadecimal_digit, hexadecimal_text, line_text};
+ghost use Rattle.commands.specs.Replies.{refusal_text, status_text};
 
 use crate::reply::{Reply, command};
 use crate::text_buffer::TextBuffer;

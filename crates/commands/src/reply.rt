@@ -1,8 +1,7 @@
 //! The reply to a command.
 
 ghost use Rattle.std.specs.Prelude.{◌≡◌, ◌≤◌, map, string_bytes, take};
-ghost use Rattle.commands.specs.Commands.{with_format, word_at};
-ghost use Rattle.commands.specs.Operands.{words_of};
+ghost use Rattle.commands.specs.{Commands.with_format, Commands.word_at, Operands.words_of};
 ghost use Rattle.commands.specs.Replies.{IsOnly, IsReply, IsReplyTo, digit_count, reply_of};
 
 use crate::calculation::{Calculation, Operands};

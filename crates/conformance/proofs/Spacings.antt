@@ -1,7 +1,6 @@
 -- A spacing that is doubled until the magnitude is less than 2 ^ precision spacings.
 use Rattle.std.proofs.Common.{◌≡◌, ℕ, ◌+◌, ◌-◌, ◌*◌, ◌^◌, ◌<◌, ◌≤◌, ◌⊎◌, inl, inr, sym, ap, ◌∙◌, subst, arith}
-use Rattle.std.proofs.Math.Nat.{mul-le-mul_right, pow-le-pow_right}
-use Rattle.std.proofs.lemmas.Nat.{pow_pos, pow-add}
+use Rattle.std.proofs.{Math.Nat.mul-le-mul_right, Math.Nat.pow-le-pow_right, lemmas.Nat.pow_pos, lemmas.Nat.pow-add}
 use Rattle.apfloat_model.proofs.general.Powers.{twice_half, two_pos}
 use Rattle.conformance.specs.Plain.{IsSmall, IsSpacing}
 

@@ -1,6 +1,5 @@
 -- Sums of doubles as pairs, by the laws of sums of pairs.
-use Rattle.std.proofs.Common.{◌≡◌, ℕ, ◌+◌, ◌*◌, ◌^◌, ◌<◌, ◌≤◌, refl, sym, ◌∙◌}
-use Rattle.std.proofs.Common.{subst, arith}
+use Rattle.std.proofs.Common.{◌≡◌, ℕ, ◌+◌, ◌*◌, ◌^◌, ◌<◌, ◌≤◌, refl, sym, ◌∙◌, subst, arith}
 use Rattle.std.proofs.Math.{IntN.+ℤ_idr, Nat.mod-eq_of_lt, Nat.div-eq_of_lt, Path.subst₂}
 use Rattle.std.specs.Prelude.{ℤ, ◌+ℤ◌}
 use Rattle.rustc_apfloat.specs.{Datum.Datum, Classes.quanta_of, Exact.magnitude, Formats.double_constants}

@@ -1,11 +1,10 @@
 -- Definitions for the plain program for one rounding.
-use Rattle.std.specs.Prelude.{◌≡◌, ℕ, ◌-◌, ◌*◌, ◌^◌, ◌<◌, ◌≤◌, ◌⊎◌, Bool, ltb}
-use Rattle.std.specs.Prelude.{if◌then◌else◌}
+use Rattle.std.specs.Prelude.{◌≡◌, ℕ, ◌-◌, ◌*◌, ◌^◌, ◌<◌, ◌≤◌, ◌⊎◌, Bool, ltb, if◌then◌else◌}
 use Rattle.apfloat_model.specs.declared.kinds.{NonfiniteBehavior.NonfiniteBehavior, Round.Round}
-use Rattle.rustc_apfloat.specs.Format.{Format, smallest_normalized, largest, nan_base_of}
 use Rattle.rustc_apfloat.specs.{Rounding.rounds_below_normal, Datum.Datum, Datum.finite, Datum.infinite, Datum.nan}
-use Rattle.conformance.specs.declared.plain.RoundedValue.{RoundedValue, TheVariants.Finite, TheVariants.Infinite}
+use Rattle.rustc_apfloat.specs.Format.{Format, smallest_normalized, largest, nan_base_of}
 use Rattle.conformance.specs.declared.plain.{RoundedValue.TheVariants.NotANumber, Bounds.Bounds}
+use Rattle.conformance.specs.declared.plain.RoundedValue.{RoundedValue, TheVariants.Finite, TheVariants.Infinite}
 
 -- small enough that no product exceeds 128 bits
 pub record IsSmall (precision amount parts : ℕ) : Type 0 where

@@ -1,7 +1,10 @@
 //! The aliases of the formats: a sum in each, from bits to bits, is that of the format with the constants that the
 //! specification gives under its name. So an alias of another format would not be proved.
 
-ghost use Rattle.rustc_apfloat.specs.Formats.{bfloat_constants, double_constants, e4m3_constants, e4m3b11fnuz_constants, e4m3fn_constants, e4m3fnuz_constants, e5m2_constants, e5m2fnuz_constants, half_constants, quad_constants, single_constants, tf32_constants, x87_constants};
+ghost use Rattle.rustc_apfloat.specs.Formats.{bfloat_constants, double_constants, e4m3_constants};
+ghost use Rattle.rustc_apfloat.specs.Formats.{e4m3b11fnuz_constants, e4m3fn_constants, e4m3fnuz_constants};
+ghost use Rattle.rustc_apfloat.specs.Formats.{e5m2_constants, e5m2fnuz_constants, half_constants, quad_constants};
+ghost use Rattle.rustc_apfloat.specs.Formats.{single_constants, tf32_constants, x87_constants};
 ghost use Rattle.conformance.specs.Aliases.{IsSumOfBits};
 
 use rustc_apfloat::ieee::{

@@ -1,12 +1,11 @@
 //! The laws of the public calls, for every format: each function calls the library, and its contract states the law for
 //! the results. A function has a precondition on the format only where a call has it.
 
-ghost use Rattle.std.specs.Prelude.{◌≡◌, ◌^◌, ◌<◌, ◌≤◌, IsTrue, true, false, ◌-ℤ◌};
-ghost use Rattle.std.specs.Prelude.{◌≤ℤ◌};
+ghost use Rattle.std.specs.Prelude.{◌≡◌, ◌^◌, ◌<◌, ◌≤◌, IsTrue, true, false, ◌-ℤ◌, ◌≤ℤ◌};
 ghost use Rattle.apfloat_model.specs.declared.kinds.NonfiniteBehavior.TheVariants.{IEEE754};
-ghost use Rattle.rustc_apfloat.specs.Classes.{is_finite, is_finite_non_zero};
 ghost use Rattle.rustc_apfloat.specs.{Flags.bits_of, Negation.negated, Products.product_limit, Order.number};
 ghost use Rattle.rustc_apfloat.specs.{Order.AtMost, Rounding.ok_bits, FlaggedTypes.format_of};
+ghost use Rattle.rustc_apfloat.specs.Classes.{is_finite, is_finite_non_zero};
 ghost use Rattle.conformance.specs.LawPremises.{AreNear, IsInBoth};
 
 use rustc_apfloat::ieee::{Flagged, IeeeFloat};

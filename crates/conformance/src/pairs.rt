@@ -1,9 +1,8 @@
 //! Sums of doubles as pairs, with error bounds that follow from the clauses of `+` alone.
 
 ghost use Rattle.std.specs.Prelude.{◌≡◌, ◌+◌, ◌+ℤ◌};
-ghost use Rattle.rustc_apfloat.specs.{Exact.magnitude, Members.IsMember, Order.number};
+ghost use Rattle.rustc_apfloat.specs.{Exact.magnitude, Members.IsMember, Order.number, PairFormats.double, Pairs.alone};
 ghost use Rattle.rustc_apfloat.specs.PairAccuracy.{sum_reach, IsClosePair, IsExactPair};
-ghost use Rattle.rustc_apfloat.specs.{PairFormats.double, Pairs.alone};
 ghost use Rattle.conformance.specs.Summands.{reach_of_three, IsPlainSummand};
 
 use rustc_apfloat::Float;

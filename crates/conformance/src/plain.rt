@@ -5,10 +5,9 @@
 //! rounding.
 
 ghost use Rattle.std.specs.Prelude.{◌≡◌, ◌+◌, ◌*◌, ◌/◌, ◌^◌, ◌<◌, ◌≤◌, ℕ, if◌then◌else◌};
-ghost use Rattle.rustc_apfloat.specs.Flags.{bits_of};
-ghost use Rattle.rustc_apfloat.specs.Format.{Format, nan_base_of};
-ghost use Rattle.rustc_apfloat.specs.Grid.{IsBelow, IsAbove};
-ghost use Rattle.rustc_apfloat.specs.Rounding.{takes_above, IsPick, IsDelivered, leads_out, past_largest, signed_quanta, rounds_below_normal, ok_bits, underflow_bit, inexact_bit};
+ghost use Rattle.rustc_apfloat.specs.{Flags.bits_of, Format.Format, Format.nan_base_of, Grid.IsBelow, Grid.IsAbove};
+ghost use Rattle.rustc_apfloat.specs.Rounding.{takes_above, IsPick, IsDelivered, leads_out, past_largest};
+ghost use Rattle.rustc_apfloat.specs.Rounding.{signed_quanta, rounds_below_normal, ok_bits, underflow_bit, inexact_bit};
 ghost use Rattle.rustc_apfloat.specs.WholeNumbers.{whole_pick};
 ghost use Rattle.conformance.specs.Plain.{IsSmall, IsSpacing, HasBounds, tiny_of, datum_of};
 

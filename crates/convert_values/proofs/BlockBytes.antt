@@ -1,8 +1,7 @@
 -- The bytes of a block.
-use Rattle.std.proofs.Common.{◌≡◌, ℕ, ◌-◌, ◌≤◌, refl, ap, ◌∙◌, arith}
-use Rattle.std.proofs.Common.{List, [], ◌∷◌, ◌++◌, length, drop, take}
-use Rattle.std.specs.Prelude.{slice_set}
+use Rattle.std.proofs.Common.{◌≡◌, ℕ, ◌-◌, ◌≤◌, refl, ap, ◌∙◌, arith, List, [], ◌∷◌, ◌++◌, length, drop, take}
 use Rattle.std.proofs.lemmas.List.{append-nil, drop_all}
+use Rattle.std.specs.Prelude.{slice_set}
 use borrow.Rule.Slice.PartMut.{put_mid}
 
 none_taken : (xs : List ℕ) → take 0 xs ≡ []

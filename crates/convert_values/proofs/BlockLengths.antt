@@ -1,17 +1,16 @@
 -- The lengths of one block fit.
-use Rattle.std.proofs.Common.{◌≡◌, ℕ, ◌*◌, ◌/◌, ◌%◌, ◌≤◌, ◌==◌}
-use Rattle.std.proofs.Common.{◌&&◌, true, false, refl, sym, ap, ◌∙◌, subst, arith, List}
-use Rattle.std.proofs.Math.Nat.{mul-div_cancel, mul-mod_left}
+use Rattle.std.proofs.Common.{◌≡◌, ℕ, ◌*◌, ◌/◌, ◌%◌, ◌≤◌, ◌==◌, ◌&&◌, true, false, refl, sym, ap, ◌∙◌, subst, arith}
+use Rattle.std.proofs.{Common.List, Math.Nat.mul-div_cancel, Math.Nat.mul-mod_left}
 use Rattle.std.proofs.lemmas.Bool.{and_from, eq-eqb, ne_eqb}
 use Rattle.std.specs.Prelude.{Err, IsOk, Ok, Result}
 use Rattle.apfloat_arrays.specs.declared.Counts.{Counts}
+use Rattle.apfloat_arrays.specs.declared.scaled_blocks.{BlockFormat.TheVariants.Mx, Dequantization.Dequantization}
 use Rattle.apfloat_arrays.specs.declared.scaled_blocks.ArrayError.{ArrayError, TheVariants.CodeTooWide}
 use Rattle.apfloat_arrays.specs.declared.scaled_blocks.ArrayError.TheVariants.{EmptyBlock, Lengths, TensorScale, Uneven}
-use Rattle.apfloat_arrays.specs.declared.scaled_blocks.{BlockFormat.TheVariants.Mx, Dequantization.Dequantization}
 use Rattle.apfloat_arrays.specs.declared.scaled_blocks.Quantization.{Quantization}
+use Rattle.apfloat_arrays.specs.scaled_blocks.{Quantized.AreQuantized, Quantized.IsQuantizedArray, Formats.AreNarrow}
 use Rattle.apfloat_arrays.specs.scaled_blocks.Dequantized.{IsDequantizedArray}
 use Rattle.apfloat_arrays.specs.scaled_blocks.Lengths.{blocks_in, blocks_of, if_scaled}
-use Rattle.apfloat_arrays.specs.scaled_blocks.{Quantized.AreQuantized, Quantized.IsQuantizedArray, Formats.AreNarrow}
 use Rattle.apfloat_arrays.proofs.scaled_blocks_lemmas.Formats.{not_both_in}
 use Rattle.small_formats.specs.declared.blocks.ElementFormat.{ElementFormat}
 

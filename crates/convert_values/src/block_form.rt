@@ -1,7 +1,6 @@
 //! How a block lies in bytes.
 
-ghost use Rattle.std.specs.Prelude.{◌≡◌, ◌+◌, ◌*◌, ◌%◌, ◌^◌, ◌<◌, ◌≤◌, ◌↔◌, All};
-ghost use Rattle.std.specs.Prelude.{length, IfSome, IsSome};
+ghost use Rattle.std.specs.Prelude.{◌≡◌, ◌+◌, ◌*◌, ◌%◌, ◌^◌, ◌<◌, ◌≤◌, ◌↔◌, All, length, IfSome, IsSome};
 ghost use Rattle.small_formats.specs.{blocks.Elements.width, packing.Packed.ArePacked};
 
 use small_formats::blocks::{BLOCK, ElementFormat};

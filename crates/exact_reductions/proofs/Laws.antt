@@ -1,16 +1,15 @@
 -- The laws of exact sums.
-use Rattle.std.proofs.Common.{◌≡◌, ℕ, zero, suc, ◌*◌, ◌^◌, ◌<◌, eqb, Bool, true, false, not}
-use Rattle.std.proofs.Common.{◌&&◌, ◌||◌, List, [], ◌∷◌, ◌++◌, Option, Some, None}
-use Rattle.std.proofs.Common.{if◌then◌else◌, refl, sym, ap, subst, ◌∙◌, inl, inr, arith}
+use Rattle.std.proofs.Common.{◌≡◌, ℕ, zero, suc, ◌*◌, ◌^◌, ◌<◌, eqb, Bool, true, false, not, ◌&&◌, ◌||◌, List, [], ◌∷◌}
+use Rattle.std.proofs.Common.{◌++◌, Option, Some, None, if◌then◌else◌, refl, sym, ap, subst, ◌∙◌, inl, inr, arith}
 use Rattle.std.proofs.lemmas.{Bool.false≢true, Int.ints, Nat.pow_pos}
 use Rattle.std.specs.Prelude.{◌⊎◌}
+use Rattle.apfloat_model.specs.{order.Classes.is_nan, rounding.Answer.IsAnswer, rounding.Outcome.IsSound}
+use Rattle.apfloat_model.specs.{arithmetic.Exact.magnitude, arithmetic.Exact.product_sign}
 use Rattle.apfloat_model.specs.declared.kinds.{NonfiniteBehavior.NonfiniteBehavior, Round.Round}
 use Rattle.apfloat_model.specs.formats.{Datum.Datum, Datum.finite, Datum.infinite, Datum.nan, Format.Format}
 use Rattle.apfloat_model.specs.formats.Nan.{invalid_if, is_signaling, is_signaling_nan, quieted}
-use Rattle.apfloat_model.specs.{order.Classes.is_nan, rounding.Answer.IsAnswer}
 use Rattle.apfloat_model.specs.rounding.Rounding.{ok_bits, IsDelivered, signed_quanta, zero_sign}
 use Rattle.apfloat_model.specs.rounding.Outcome.{Outcome, settled, rounded, totalled, rooted, exactly, invalid, Yields}
-use Rattle.apfloat_model.specs.{rounding.Outcome.IsSound, arithmetic.Exact.magnitude, arithmetic.Exact.product_sign}
 use Rattle.apfloat_model.specs.arithmetic.{Exact.signed, Exact.sign_of, Exact.zero_sum_sign, Products.product}
 use Rattle.apfloat_model.proofs.{arithmetic.Signs.magnitude_signed, general.Choices.not_zero}
 use Rattle.apfloat_model.proofs.rounding.Laws.{delivered_once, exact_delivered}

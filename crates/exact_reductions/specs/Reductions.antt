@@ -1,12 +1,11 @@
 -- Exact sums of any number of terms, rounded once (IEEE 754-2019 9.4): of values, products, squares and magnitudes.
-use Rattle.std.specs.Prelude.{ℕ, ◌+◌, ◌*◌, ◌/◌, ◌^◌, ◌<◌, ◌≤◌, eqb, Bool, true, false, not}
-use Rattle.std.specs.Prelude.{◌&&◌, ◌||◌, ℤ, pos, ◌+ℤ◌, List, [], ◌∷◌, Option, Some, None}
-use Rattle.std.specs.Prelude.{if◌then◌else◌}
-use Rattle.apfloat_model.specs.{declared.kinds.Round.Round, formats.Format.Format}
+use Rattle.std.specs.Prelude.{ℕ, ◌+◌, ◌*◌, ◌/◌, ◌^◌, ◌<◌, ◌≤◌, eqb, Bool, true, false, not, ◌&&◌, ◌||◌, ℤ, pos, ◌+ℤ◌}
+use Rattle.std.specs.Prelude.{List, [], ◌∷◌, Option, Some, None, if◌then◌else◌}
+use Rattle.apfloat_model.specs.{declared.kinds.Round.Round, formats.Format.Format, arithmetic.Exact.signed}
+use Rattle.apfloat_model.specs.{arithmetic.Products.product, order.Classes.is_negative}
 use Rattle.apfloat_model.specs.formats.{Datum.Datum, Datum.finite, Datum.infinite, Datum.nan, Nan.invalid_if}
 use Rattle.apfloat_model.specs.rounding.{Negation.negated, Rounding.ok_bits, Outcome.Outcome}
 use Rattle.apfloat_model.specs.rounding.Outcome.{settled, rounded, totalled, rooted, exactly, invalid, of_nan, Yields}
-use Rattle.apfloat_model.specs.{arithmetic.Exact.signed, arithmetic.Products.product, order.Classes.is_negative}
 
 -- ---- terms: outcomes before they are rounded
 

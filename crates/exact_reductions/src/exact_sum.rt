@@ -2,8 +2,7 @@
 
 ghost use Rattle.std.specs.Prelude.{◌≡◌, ◌+◌, ◌*◌, ◌/◌, ◌^◌, ◌<◌, ◌≤◌, false, true, length};
 ghost use Rattle.apfloat_model.specs.arithmetic.Products.{product, IsProduct};
-ghost use Rattle.apfloat_model.specs.declared.kinds.Round.TheVariants.{TowardZero};
-ghost use Rattle.apfloat_model.specs.order.Classes.{is_finite};
+ghost use Rattle.apfloat_model.specs.{declared.kinds.Round.TheVariants.TowardZero, order.Classes.is_finite};
 ghost use Rattle.apfloat_model.specs.rounding.Flags.{Gives, bits_of};
 ghost use Rattle.apfloat_ieee.specs.FlaggedTypes.{format_of};
 ghost use Rattle.exact_reductions.specs.Reductions.{IsSummable, IsTotal, first_of, joined, no_terms, number_tally};

@@ -1,16 +1,11 @@
 -- Answers from bits to bits are unique.
 use Rattle.std.proofs.Common.{◌≡◌, ℕ, ◌<◌, subst}
-use Rattle.apfloat_model.specs.bits.Layout.{IsEncodedBy}
-use Rattle.apfloat_model.specs.declared.kinds.Round.{Round}
-use Rattle.apfloat_model.specs.formats.Datum.{Datum}
-use Rattle.apfloat_model.specs.formats.Format.{Format}
-use Rattle.apfloat_model.specs.formats.Lawful.{Constants, IsLawful, format_with, layout_with}
-use Rattle.apfloat_model.specs.rounding.Flags.{bits_of}
-use Rattle.apfloat_model.proofs.bits.EncodedOnce.{encoded_once}
-use Rattle.apfloat_model.proofs.bits.Encodings.{lawful_interchange}
+use Rattle.apfloat_model.specs.{bits.Layout.IsEncodedBy, declared.kinds.Round.Round, formats.Datum.Datum}
+use Rattle.apfloat_model.specs.formats.{Format.Format, Lawful.Constants, Lawful.IsLawful, Lawful.format_with}
+use Rattle.apfloat_model.specs.{formats.Lawful.layout_with, rounding.Flags.bits_of}
+use Rattle.apfloat_model.proofs.bits.{EncodedOnce.encoded_once, Encodings.lawful_interchange}
 use Rattle.apfloat_model.proofs.Once.{Once, difference_once, product_once, root_once, sum_once}
-use Rattle.fast_bits.specs.declared.encoded.Encoded.{Encoded}
-use Rattle.fast_bits.specs.Encoded.{IsEncodedAnswer, value_in}
+use Rattle.fast_bits.specs.{declared.encoded.Encoded.Encoded, Encoded.IsEncodedAnswer, Encoded.value_in}
 use Rattle.fast_bits.specs.Once.{AreEncodedOnce, IsEncodedOnce, IsEncodedOnceOfOne}
 
 -- a relation that determines value and flags has one answer

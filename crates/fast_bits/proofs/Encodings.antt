@@ -1,16 +1,10 @@
 -- The encoding of a normal number: its sign, its place and its significand, added.
-use Rattle.std.proofs.Common.{◌≡◌, ℕ, ◌+◌, ◌-◌, ◌*◌, ◌^◌, ◌<◌, ◌≤◌, Bool, false, cond, sym, refl, ap, ◌∙◌, subst, inr}
-use Rattle.std.proofs.Common.{⊎_elim, arith}
-use Rattle.std.proofs.Math.Nat.{pow-le-pow_right, lt_of_lt_of_le}
-use Rattle.std.proofs.lemmas.Nat.{pow_pos}
-use Rattle.std.proofs.lemmas.Bool.{cases_lt}
-use Rattle.apfloat_model.specs.bits.Interchange.{IsInterchange}
-use Rattle.apfloat_model.specs.bits.Layout.{IsEncodedBy}
-use Rattle.apfloat_model.specs.formats.Datum.{finite}
-use Rattle.apfloat_model.specs.formats.Format.{largest}
-use Rattle.apfloat_model.specs.formats.Lawful.{Constants, format_with, layout_with}
-use Rattle.apfloat_model.proofs.general.Powers.{twice_half, two_pos}
-use Rattle.apfloat_model.proofs.rounding.Neighbours.{carried}
+use Rattle.std.proofs.Common.{◌≡◌, ℕ, ◌+◌, ◌-◌, ◌*◌, ◌^◌, ◌<◌, ◌≤◌, Bool, false, cond}
+use Rattle.std.proofs.Common.{sym, refl, ap, ◌∙◌, subst, inr, ⊎_elim, arith}
+use Rattle.std.proofs.{Math.Nat.pow-le-pow_right, Math.Nat.lt_of_lt_of_le, lemmas.Nat.pow_pos, lemmas.Bool.cases_lt}
+use Rattle.apfloat_model.specs.{bits.Interchange.IsInterchange, bits.Layout.IsEncodedBy, formats.Datum.finite}
+use Rattle.apfloat_model.specs.formats.{Format.largest, Lawful.Constants, Lawful.format_with, Lawful.layout_with}
+use Rattle.apfloat_model.proofs.{general.Powers.twice_half, general.Powers.two_pos, rounding.Neighbours.carried}
 use Rattle.apfloat_rounding.proofs.CutRests.{within_format}
 use Rattle.fast_bits.proofs.lanes_lemmas.Codes.{code_encoded}
 

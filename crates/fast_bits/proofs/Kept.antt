@@ -1,19 +1,14 @@
 -- Digits that are kept of a significand, in the quanta of another format.
-use Rattle.std.proofs.Common.{◌≡◌, ℕ, ◌+◌, ◌-◌, ◌*◌, ◌/◌, ◌%◌, ◌^◌, ◌<◌, ◌≤◌, sym, ap, ◌∙◌, subst, inr, Option, Some, None, arith}
+use Rattle.std.proofs.Common.{◌≡◌, ℕ, ◌+◌, ◌-◌, ◌*◌, ◌/◌, ◌%◌, ◌^◌, ◌<◌, ◌≤◌}
+use Rattle.std.proofs.Common.{sym, ap, ◌∙◌, subst, inr, Option, Some, None, arith}
+use Rattle.std.proofs.{Math.Nat.mul-pos, Math.Nat.pow-le-pow_right, lemmas.Nat.pow-add, lemmas.Nat.pow_pos}
 use Rattle.std.specs.Prelude.{IfSome}
-use Rattle.std.proofs.Math.Nat.{mul-pos, pow-le-pow_right}
-use Rattle.std.proofs.lemmas.Nat.{pow-add, pow_pos}
-use Rattle.apfloat_model.specs.declared.loss.Loss.TheVariants.{ExactlyZero}
-use Rattle.apfloat_model.specs.declared.kinds.Round.{Round}
+use Rattle.apfloat_model.specs.declared.{loss.Loss.TheVariants.ExactlyZero, kinds.Round.Round}
 use Rattle.apfloat_model.specs.formats.Lawful.{Constants, format_with}
-use Rattle.apfloat_model.specs.rounding.Enclosure.{IsEnclosed}
-use Rattle.apfloat_model.specs.rounding.Standing.{StandsFor}
-use Rattle.apfloat_model.proofs.general.Powers.{pow3, two_pos}
-use Rattle.apfloat_model.proofs.rounding.KeptDigits.{enclosed_from}
-use Rattle.fast_bits.specs.declared.encoded.Encoded.{Encoded}
-use Rattle.fast_bits.specs.declared.numbers.Number.{Number}
-use Rattle.fast_bits.specs.Encoded.{IsEncodedConversion, IsEncodedNumber}
-use Rattle.fast_bits.specs.Numbers.{IsNumberOf, quanta_of}
+use Rattle.apfloat_model.specs.rounding.{Enclosure.IsEnclosed, Standing.StandsFor}
+use Rattle.apfloat_model.proofs.{general.Powers.pow3, general.Powers.two_pos, rounding.KeptDigits.enclosed_from}
+use Rattle.fast_bits.specs.declared.{encoded.Encoded.Encoded, numbers.Number.Number}
+use Rattle.fast_bits.specs.{Encoded.IsEncodedConversion, Encoded.IsEncodedNumber, Numbers.IsNumberOf, Numbers.quanta_of}
 use Rattle.apfloat_rounding.specs.Cuts.{loss_at}
 use Rattle.apfloat_rounding.proofs.CutRests.{IsSplitRest, split_encloses, split_fits, split_full, split_stands}
 use Rattle.apfloat_rounding.proofs.OddCuts.{top_fits, top_full}

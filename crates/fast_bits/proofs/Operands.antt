@@ -1,29 +1,22 @@
 -- Sums and products of numbers that are counted in quanta.
 use Rattle.std.proofs.Common.{◌≡◌, ℕ, ℤ, pos, ◌+ℤ◌, ◌-ℤ◌, ◌≤ℤ◌, ◌+◌, ◌-◌, ◌*◌, ◌/◌, ◌%◌, ◌^◌, ◌<◌, ◌≤◌, Bool, Option}
 use Rattle.std.proofs.Common.{Some, None, sym, refl, ap, ◌∙◌, subst, arith}
+use Rattle.std.proofs.Math.{Path.subst₂, Nat.mul-le-mul_left, Nat.mul-lt-mul_of_pos_right, Nat.mul-pos}
+use Rattle.std.proofs.lemmas.{Int.ints, Nat.mod_below, Nat.pow-add, Nat.pow_pos}
 use Rattle.std.specs.Prelude.{neg_ℤ, IfSome}
-use Rattle.std.proofs.Math.Path.{subst₂}
-use Rattle.std.proofs.Math.Nat.{mul-le-mul_left, mul-lt-mul_of_pos_right, mul-pos}
-use Rattle.std.proofs.lemmas.Int.{ints}
-use Rattle.std.proofs.lemmas.Nat.{mod_below, pow-add, pow_pos}
+use Rattle.apfloat_model.specs.{declared.kinds.Round.Round, formats.Datum.Datum, formats.Datum.finite}
+use Rattle.apfloat_model.specs.{formats.Lawful.Constants, formats.Lawful.format_with, order.Classes.is_nan}
 use Rattle.apfloat_model.specs.arithmetic.Exact.{down, signed, up}
-use Rattle.apfloat_model.specs.declared.kinds.Round.{Round}
-use Rattle.apfloat_model.specs.formats.Datum.{Datum, finite}
-use Rattle.apfloat_model.specs.order.Classes.{is_nan}
-use Rattle.apfloat_model.specs.formats.Lawful.{Constants, format_with}
-use Rattle.apfloat_model.specs.rounding.Flags.{bits_of}
-use Rattle.apfloat_model.specs.rounding.Rounding.{IsDelivered}
-use Rattle.apfloat_model.specs.rounding.RoundingToOdd.{IsRoundedToOdd}
+use Rattle.apfloat_model.specs.rounding.{Flags.bits_of, Rounding.IsDelivered, RoundingToOdd.IsRoundedToOdd}
 use Rattle.apfloat_model.proofs.rounding.KeptDigits.{fits_cut, full_cut}
 use Rattle.apfloat_words.specs.Totals.{counted, IsSignedToOdd}
 use Rattle.apfloat_words.proofs.Totals.{no_down}
 use Rattle.apfloat_rounding.proofs.CutRests.{IsSplitRest, split_encloses, split_fits, split_full, split_stands}
-use Rattle.apfloat_rounding.proofs.OddCuts.{IsTopSplit, top_cut_encloses, top_cut_fits, top_cut_full, top_cut_stands, top_fits, top_full}
+use Rattle.apfloat_rounding.proofs.OddCuts.{IsTopSplit, top_cut_encloses, top_cut_fits, top_cut_full, top_cut_stands}
+use Rattle.apfloat_rounding.proofs.OddCuts.{top_fits, top_full}
 use Rattle.apfloat_arithmetic.proofs.Additions.{IsRepresentedToOdd, read_odd_sum}
-use Rattle.fast_bits.specs.declared.encoded.Encoded.{Encoded}
-use Rattle.fast_bits.specs.declared.numbers.Number.{Number}
-use Rattle.fast_bits.specs.Encoded.{IsEncodedNumber, IsNumberAnswer}
-use Rattle.fast_bits.specs.Numbers.{IsFullNumber, quanta_of}
+use Rattle.fast_bits.specs.{Encoded.IsEncodedNumber, Encoded.IsNumberAnswer, Numbers.IsFullNumber, Numbers.quanta_of}
+use Rattle.fast_bits.specs.declared.{encoded.Encoded.Encoded, numbers.Number.Number}
 use Rattle.fast_bits.proofs.Kept.{IsKeptNumber, word_room}
 
 -- ---- sums

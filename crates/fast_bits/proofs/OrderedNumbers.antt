@@ -1,31 +1,22 @@
 -- Two numbers in the order of their magnitudes, and the cut of the lesser at the unit of the greater.
-use Rattle.std.proofs.Common.{◌≡◌, ℕ, zero, suc, ℤ, pos, ◌+ℤ◌, ◌+◌, ◌-◌, ◌*◌, ◌/◌, ◌%◌, ◌^◌, ◌<◌, ◌≤◌, ◌⊎◌, Bool, true, false}
-use Rattle.std.proofs.Common.{cond, not, Option, sym, refl, ap, ◌∙◌, inl, inr, ⊎_elim, arith}
-use Rattle.std.specs.Prelude.{IfSome}
-use mathlib.Core.Bool.{beq}
+use Rattle.std.proofs.Common.{◌≡◌, ℕ, zero, suc, ℤ, pos, ◌+ℤ◌, ◌+◌, ◌-◌, ◌*◌, ◌/◌, ◌%◌, ◌^◌, ◌<◌, ◌≤◌, ◌⊎◌, Bool, true}
+use Rattle.std.proofs.Common.{false, cond, not, Option, sym, refl, ap, ◌∙◌, inl, inr, ⊎_elim, arith}
 use Rattle.std.proofs.Math.Path.{subst₂}
 use Rattle.std.proofs.Math.Nat.{mod-eq_of_lt, mul-le-mul_left, mul-le-mul_right, pow-le-pow_right}
-use Rattle.std.proofs.lemmas.Bool.{cases_lt}
-use Rattle.std.proofs.lemmas.Int.{ints}
-use Rattle.std.proofs.lemmas.Nat.{div-add-mod', mod_below, pow-add, pow_pos}
-use Rattle.apfloat_model.specs.arithmetic.Exact.{IsRounded, signed}
-use Rattle.apfloat_model.specs.arithmetic.Sums.{zero_sum_sign}
-use Rattle.apfloat_model.specs.bits.Interchange.{IsInterchange}
-use Rattle.apfloat_model.specs.bits.Layout.{fields_of, trailing_bits}
-use Rattle.apfloat_model.specs.declared.kinds.Round.{Round}
-use Rattle.apfloat_model.specs.formats.Lawful.{Constants, format_with, layout_with}
-use Rattle.apfloat_model.specs.rounding.RoundingToOdd.{IsRoundedToOdd}
-use Rattle.apfloat_model.proofs.arithmetic.Signs.{swapped_sum}
-use Rattle.apfloat_model.proofs.general.Powers.{two_pos, lower_mod}
+use Rattle.std.proofs.lemmas.{Bool.cases_lt, Int.ints, Nat.div-add-mod', Nat.mod_below, Nat.pow-add, Nat.pow_pos}
+use Rattle.std.specs.Prelude.{IfSome}
+use Rattle.apfloat_model.specs.{declared.kinds.Round.Round, formats.Lawful.Constants, formats.Lawful.format_with}
+use Rattle.apfloat_model.specs.{formats.Lawful.layout_with, rounding.RoundingToOdd.IsRoundedToOdd}
+use Rattle.apfloat_model.specs.arithmetic.{Exact.IsRounded, Exact.signed, Sums.zero_sum_sign}
+use Rattle.apfloat_model.specs.bits.{Interchange.IsInterchange, Layout.fields_of, Layout.trailing_bits}
+use Rattle.apfloat_model.proofs.{arithmetic.Signs.swapped_sum, general.Powers.two_pos, general.Powers.lower_mod}
 use Rattle.apfloat_words.specs.Totals.{IsApartToOdd}
 use Rattle.apfloat_words.proofs.OddTotals.{total_to_odd, unlike_false, unlike_true}
 use Rattle.apfloat_arithmetic.proofs.Additions.{IsRepresentedToOdd}
-use Rattle.fast_bits.specs.declared.encoded.Encoded.{Encoded}
-use Rattle.fast_bits.specs.declared.numbers.Number.{Number}
-use Rattle.fast_bits.specs.Encoded.{IsNumberAnswer}
+use Rattle.fast_bits.specs.{declared.encoded.Encoded.Encoded, declared.numbers.Number.Number, Encoded.IsNumberAnswer}
 use Rattle.fast_bits.specs.Numbers.{AreOrderedNumbers, IsNumberOf, quanta_of}
-use Rattle.fast_bits.proofs.Operands.{total_read}
-use Rattle.fast_bits.proofs.Reading.{number_is, trailing_low, word_field}
+use Rattle.fast_bits.proofs.{Operands.total_read, Reading.number_is, Reading.trailing_low, Reading.word_field}
+use mathlib.Core.Bool.{beq}
 
 -- ---- cuts
 

@@ -1,22 +1,17 @@
 -- Normal numbers that are read from bits.
-use Rattle.std.proofs.Common.{◌≡◌, ℕ, ◌+◌, ◌-◌, ◌*◌, ◌/◌, ◌%◌, ◌^◌, ◌<◌, ◌≤◌, Bool, true, false, eqb, refl, ⊎_elim, ap, ◌∙◌, subst, arith, pos, ◌-ℤ◌}
-use Rattle.std.proofs.Math.Nat.{pow-le-pow_right}
-use Rattle.std.proofs.lemmas.Int.{ints}
-use Rattle.std.proofs.lemmas.Nat.{field_of, mod_below, pow_pos}
-use Rattle.std.proofs.lemmas.Bool.{cases_lt, and_left, cond-false, ne_eqb}
-use Rattle.std.proofs.Math.Pow.{mod-mod-pow}
+use Rattle.std.proofs.Common.{◌≡◌, ℕ, ◌+◌, ◌-◌, ◌*◌, ◌/◌, ◌%◌, ◌^◌, ◌<◌, ◌≤◌}
+use Rattle.std.proofs.Common.{Bool, true, false, eqb, refl, ⊎_elim, ap, ◌∙◌, subst, arith, pos, ◌-ℤ◌}
+use Rattle.std.proofs.{Math.Nat.pow-le-pow_right, Math.Pow.mod-mod-pow, lemmas.Int.ints, lemmas.Nat.field_of}
+use Rattle.std.proofs.lemmas.{Nat.mod_below, Nat.pow_pos, Bool.cases_lt, Bool.and_left, Bool.cond-false, Bool.ne_eqb}
 use Rattle.apfloat_model.specs.declared.kinds.NonfiniteBehavior.{NonfiniteBehavior}
 use Rattle.apfloat_model.specs.declared.kinds.NonfiniteBehavior.TheVariants.{IEEE754, NanOnly, NanNegativeZero}
-use Rattle.apfloat_model.specs.formats.Datum.{finite}
-use Rattle.apfloat_model.specs.formats.Format.{Format}
+use Rattle.apfloat_model.specs.formats.{Datum.finite, Format.Format}
 use Rattle.apfloat_model.specs.formats.Lawful.{Constants, IsLawful, AreParameters, format_with, layout_with}
-use Rattle.apfloat_model.specs.bits.Interchange.{IsInterchange}
-use Rattle.apfloat_model.specs.bits.Layout.{Layout, all_ones, trailing_bits, fields_of, implied_datum, datum_of, datum_of_fields}
-use Rattle.fast_bits.specs.declared.numbers.Number.{Number}
-use Rattle.fast_bits.specs.Numbers.{IsNumberOf}
+use Rattle.apfloat_model.specs.bits.{Interchange.IsInterchange, Layout.Layout, Layout.all_ones}
+use Rattle.apfloat_model.specs.bits.Layout.{trailing_bits, fields_of, implied_datum, datum_of, datum_of_fields}
 use Rattle.apfloat_model.proofs.general.Powers.{two_pos, lower_mod}
-use Rattle.apfloat_model.proofs.bits.EncodedOnce.{fields_with}
-use Rattle.apfloat_model.proofs.bits.Encodings.{lawful_interchange}
+use Rattle.apfloat_model.proofs.bits.{EncodedOnce.fields_with, Encodings.lawful_interchange}
+use Rattle.fast_bits.specs.{declared.numbers.Number.Number, Numbers.IsNumberOf}
 
 -- the significand of a number with these fields, at its place
 abbrev pub quanta_with : ℕ → ℕ → ℕ → ℕ

@@ -1,32 +1,23 @@
 -- Square roots of numbers that are counted in quanta.
-use Rattle.std.proofs.Common.{◌≡◌, ℕ, ◌+◌, ◌-◌, ◌*◌, ◌/◌, ◌%◌, ◌^◌, ◌<◌, ◌≤◌, Option, Some, None, false, sym, ap, ◌∙◌, subst, inr, ⊎_elim}
-use Rattle.std.proofs.Common.{arith}
-use Rattle.std.specs.Prelude.{IfSome}
-use Rattle.std.proofs.Math.Nat.{mod-eq_of_lt, mul-le-mul_left, mul-le-mul_right, mul-lt-mul_of_pos_right, mul-pos, pow-le-pow_right}
-use Rattle.std.proofs.lemmas.Bool.{cases_lt}
+use Rattle.std.proofs.Common.{◌≡◌, ℕ, ◌+◌, ◌-◌, ◌*◌, ◌/◌, ◌%◌, ◌^◌, ◌<◌, ◌≤◌}
+use Rattle.std.proofs.Common.{Option, Some, None, false, sym, ap, ◌∙◌, subst, inr, ⊎_elim, arith}
+use Rattle.std.proofs.Math.Nat.{mod-eq_of_lt, mul-le-mul_left, mul-le-mul_right, mul-lt-mul_of_pos_right, mul-pos}
+use Rattle.std.proofs.{Math.Nat.pow-le-pow_right, lemmas.Bool.cases_lt}
 use Rattle.std.proofs.lemmas.Nat.{div-add-mod', mul-le, pow-add, pow_pos}
+use Rattle.std.specs.Prelude.{IfSome}
 use Rattle.apfloat_model.specs.arithmetic.Roots.{IsDeliveredRoot, IsRoot}
-use Rattle.apfloat_model.specs.declared.kinds.Round.{Round}
-use Rattle.apfloat_model.specs.declared.loss.Loss.{Loss}
+use Rattle.apfloat_model.specs.declared.{kinds.Round.Round, loss.Loss.Loss}
 use Rattle.apfloat_model.specs.declared.loss.Loss.TheVariants.{ExactlyZero, LessThanHalf, ExactlyHalf, MoreThanHalf}
-use Rattle.apfloat_model.specs.formats.Datum.{finite}
-use Rattle.apfloat_model.specs.formats.Lawful.{Constants, format_with}
-use Rattle.apfloat_model.specs.rounding.Enclosure.{IsEnclosed}
-use Rattle.apfloat_model.specs.rounding.Flags.{bits_of}
-use Rattle.apfloat_model.specs.rounding.Rounding.{IsDelivered}
-use Rattle.apfloat_model.specs.rounding.Standing.{StandsFor}
+use Rattle.apfloat_model.specs.formats.{Datum.finite, Lawful.Constants, Lawful.format_with}
+use Rattle.apfloat_model.specs.rounding.{Enclosure.IsEnclosed, Flags.bits_of, Rounding.IsDelivered, Standing.StandsFor}
 use Rattle.apfloat_model.proofs.arithmetic.RootDeliveries.{root_delivered}
 use Rattle.apfloat_model.proofs.arithmetic.RootSides.{AgreesWithRoot, agreeing, coarser, root_lt}
-use Rattle.apfloat_model.proofs.general.Powers.{two_pos}
-use Rattle.apfloat_model.proofs.rounding.KeptDigits.{enclosed_from}
+use Rattle.apfloat_model.proofs.{general.Powers.two_pos, rounding.KeptDigits.enclosed_from}
 use Rattle.apfloat_words.specs.RootStanding.{RootStandsFor}
 use Rattle.apfloat_words.proofs.RootSteps.{radicand_full}
-use Rattle.apfloat_arithmetic.proofs.RootCases.{positive_root}
-use Rattle.apfloat_arithmetic.proofs.RootStandings.{stands}
-use Rattle.fast_bits.specs.declared.encoded.Encoded.{Encoded}
-use Rattle.fast_bits.specs.declared.numbers.Number.{Number}
-use Rattle.fast_bits.specs.Encoded.{IsEncodedAnswer, IsEncodedNumber}
-use Rattle.fast_bits.specs.Numbers.{IsFullNumber, quanta_of}
+use Rattle.apfloat_arithmetic.proofs.{RootCases.positive_root, RootStandings.stands}
+use Rattle.fast_bits.specs.declared.{encoded.Encoded.Encoded, numbers.Number.Number}
+use Rattle.fast_bits.specs.{Encoded.IsEncodedAnswer, Encoded.IsEncodedNumber, Numbers.IsFullNumber, Numbers.quanta_of}
 use Rattle.fast_bits.proofs.Operands.{quanta_some}
 
 -- ---- digits

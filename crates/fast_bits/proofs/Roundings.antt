@@ -1,16 +1,10 @@
 -- A cut whose digits are all kept, rounded to a normal number.
+use Rattle.std.proofs.{Math.Nat.mul-pos, lemmas.Nat.pow_pos, lemmas.Bool.le-ltb}
 use Rattle.std.proofs.Common.{◌≡◌, ℕ, ◌+◌, ◌-◌, ◌*◌, ◌%◌, ◌^◌, ◌<◌, ◌≤◌, Bool, true, false, cond, eqb, sym, refl, arith}
-use Rattle.std.proofs.Math.Nat.{mul-pos}
-use Rattle.std.proofs.lemmas.Nat.{pow_pos}
-use Rattle.std.proofs.lemmas.Bool.{le-ltb}
-use Rattle.apfloat_model.specs.bits.Interchange.{IsInterchange}
-use Rattle.apfloat_model.specs.declared.kinds.Round.{Round}
-use Rattle.apfloat_model.specs.formats.Datum.{finite}
-use Rattle.apfloat_model.specs.formats.Format.{largest}
-use Rattle.apfloat_model.specs.formats.Lawful.{Constants, format_with, layout_with}
+use Rattle.apfloat_model.specs.{bits.Interchange.IsInterchange, declared.kinds.Round.Round, formats.Datum.finite}
+use Rattle.apfloat_model.specs.formats.{Format.largest, Lawful.Constants, Lawful.format_with, Lawful.layout_with}
+use Rattle.apfloat_model.specs.rounding.{Rounding.IsDelivered, Standing.StandsFor}
 use Rattle.apfloat_model.specs.rounding.Enclosure.{IsEnclosed, rounds_up}
-use Rattle.apfloat_model.specs.rounding.Rounding.{IsDelivered}
-use Rattle.apfloat_model.specs.rounding.Standing.{StandsFor}
 use Rattle.apfloat_model.proofs.rounding.Deliveries.{signed_some}
 use Rattle.apfloat_rounding.specs.Cuts.{loss_at}
 use Rattle.apfloat_rounding.proofs.CutRests.{delivered_within, not_tiny}

@@ -1,9 +1,7 @@
 -- A number that is rounded by what is added to it.
-use Rattle.std.specs.Prelude.{◌≡◌, ℕ, ◌+◌, ◌-◌, ◌/◌, ◌%◌, ◌^◌, Bool, eqb}
-use Rattle.std.specs.Prelude.{if◌then◌else◌}
+use Rattle.std.specs.Prelude.{◌≡◌, ℕ, ◌+◌, ◌-◌, ◌/◌, ◌%◌, ◌^◌, Bool, eqb, if◌then◌else◌}
 use Rattle.std.specs.Int.RustNames.{bit_and}
-use Rattle.apfloat_model.specs.declared.kinds.Round.{Round}
-use Rattle.apfloat_model.specs.rounding.Enclosure.{rounds_up}
+use Rattle.apfloat_model.specs.{declared.kinds.Round.Round, rounding.Enclosure.rounds_up}
 use Rattle.apfloat_rounding.specs.Cuts.{loss_at}
 
 -- a number with `low` binary digits below its last whole one, rounded to a whole number

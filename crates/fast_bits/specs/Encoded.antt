@@ -1,12 +1,9 @@
 -- Results from encodings to encodings.
 use Rattle.std.specs.Prelude.{◌≡◌, ℕ, ◌*◌, ◌^◌, ◌<◌, Bool, false}
 use Rattle.apfloat_model.specs.bits.Layout.{IsEncodedBy, datum_of}
-use Rattle.apfloat_model.specs.formats.Datum.{Datum, finite}
-use Rattle.apfloat_model.specs.formats.Lawful.{Constants, format_with, layout_with}
-use Rattle.apfloat_model.specs.declared.kinds.Round.{Round}
-use Rattle.apfloat_model.specs.order.Classes.{is_nan}
-use Rattle.apfloat_model.specs.rounding.Flags.{bits_of}
-use Rattle.apfloat_model.specs.rounding.Rounding.{IsDelivered}
+use Rattle.apfloat_model.specs.formats.{Datum.Datum, Datum.finite, Lawful.Constants, Lawful.format_with}
+use Rattle.apfloat_model.specs.{formats.Lawful.layout_with, declared.kinds.Round.Round, order.Classes.is_nan}
+use Rattle.apfloat_model.specs.rounding.{Flags.bits_of, Rounding.IsDelivered}
 use Rattle.fast_bits.specs.declared.encoded.Encoded.{Encoded}
 
 -- the value that bits encode

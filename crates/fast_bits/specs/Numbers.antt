@@ -1,10 +1,7 @@
 -- Normal numbers and their encodings.
 use Rattle.std.specs.Prelude.{◌≡◌, ℕ, ◌-◌, ◌*◌, ◌^◌, ◌<◌, ◌≤◌, ◌⊎◌, Bool, false, not, if◌then◌else◌}
-use Rattle.apfloat_model.specs.formats.Datum.{finite}
-use Rattle.apfloat_model.specs.formats.Lawful.{Constants}
-use Rattle.fast_bits.specs.declared.numbers.Number.{Number}
-use Rattle.fast_bits.specs.declared.numbers.Ordered.{Ordered}
-use Rattle.fast_bits.specs.Encoded.{value_in}
+use Rattle.apfloat_model.specs.formats.{Datum.finite, Lawful.Constants}
+use Rattle.fast_bits.specs.{declared.numbers.Number.Number, declared.numbers.Ordered.Ordered, Encoded.value_in}
 
 -- a format of at most 64 bits with an implied integer bit, and of at most 59 digits
 pub record FitsWord (c : Constants) : Type 0 where

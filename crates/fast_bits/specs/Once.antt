@@ -1,15 +1,10 @@
 -- Answers from bits to bits are unique.
 use Rattle.std.specs.Prelude.{◌≡◌, ℕ, ◌<◌}
-use Rattle.apfloat_model.specs.arithmetic.Products.{IsProduct}
-use Rattle.apfloat_model.specs.arithmetic.Roots.{IsRoot}
-use Rattle.apfloat_model.specs.arithmetic.Sums.{IsDifference, IsSum}
-use Rattle.apfloat_model.specs.declared.kinds.Round.{Round}
-use Rattle.apfloat_model.specs.formats.Datum.{Datum}
-use Rattle.apfloat_model.specs.formats.Format.{Format}
+use Rattle.apfloat_model.specs.arithmetic.{Products.IsProduct, Roots.IsRoot, Sums.IsDifference, Sums.IsSum}
+use Rattle.apfloat_model.specs.{declared.kinds.Round.Round, formats.Datum.Datum, formats.Format.Format}
 use Rattle.apfloat_model.specs.formats.Lawful.{Constants, IsLawful, format_with}
 use Rattle.apfloat_model.specs.rounding.Flags.{bits_of}
-use Rattle.fast_bits.specs.declared.encoded.Encoded.{Encoded}
-use Rattle.fast_bits.specs.Encoded.{IsEncodedAnswer, value_in}
+use Rattle.fast_bits.specs.{declared.encoded.Encoded.Encoded, Encoded.IsEncodedAnswer, Encoded.value_in}
 
 -- in a lawful format with bits, two answers of an operation on the values that two bit patterns encode are the same
 abbrev pub IsEncodedOnce : (Format → Round → Datum → Datum → Datum → ℕ → Type 0) → Type 0

@@ -1,10 +1,8 @@
 -- What a mode does with significands in words.
 use Rattle.std.specs.Prelude.{◌≡◌, ℕ, ◌+◌, ◌^◌, ◌<◌, ◌≤◌, Bool}
-use Rattle.apfloat_model.specs.declared.kinds.Round.{Round}
-use Rattle.apfloat_model.specs.rounding.Rounding.{leads_out}
+use Rattle.apfloat_model.specs.{declared.kinds.Round.Round, rounding.Rounding.leads_out}
 use Rattle.fast_bits.specs.Addends.{IsAddendOf}
-use Rattle.fast_bits.specs.declared.addends.LongAddend.{LongAddend}
-use Rattle.fast_bits.specs.declared.words.WordSide.{WordSide}
+use Rattle.fast_bits.specs.declared.{addends.LongAddend.LongAddend, words.WordSide.WordSide}
 
 -- what is added to numbers of one sign that have `low` binary digits below their last kept one
 pub record IsLongAddend (low : ℕ) (mode : Round) (negative : Bool) (addend : LongAddend) : Type 0 where

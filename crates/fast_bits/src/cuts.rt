@@ -1,15 +1,11 @@
 //! Significands cut to the digits of a format, rounded and encoded, where the result is a normal number.
 
 ghost use Rattle.std.specs.Prelude.{◌≡◌, ℕ, ◌+◌, ◌-◌, ◌*◌, ◌%◌, ◌^◌, ◌<◌, ◌≤◌, pos, if◌then◌else◌, IfSome};
-ghost use Rattle.apfloat_model.specs.bits.Layout.{IsEncodedBy};
-ghost use Rattle.apfloat_model.specs.formats.Datum.{finite};
-ghost use Rattle.apfloat_model.specs.rounding.Enclosure.{IsEnclosed};
-ghost use Rattle.apfloat_model.specs.rounding.Flags.{bits_of};
-ghost use Rattle.apfloat_model.specs.rounding.Standing.{StandsFor};
+ghost use Rattle.apfloat_model.specs.{bits.Layout.IsEncodedBy, formats.Datum.finite};
+ghost use Rattle.apfloat_model.specs.rounding.{Enclosure.IsEnclosed, Flags.bits_of, Standing.StandsFor};
 ghost use Rattle.apfloat_ieee.specs.FlaggedTypes.{constants_of, format_of, layout_of};
 ghost use Rattle.apfloat_rounding.specs.Cuts.{loss_at};
-ghost use Rattle.fast_bits.specs.Encoded.{IsEncodedNumber};
-ghost use Rattle.fast_bits.specs.Numbers.{FitsWord};
+ghost use Rattle.fast_bits.specs.{Encoded.IsEncodedNumber, Numbers.FitsWord};
 
 use crate::encoded::Encoded;
 use crate::numbers::exponents;

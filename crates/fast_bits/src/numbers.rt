@@ -1,11 +1,10 @@
 //! Normal numbers, read from their encodings.
 
 ghost use Rattle.std.specs.Prelude.{◌≡◌, ◌+◌, ◌-◌, ◌%◌, ◌^◌, ◌<◌, ◌≤◌, false, not, if◌then◌else◌, IsTrue, IfSome};
-ghost use mathlib.Core.Bool.{beq};
 ghost use Rattle.apfloat_model.specs.bits.Layout.{fields_of};
 ghost use Rattle.apfloat_ieee.specs.FlaggedTypes.{constants_of, format_of, layout_of};
-ghost use Rattle.fast_bits.specs.Encoded.{value_in};
-ghost use Rattle.fast_bits.specs.Numbers.{AreOrderedNumbers, FitsWord, IsNumberOf};
+ghost use Rattle.fast_bits.specs.{Encoded.value_in, Numbers.AreOrderedNumbers, Numbers.FitsWord, Numbers.IsNumberOf};
+ghost use mathlib.Core.Bool.{beq};
 
 use apfloat_ieee::Flagged;
 use apfloat_words::low_digits;

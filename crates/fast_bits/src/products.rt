@@ -1,8 +1,7 @@
 //! Products.
 
 ghost use Rattle.std.specs.Prelude.{◌≡◌, ◌+◌, ◌-◌, ◌*◌, ◌/◌, ◌%◌, ◌^◌, ◌<◌, ◌≤◌, pos, ◌+ℤ◌, IfSome};
-ghost use Rattle.apfloat_model.specs.arithmetic.Exact.{product_sign};
-ghost use Rattle.apfloat_model.specs.arithmetic.Products.{IsProduct};
+ghost use Rattle.apfloat_model.specs.arithmetic.{Exact.product_sign, Products.IsProduct};
 ghost use Rattle.apfloat_ieee.specs.FlaggedTypes.{constants_of, format_of};
 ghost use Rattle.fast_bits.specs.Encoded.{IsEncodedAnswer, IsEncodedNumber, IsNumberAnswer, value_in};
 ghost use Rattle.fast_bits.specs.Numbers.{FitsWord, IsFullNumber, quanta_of};

@@ -1,15 +1,14 @@
 //! Sums and differences.
 
-ghost use Rattle.std.specs.Prelude.{◌≡◌, ◌+◌, ◌-◌, ◌*◌, ◌%◌, ◌^◌, ◌<◌, ◌≤◌, pos, ◌+ℤ◌, IfSome};
-ghost use Rattle.std.specs.Prelude.{false, true, not, if◌then◌else◌};
-ghost use mathlib.Core.Bool.{beq};
-ghost use Rattle.apfloat_model.specs.arithmetic.Exact.{IsRounded, signed};
-ghost use Rattle.apfloat_model.specs.arithmetic.Sums.{IsDifference, IsSum, zero_sum_sign};
-ghost use Rattle.apfloat_model.specs.rounding.RoundingToOdd.{IsRoundedToOdd};
+ghost use Rattle.std.specs.Prelude.{◌≡◌, ◌+◌, ◌-◌, ◌*◌, ◌%◌, ◌^◌, ◌<◌, ◌≤◌, pos};
+ghost use Rattle.std.specs.Prelude.{◌+ℤ◌, IfSome, false, true, not, if◌then◌else◌};
+ghost use Rattle.apfloat_model.specs.arithmetic.{Exact.IsRounded, Exact.signed, Sums.IsDifference, Sums.IsSum};
+ghost use Rattle.apfloat_model.specs.{arithmetic.Sums.zero_sum_sign, rounding.RoundingToOdd.IsRoundedToOdd};
 ghost use Rattle.apfloat_words.specs.Totals.{IsApartToOdd};
 ghost use Rattle.apfloat_ieee.specs.FlaggedTypes.{constants_of, format_of};
 ghost use Rattle.fast_bits.specs.Encoded.{IsEncodedAnswer, IsNumberAnswer, value_in};
 ghost use Rattle.fast_bits.specs.Numbers.{FitsWord, IsFullNumber, IsOrdered, quanta_of};
+ghost use mathlib.Core.Bool.{beq};
 
 use crate::encoded::Encoded;
 use crate::numbers::{Ordered, fits_word, ordered_numbers, precision_of, word_of};

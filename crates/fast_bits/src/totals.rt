@@ -1,12 +1,10 @@
 //! Numbers that were rounded to odd, rounded and encoded.
 
 ghost use Rattle.std.specs.Prelude.{◌≡◌, ℕ, ◌+◌, ◌-◌, ◌*◌, ◌^◌, ◌<◌, ◌≤◌, pos, ◌+ℤ◌, IfSome};
-ghost use Rattle.apfloat_model.specs.rounding.Bounds.{IsWithin, unit_bound};
-ghost use Rattle.apfloat_model.specs.rounding.RoundingToOdd.{IsRoundedToOdd};
+ghost use Rattle.apfloat_model.specs.rounding.{Bounds.IsWithin, Bounds.unit_bound, RoundingToOdd.IsRoundedToOdd};
 ghost use Rattle.apfloat_model.specs.rounding.Standing.{up, down};
 ghost use Rattle.apfloat_ieee.specs.FlaggedTypes.{constants_of};
-ghost use Rattle.fast_bits.specs.Encoded.{IsEncodedNumber};
-ghost use Rattle.fast_bits.specs.Numbers.{FitsWord};
+ghost use Rattle.fast_bits.specs.{Encoded.IsEncodedNumber, Numbers.FitsWord};
 
 use crate::cuts::{encode_cut, inner_place, power_of};
 use crate::encoded::Encoded;

@@ -4,8 +4,7 @@
 ghost use Rattle.std.specs.Prelude.{◌≡◌, ◌+◌, ◌-◌, ◌*◌, ◌/◌, ◌%◌, ◌^◌, ◌<◌, ◌≤◌, min, true, false, eqb};
 ghost use Rattle.std.specs.Int.RustNames.{bit_and};
 ghost use Rattle.apfloat_model.specs.rounding.Rounding.{leads_out};
-ghost use Rattle.fast_bits.specs.Addends.{rounded_by};
-ghost use Rattle.fast_bits.specs.Words.{IsWordSide};
+ghost use Rattle.fast_bits.specs.{Addends.rounded_by, Words.IsWordSide};
 
 use crate::addends::{LongAddend, addend_of};
 use apfloat_model::Round;

@@ -1,12 +1,9 @@
 -- An operation on two values has at most one result.
 use Rattle.std.proofs.Common.{ℕ}
-use Rattle.rustc_apfloat.specs.declared.Round.{Round}
-use Rattle.rustc_apfloat.specs.Determined.{Determines}
-use Rattle.rustc_apfloat.specs.Meaning.{AreDetermined}
-use Rattle.formats_at_run_time.specs.declared.arithmetic.Arithmetic.{Arithmetic}
-use Rattle.formats_at_run_time.specs.declared.arithmetic.Arithmetic.TheVariants.{Sum, Difference, Product, Quotient, NearestRemainder, TruncatedRemainder}
-use Rattle.formats_at_run_time.specs.OfTwo.{IsOfTwo}
-use Rattle.formats_at_run_time.specs.Relations.{Relations}
+use Rattle.rustc_apfloat.specs.{declared.Round.Round, Determined.Determines, Meaning.AreDetermined}
+use Rattle.formats_at_run_time.specs.{OfTwo.IsOfTwo, Relations.Relations, declared.arithmetic.Arithmetic.Arithmetic}
+use Rattle.formats_at_run_time.specs.declared.arithmetic.Arithmetic.TheVariants.{Sum, Difference, Product, Quotient}
+use Rattle.formats_at_run_time.specs.declared.arithmetic.Arithmetic.TheVariants.{NearestRemainder, TruncatedRemainder}
 
 pub of_two_once : {A : Type 0} (of_type : Relations A) (mode : Round) (precision width : ℕ)
     → AreDetermined of_type.meaning mode precision width

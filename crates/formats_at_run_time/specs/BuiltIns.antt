@@ -1,14 +1,16 @@
 -- The built-in kinds of values, with their words and codes.
 use Rattle.std.specs.Prelude.{◌≡◌, ℕ, ◌==◌, nat_lt, Bool, true, if◌then◌else◌, List, [], ◌∷◌, codes, Option, Some, None}
 use Rattle.std.proofs.Common.{refl}
-use Rattle.rustc_apfloat.specs.Digits.{same}
-use Rattle.rustc_apfloat.specs.Lawful.{Constants, IsLawful}
-use Rattle.rustc_apfloat.proofs.LawTest.{lawful_from_test}
-use Rattle.rustc_apfloat.specs.Formats.{half_constants, single_constants, double_constants, quad_constants, bfloat_constants, e5m2_constants, e4m3fn_constants, e4m3fnuz_constants, x87_constants}
+use Rattle.rustc_apfloat.specs.{Digits.same, Lawful.Constants, Lawful.IsLawful, Formats.half_constants}
+use Rattle.rustc_apfloat.specs.Formats.{single_constants, double_constants, quad_constants, bfloat_constants}
+use Rattle.rustc_apfloat.specs.Formats.{e5m2_constants, e4m3fn_constants, e4m3fnuz_constants, x87_constants}
 use Rattle.rustc_apfloat.specs.Formats.{e4m3_constants, e5m2fnuz_constants, e4m3b11fnuz_constants, tf32_constants}
+use Rattle.rustc_apfloat.proofs.LawTest.{lawful_from_test}
 use Rattle.formats_at_run_time.specs.ValueKinds.{Kind, of_format, of_pairs}
 use Rattle.formats_at_run_time.specs.declared.built_in.BuiltInFormat.{BuiltInFormat}
-use Rattle.formats_at_run_time.specs.declared.built_in.BuiltInFormat.TheVariants.{Half, Single, Double, Quad, BFloat, E5M2, E4M3FN, E4M3FNUZ, X87, E4M3, E5M2FNUZ, E4M3B11FNUZ, TF32}
+use Rattle.formats_at_run_time.specs.declared.built_in.BuiltInFormat.TheVariants.{Half, Single, Double, Quad, BFloat}
+use Rattle.formats_at_run_time.specs.declared.built_in.BuiltInFormat.TheVariants.{E5M2, E4M3FN, E4M3FNUZ, X87, E4M3}
+use Rattle.formats_at_run_time.specs.declared.built_in.BuiltInFormat.TheVariants.{E5M2FNUZ, E4M3B11FNUZ, TF32}
 use Rattle.formats_at_run_time.specs.declared.built_in.BuiltInKind.{BuiltInKind}
 use Rattle.formats_at_run_time.specs.declared.built_in.BuiltInKind.TheVariants.{OfFormat, Pairs}
 

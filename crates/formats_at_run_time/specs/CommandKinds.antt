@@ -1,12 +1,21 @@
 -- The built-in kinds of values that commands have.
 use Rattle.std.specs.Prelude.{ℕ, List, [], ◌∷◌, Option, Some, None, option_and_then}
-use Rattle.formats_at_run_time.specs.BuiltIns.{kind_named}
-use Rattle.formats_at_run_time.specs.declared.built_in.BuiltInFormat.{BuiltInFormat}
-use Rattle.formats_at_run_time.specs.declared.built_in.BuiltInFormat.TheVariants.{Half as BuiltInHalf, Single as BuiltInSingle, Double as BuiltInDouble, Quad as BuiltInQuad, BFloat as BuiltInBFloat, E5M2 as BuiltInE5M2, E4M3FN as BuiltInE4M3FN, E4M3FNUZ as BuiltInE4M3FNUZ, X87 as BuiltInX87}
+use Rattle.formats_at_run_time.specs.{BuiltIns.kind_named, declared.built_in.BuiltInFormat.BuiltInFormat}
+use Rattle.formats_at_run_time.specs.declared.built_in.BuiltInFormat.TheVariants.{Half as BuiltInHalf}
+use Rattle.formats_at_run_time.specs.declared.built_in.BuiltInFormat.TheVariants.{Single as BuiltInSingle}
+use Rattle.formats_at_run_time.specs.declared.built_in.BuiltInFormat.TheVariants.{Double as BuiltInDouble}
+use Rattle.formats_at_run_time.specs.declared.built_in.BuiltInFormat.TheVariants.{Quad as BuiltInQuad}
+use Rattle.formats_at_run_time.specs.declared.built_in.BuiltInFormat.TheVariants.{BFloat as BuiltInBFloat}
+use Rattle.formats_at_run_time.specs.declared.built_in.BuiltInFormat.TheVariants.{E5M2 as BuiltInE5M2}
+use Rattle.formats_at_run_time.specs.declared.built_in.BuiltInFormat.TheVariants.{E4M3FN as BuiltInE4M3FN}
+use Rattle.formats_at_run_time.specs.declared.built_in.BuiltInFormat.TheVariants.{E4M3FNUZ as BuiltInE4M3FNUZ}
+use Rattle.formats_at_run_time.specs.declared.built_in.BuiltInFormat.TheVariants.{X87 as BuiltInX87}
 use Rattle.formats_at_run_time.specs.declared.built_in.BuiltInKind.{BuiltInKind}
-use Rattle.formats_at_run_time.specs.declared.built_in.BuiltInKind.TheVariants.{OfFormat as OfBuiltIn, Pairs as PairsOfDoubles}
-use Rattle.formats_at_run_time.specs.declared.command_kind.CommandFormat.{CommandFormat}
-use Rattle.formats_at_run_time.specs.declared.command_kind.CommandFormat.TheVariants.{Half, Single, Double, Quad, BFloat, E5M2, E4M3FN, E4M3FNUZ, X87}
+use Rattle.formats_at_run_time.specs.declared.built_in.BuiltInKind.TheVariants.{OfFormat as OfBuiltIn}
+use Rattle.formats_at_run_time.specs.declared.built_in.BuiltInKind.TheVariants.{Pairs as PairsOfDoubles}
+use Rattle.formats_at_run_time.specs.declared.command_kind.CommandFormat.{CommandFormat, TheVariants.Half}
+use Rattle.formats_at_run_time.specs.declared.command_kind.CommandFormat.TheVariants.{Single, Double, Quad, BFloat}
+use Rattle.formats_at_run_time.specs.declared.command_kind.CommandFormat.TheVariants.{E5M2, E4M3FN, E4M3FNUZ, X87}
 use Rattle.formats_at_run_time.specs.declared.command_kind.CommandKind.{CommandKind}
 use Rattle.formats_at_run_time.specs.declared.command_kind.CommandKind.TheVariants.{OfFormat, Pairs}
 

@@ -3,16 +3,19 @@ use Rattle.std.specs.Prelude.{ℕ, ◌/◌, ◌%◌, ◌==◌, true, if◌then�
 use Rattle.rustc_apfloat.specs.Lawful.{Constants}
 use Rattle.formats_at_run_time.specs.BuiltIns.{constants_in, kind_coded}
 use Rattle.formats_at_run_time.specs.ValueKinds.{Kind, of_format, of_pairs}
-use Rattle.formats_at_run_time.specs.declared.built_in.BuiltInFormat.{BuiltInFormat}
-use Rattle.formats_at_run_time.specs.declared.built_in.BuiltInFormat.TheVariants.{Half, Single, Double, Quad, BFloat, E5M2, X87}
-use Rattle.formats_at_run_time.specs.declared.built_in.BuiltInKind.{BuiltInKind}
-use Rattle.formats_at_run_time.specs.declared.built_in.BuiltInKind.TheVariants.{Pairs as PairsOfDoubles, OfFormat as OfBuiltIn}
+use Rattle.formats_at_run_time.specs.declared.built_in.BuiltInFormat.{BuiltInFormat, TheVariants.Half}
+use Rattle.formats_at_run_time.specs.declared.built_in.BuiltInFormat.TheVariants.{Single, Double, Quad, BFloat, E5M2}
+use Rattle.formats_at_run_time.specs.declared.built_in.{BuiltInFormat.TheVariants.X87, BuiltInKind.BuiltInKind}
+use Rattle.formats_at_run_time.specs.declared.built_in.BuiltInKind.TheVariants.{Pairs as PairsOfDoubles}
+use Rattle.formats_at_run_time.specs.declared.built_in.BuiltInKind.TheVariants.{OfFormat as OfBuiltIn}
 use Rattle.formats_at_run_time.specs.declared.flagged.IeeeFormat.{IeeeFormat}
-use Rattle.formats_at_run_time.specs.declared.flagged.IeeeFormat.TheVariants.{Half as IeeeHalf, Single as IeeeSingle, Double as IeeeDouble, Quad as IeeeQuad, BFloat as IeeeBFloat, E5M2 as IeeeE5M2, X87 as IeeeX87}
+use Rattle.formats_at_run_time.specs.declared.flagged.IeeeFormat.TheVariants.{Half as IeeeHalf, Single as IeeeSingle}
+use Rattle.formats_at_run_time.specs.declared.flagged.IeeeFormat.TheVariants.{Double as IeeeDouble, Quad as IeeeQuad}
+use Rattle.formats_at_run_time.specs.declared.flagged.IeeeFormat.TheVariants.{BFloat as IeeeBFloat, E5M2 as IeeeE5M2}
+use Rattle.formats_at_run_time.specs.declared.flagged.IeeeFormat.TheVariants.{X87 as IeeeX87}
 use Rattle.formats_at_run_time.specs.declared.flagged.FlaggedFormat.{FlaggedFormat}
 use Rattle.formats_at_run_time.specs.declared.flagged.FlaggedFormat.TheVariants.{BuiltIn, AfterRounding, BeforeRounding}
-use Rattle.formats_at_run_time.specs.declared.flagged.FlaggedKind.{FlaggedKind}
-use Rattle.formats_at_run_time.specs.declared.flagged.FlaggedKind.TheVariants.{OfFormat, Pairs}
+use Rattle.formats_at_run_time.specs.declared.flagged.FlaggedKind.{FlaggedKind, TheVariants.OfFormat, TheVariants.Pairs}
 
 -- ---- constants
 

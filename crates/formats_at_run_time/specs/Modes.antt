@@ -1,8 +1,8 @@
 -- The words and the codes of the rounding modes.
 use Rattle.std.specs.Prelude.{ℕ, ◌==◌, Bool, if◌then◌else◌, List, [], ◌∷◌, codes, Option, Some, None}
 use Rattle.rustc_apfloat.specs.Digits.{same}
-use Rattle.rustc_apfloat.specs.declared.Round.{Round}
-use Rattle.rustc_apfloat.specs.declared.Round.TheVariants.{NearestTiesToEven, TowardPositive, TowardNegative, TowardZero, NearestTiesToAway}
+use Rattle.rustc_apfloat.specs.declared.Round.{Round, TheVariants.NearestTiesToEven, TheVariants.TowardPositive}
+use Rattle.rustc_apfloat.specs.declared.Round.TheVariants.{TowardNegative, TowardZero, NearestTiesToAway}
 
 pub record ModeRow : Type 0 where
   pub mode : Round

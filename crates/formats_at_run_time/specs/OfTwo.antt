@@ -1,9 +1,9 @@
 -- What an operation on two values returns.
 use Rattle.std.specs.Prelude.{Bool, true}
-use Rattle.rustc_apfloat.specs.declared.Round.{Round}
-use Rattle.rustc_apfloat.specs.declared.StatusAnd.{StatusAnd}
+use Rattle.rustc_apfloat.specs.declared.{Round.Round, StatusAnd.StatusAnd}
 use Rattle.formats_at_run_time.specs.declared.arithmetic.Arithmetic.{Arithmetic}
-use Rattle.formats_at_run_time.specs.declared.arithmetic.Arithmetic.TheVariants.{Sum, Difference, Product, Quotient, NearestRemainder, TruncatedRemainder}
+use Rattle.formats_at_run_time.specs.declared.arithmetic.Arithmetic.TheVariants.{Sum, Difference, Product, Quotient}
+use Rattle.formats_at_run_time.specs.declared.arithmetic.Arithmetic.TheVariants.{NearestRemainder, TruncatedRemainder}
 use Rattle.formats_at_run_time.specs.Relations.{Relations}
 
 -- whether a type has the operation, given whether it has products

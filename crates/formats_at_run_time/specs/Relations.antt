@@ -1,21 +1,11 @@
 -- What the operations of a type of values return: those of a type that implements `Float`, those of a format, and those
 -- of pairs of doubles.
-use Rattle.std.specs.Prelude.{Option}
-use Rattle.std.specs.declared.cmp.Ordering.{Ordering}
+use Rattle.std.specs.{Prelude.Option, declared.cmp.Ordering.Ordering}
 use Rattle.apfloat_base.specs.declared.float.Float.{Ghosts}
-use Rattle.rustc_apfloat.specs.declared.Round.{Round}
-use Rattle.rustc_apfloat.specs.declared.StatusAnd.{StatusAnd}
-use Rattle.rustc_apfloat.specs.Flags.{Gives}
-use Rattle.rustc_apfloat.specs.Datum.{Datum}
+use Rattle.rustc_apfloat.specs.{declared.Round.Round, declared.StatusAnd.StatusAnd, Flags.Gives, Datum.Datum}
 use Rattle.rustc_apfloat.specs.Lawful.{Constants, format_with, layout_with}
-use Rattle.rustc_apfloat.specs.Meaning.{Meaning}
-use Rattle.rustc_apfloat.specs.FormatMeaning.{format_meaning}
-use Rattle.rustc_apfloat.specs.Order.{compared}
-use Rattle.rustc_apfloat.specs.PairMeaning.{pair_meaning}
-use Rattle.rustc_apfloat.specs.PairParts.{compared_pairs}
-use Rattle.rustc_apfloat.specs.PairRoots.{IsPairRoot}
-use Rattle.rustc_apfloat.specs.Pairs.{Pair}
-use Rattle.rustc_apfloat.specs.Roots.{IsRoot}
+use Rattle.rustc_apfloat.specs.{Meaning.Meaning, FormatMeaning.format_meaning, Order.compared, PairMeaning.pair_meaning}
+use Rattle.rustc_apfloat.specs.{PairParts.compared_pairs, PairRoots.IsPairRoot, Pairs.Pair, Roots.IsRoot}
 
 pub record Relations (A : Type 0) : Type 1 where
   -- what the calls of `Float` return

@@ -1,10 +1,7 @@
 -- Whether a text is refused does not depend on the type that it is read into.
 use Rattle.std.specs.Prelude.{◌≡◌, ℕ, List, None, Result, Ok, Err}
-use Rattle.rustc_apfloat.specs.declared.ParseError.{ParseError}
-use Rattle.rustc_apfloat.specs.declared.Round.{Round}
-use Rattle.rustc_apfloat.specs.declared.StatusAnd.{StatusAnd}
-use Rattle.rustc_apfloat.specs.Faults.{fault_of}
-use Rattle.rustc_apfloat.specs.Readings.{IsRefusal}
+use Rattle.rustc_apfloat.specs.declared.{ParseError.ParseError, Round.Round, StatusAnd.StatusAnd}
+use Rattle.rustc_apfloat.specs.{Faults.fault_of, Readings.IsRefusal}
 
 -- read if it has no fault, otherwise refused with the words for its first fault
 abbrev pub IsReadOrRefused : {A : Type 0} → List ℕ → Result (StatusAnd A) ParseError → Type 0

@@ -2,8 +2,7 @@
 use Rattle.std.proofs.Common.{Ok, Err}
 use Rattle.rustc_apfloat.specs.Lawful.{Constants}
 use Rattle.apfloat_model.proofs.texts.OneMeaning.{meaning_no_fault}
-use Rattle.formats_at_run_time.specs.Relations.{in_format, in_pairs}
-use Rattle.formats_at_run_time.specs.TextReadings.{ReadsTexts}
+use Rattle.formats_at_run_time.specs.{Relations.in_format, Relations.in_pairs, TextReadings.ReadsTexts}
 
 -- formats read these texts
 pub format_reads : (constants : Constants) → ReadsTexts (in_format constants).meaning.reads

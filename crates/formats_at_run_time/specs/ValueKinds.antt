@@ -1,8 +1,6 @@
 -- Kinds of values: those of a format, and pairs of doubles.
 use Rattle.std.specs.Prelude.{ℕ}
-use Rattle.rustc_apfloat.specs.Datum.{Datum}
-use Rattle.rustc_apfloat.specs.Layout.{datum_of}
-use Rattle.rustc_apfloat.specs.Lawful.{Constants, format_with, layout_with}
+use Rattle.rustc_apfloat.specs.{Datum.Datum, Layout.datum_of, Lawful.Constants, Lawful.format_with, Lawful.layout_with}
 
 -- a format is given by its constants
 pub data Kind : Type 0 where

@@ -1,8 +1,7 @@
 //! The operations on two values.
 
 ghost use Rattle.std.specs.Prelude.{◌≡◌};
-ghost use Rattle.formats_at_run_time.specs.OfTwo.{IsOfTwo, has_operation};
-ghost use Rattle.formats_at_run_time.specs.Relations.{relations_of};
+ghost use Rattle.formats_at_run_time.specs.{OfTwo.IsOfTwo, OfTwo.has_operation, Relations.relations_of};
 
 use crate::value_type::ValueType;
 use rustc_apfloat::{Float, Round, StatusAnd};

@@ -1,9 +1,9 @@
 //! The built-in kinds of values that commands have. A call in one of these has no copy of its code for the others.
 
 ghost use Rattle.std.specs.Prelude.{◌≡◌};
-ghost use Rattle.formats_at_run_time.specs.ValueKinds.{of_format};
-ghost use Rattle.formats_at_run_time.specs.BuiltIns.{constants_in, kind_of};
-ghost use Rattle.formats_at_run_time.specs.CommandKinds.{all_command_kinds, built_in_kind, command_kind_in, command_kind_named, format_of_command};
+ghost use Rattle.formats_at_run_time.specs.{ValueKinds.of_format, BuiltIns.constants_in, BuiltIns.kind_of};
+ghost use Rattle.formats_at_run_time.specs.CommandKinds.{all_command_kinds, built_in_kind, command_kind_in};
+ghost use Rattle.formats_at_run_time.specs.CommandKinds.{command_kind_named, format_of_command};
 
 use crate::built_in::{BuiltInFormat, BuiltInKind};
 use crate::in_kind::{InFormat, InKind};

@@ -3,7 +3,9 @@
 ghost use Rattle.std.specs.Prelude.{⊤, ℕ, ◌≡◌, ◌<◌, List};
 ghost use Rattle.rustc_apfloat.specs.FlaggedTypes.{constants_of};
 ghost use Rattle.formats_at_run_time.specs.ValueKinds.{Kind, of_format, of_pairs};
-ghost use Rattle.formats_at_run_time.specs.FlaggedKinds.{after_rounding, before_rounding, built_in, flagged_constants, flagged_kind_coded, flagged_kind_of, format_of_ieee, format_without_rule, ieee_format_in};
+ghost use Rattle.formats_at_run_time.specs.FlaggedKinds.{after_rounding, before_rounding, built_in, flagged_constants};
+ghost use Rattle.formats_at_run_time.specs.FlaggedKinds.{flagged_kind_coded, flagged_kind_of, format_of_ieee};
+ghost use Rattle.formats_at_run_time.specs.FlaggedKinds.{format_without_rule, ieee_format_in};
 
 use crate::built_in::{BuiltInFormat, BuiltInKind};
 use crate::in_kind::{InFormat, InKind};

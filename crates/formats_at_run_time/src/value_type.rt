@@ -1,14 +1,9 @@
 //! The types of the kinds of values.
 
-ghost use Rattle.rustc_apfloat.specs.declared.Round.{Round};
-ghost use Rattle.rustc_apfloat.specs.declared.Round.TheVariants.{NearestTiesToEven};
-ghost use Rattle.rustc_apfloat.specs.declared.StatusAnd.{StatusAnd};
+ghost use Rattle.rustc_apfloat.specs.declared.{Round.Round, Round.TheVariants.NearestTiesToEven, StatusAnd.StatusAnd};
 ghost use Rattle.rustc_apfloat.specs.FlaggedTypes.{constants_of, format_of};
-ghost use Rattle.rustc_apfloat.specs.Flags.{Gives};
-ghost use Rattle.rustc_apfloat.specs.PairRoots.{IsPairRoot};
-ghost use Rattle.rustc_apfloat.specs.Roots.{IsRoot};
-ghost use Rattle.formats_at_run_time.specs.TextReadings.{ReadsTexts};
-ghost use Rattle.formats_at_run_time.specs.TextsRead.{format_reads, pairs_read};
+ghost use Rattle.rustc_apfloat.specs.{Flags.Gives, PairRoots.IsPairRoot, Roots.IsRoot};
+ghost use Rattle.formats_at_run_time.specs.{TextReadings.ReadsTexts, TextsRead.format_reads, TextsRead.pairs_read};
 
 use rustc_apfloat::ieee::{Flagged, IeeeFloat};
 use rustc_apfloat::ppc::{DoubleDouble, FallbackS};

@@ -1,12 +1,10 @@
 -- Roundings to integral data and conversions to integers have one answer.
 use Rattle.std.proofs.Common.{sym, ◌∙◌}
-use Rattle.apfloat_model.specs.declared.kinds.Round.{Round}
-use Rattle.apfloat_model.specs.formats.Format.{Format}
+use Rattle.apfloat_model.specs.{declared.kinds.Round.Round, formats.Format.Format}
 use Rattle.apfloat_model.specs.formats.Datum.{Datum, finite, infinite, nan}
-use Rattle.apfloat_model.proofs.Once.{Once, answer_once}
-use Rattle.apfloat_model.proofs.Determined.{gives_once, same_answer}
-use Rattle.ieee_operations.specs.WholeNumbers.{IsRoundedToIntegral, IsRoundedToIntegralOnce}
-use Rattle.ieee_operations.specs.WholeNumbers.{IsConvertedExactlyOnce, IsConvertedOnce}
+use Rattle.apfloat_model.proofs.{Once.Once, Once.answer_once, Determined.gives_once, Determined.same_answer}
+use Rattle.ieee_operations.specs.WholeNumbers.{IsRoundedToIntegral, IsRoundedToIntegralOnce, IsConvertedExactlyOnce}
+use Rattle.ieee_operations.specs.WholeNumbers.{IsConvertedOnce}
 
 pub integral_once : (f : Format) (mode : Round) (x : Datum) → Once (IsRoundedToIntegral f mode x)
 integral_once f mode (nan b s) = answer_once _ _

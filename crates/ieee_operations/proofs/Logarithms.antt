@@ -1,35 +1,25 @@
 -- logB of each class of data, and the one answer of logB and of scaleB.
+use Rattle.std.specs.{Bool.MatchBool, Int.w32, Int.w128}
 use Rattle.std.specs.Prelude.{◌≡◌, ℕ, ◌^◌, ◌<◌, ℤ, pos, negsuc, Bool, true, false, eqb, if◌then◌else◌}
-use Rattle.std.specs.Bool.{MatchBool}
 use Rattle.std.proofs.Common.{refl, sym, ◌∙◌, subst, arith, to_z, of_z, FitsSigned}
 use Rattle.std.proofs.lemmas.Int.{to_z-of_z}
-use Rattle.std.specs.Int.{w32, w128}
+use Rattle.apfloat_model.specs.{declared.kinds.Round.Round, formats.Format.Format, formats.Format.nan_base}
+use Rattle.apfloat_model.specs.{order.Classes.category_of, whole_numbers.WholeNumbers.IsFromSigned}
 use Rattle.apfloat_model.specs.declared.kinds.Category.TheVariants.{Infinity, NaN, Normal, Zero}
 use Rattle.apfloat_model.specs.declared.kinds.NonfiniteBehavior.{NonfiniteBehavior}
 use Rattle.apfloat_model.specs.declared.kinds.NonfiniteBehavior.TheVariants.{IEEE754, NanOnly, NanNegativeZero}
-use Rattle.apfloat_model.specs.declared.kinds.Round.{Round}
-use Rattle.apfloat_model.specs.formats.Format.{Format, nan_base}
-use Rattle.apfloat_model.specs.formats.Datum.{Datum, finite, infinite, nan}
-use Rattle.apfloat_model.specs.formats.Constants.{infinity_of, infinity_datum}
-use Rattle.apfloat_model.specs.formats.Nan.{invalid_if, is_signaling_nan}
-use Rattle.apfloat_model.specs.rounding.Answer.{IsAnswer}
-use Rattle.apfloat_model.specs.rounding.Negation.{negated}
-use Rattle.apfloat_model.specs.rounding.Rounding.{ok_bits, past_largest}
+use Rattle.apfloat_model.specs.formats.{Datum.Datum, Datum.finite, Datum.infinite, Datum.nan, Constants.infinity_of}
+use Rattle.apfloat_model.specs.formats.{Constants.infinity_datum, Nan.invalid_if, Nan.is_signaling_nan}
+use Rattle.apfloat_model.specs.rounding.{Answer.IsAnswer, Negation.negated, Rounding.ok_bits, Rounding.past_largest}
+use Rattle.apfloat_model.specs.arithmetic.{Quotients.div_by_zero_bit, Signs.abs}
 use Rattle.apfloat_model.specs.arithmetic.Exponents.{IsLogarithm, IsIlogb, zero_exponent}
-use Rattle.apfloat_model.specs.arithmetic.Quotients.{div_by_zero_bit}
-use Rattle.apfloat_model.specs.arithmetic.Signs.{abs}
-use Rattle.apfloat_model.specs.order.Classes.{category_of}
-use Rattle.apfloat_model.specs.whole_numbers.WholeNumbers.{IsFromSigned}
-use Rattle.apfloat_model.proofs.general.Choices.{match_case}
-use Rattle.apfloat_model.proofs.order.Categories.{no_infinity, no_nan}
+use Rattle.apfloat_model.proofs.{general.Choices.match_case, order.Categories.no_infinity, order.Categories.no_nan}
+use Rattle.apfloat_model.proofs.{rounding.Laws.delivered_once, arithmetic.Inverses.logarithm_once}
 use Rattle.apfloat_model.proofs.Once.{Once, answer_once, from_signed_once}
-use Rattle.apfloat_model.proofs.rounding.Laws.{delivered_once}
-use Rattle.apfloat_model.proofs.arithmetic.Inverses.{logarithm_once}
 use Rattle.apfloat_model.proofs.Determined.{same_answer, gives_once, exponent_once}
-use Rattle.ieee_operations.specs.Extrema.{quieted_datum}
+use Rattle.ieee_operations.specs.{Extrema.quieted_datum, Exponents.IsLogB}
+use Rattle.ieee_operations.specs.Exponents.{IsLogBOfNumber, IsLogBOnce, IsIntegerLogBOnce, IsScaledOnce, IsScaledAlike}
 use Rattle.apfloat_conversions.specs.Scalings.{IsScaled}
-use Rattle.ieee_operations.specs.Exponents.{IsLogB, IsLogBOfNumber, IsLogBOnce, IsIntegerLogBOnce}
-use Rattle.ieee_operations.specs.Exponents.{IsScaledOnce, IsScaledAlike}
 
 pub log_b_of_nan : (f : Format) (mode : Round) (x value : Datum) (status : ℕ) → category_of x ≡ NaN
     → value ≡ quieted_datum f x → status ≡ invalid_if (is_signaling_nan f x) → IsLogB f mode x value status

@@ -1,8 +1,7 @@
 -- A comparison has one answer.
 use Rattle.std.proofs.Common.{sym, ◌∙◌}
 use Rattle.apfloat_model.proofs.Determined.{same_answer}
-use Rattle.ieee_operations.specs.Comparisons.{IsComparedOnce}
-use Rattle.ieee_operations.specs.TwoFormats.{IsComparedBetweenOnce}
+use Rattle.ieee_operations.specs.{Comparisons.IsComparedOnce, TwoFormats.IsComparedBetweenOnce}
 
 pub compared_once : IsComparedOnce
 compared_once f predicate on_nan x y answer other h k =

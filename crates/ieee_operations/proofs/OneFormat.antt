@@ -1,18 +1,13 @@
 -- In one format, data counted in a finer unit are ordered as the data.
 use Rattle.std.specs.Prelude.{◌≡◌, ℕ, zero, suc, ◌*◌, ◌^◌, ◌<◌, Bool, true, false, not, Some}
-use Rattle.std.proofs.Common.{refl, sym, ap, ◌∙◌, arith}
 use Rattle.std.specs.Ordering.{int_cmp}
-use Rattle.std.proofs.lemmas.Nat.{pow_pos}
-use Rattle.std.proofs.Math.Nat.{mul-lt-mul_of_pos_right, le_of_mul-le-mul_right}
+use Rattle.std.proofs.Common.{refl, sym, ap, ◌∙◌, arith}
+use Rattle.std.proofs.{lemmas.Nat.pow_pos, Math.Nat.mul-lt-mul_of_pos_right, Math.Nat.le_of_mul-le-mul_right}
 use Rattle.apfloat_model.specs.formats.Datum.{Datum, finite, infinite, nan}
-use Rattle.apfloat_model.specs.formats.Constants.{zero_datum}
-use Rattle.apfloat_model.specs.arithmetic.Exact.{signed}
-use Rattle.apfloat_model.specs.order.Order.{compared}
-use Rattle.apfloat_model.proofs.general.Choices.{eqb_self}
-use Rattle.apfloat_model.proofs.arithmetic.Signs.{no_sign}
+use Rattle.apfloat_model.specs.{formats.Constants.zero_datum, arithmetic.Exact.signed, order.Order.compared}
+use Rattle.apfloat_model.proofs.{general.Choices.eqb_self, arithmetic.Signs.no_sign}
 use Rattle.ieee_operations.specs.TwoFormats.{IsOrderOfOneFormat}
-use Rattle.ieee_operations.proofs.Truncated.{settles}
-use Rattle.ieee_operations.proofs.ZerosOrdered.{zero_against}
+use Rattle.ieee_operations.proofs.{Truncated.settles, ZerosOrdered.zero_against}
 
 -- a zero is ordered as +0
 plain_zero : (b : Bool) (y : Datum) → compared zero_datum y ≡ compared (finite b 0) y

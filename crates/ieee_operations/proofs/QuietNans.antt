@@ -1,10 +1,8 @@
 -- What is made of a NaN by scaling it.
 use Rattle.std.specs.Prelude.{◌≡◌, ℤ, true}
-use Rattle.apfloat_model.specs.declared.kinds.Round.{Round}
-use Rattle.apfloat_model.specs.formats.Format.{Format}
+use Rattle.apfloat_model.specs.{declared.kinds.Round.Round, formats.Format.Format}
 use Rattle.apfloat_model.specs.formats.Datum.{Datum, finite, infinite, nan}
-use Rattle.apfloat_model.specs.order.Classes.{is_nan}
-use Rattle.apfloat_model.specs.arithmetic.Scaling.{IsScaling}
+use Rattle.apfloat_model.specs.{order.Classes.is_nan, arithmetic.Scaling.IsScaling}
 use Rattle.ieee_operations.specs.Extrema.{quieted_datum}
 
 pub nan_scaled : (f : Format) (mode : Round) (x : Datum) (j : ℤ) (value : Datum) → is_nan x ≡ true

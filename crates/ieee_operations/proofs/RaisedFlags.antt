@@ -1,21 +1,17 @@
 -- OVERFLOW and UNDERFLOW are raised only together with INEXACT.
 use Rattle.std.proofs.Common.{◌≡◌, ℕ, eqb, refl, sym, subst}
 use Rattle.std.specs.Prelude.{ℤ}
-use Rattle.apfloat_model.specs.declared.kinds.Round.{Round}
-use Rattle.apfloat_model.specs.formats.Format.{Format}
+use Rattle.apfloat_model.specs.{declared.kinds.Round.Round, formats.Format.Format}
 use Rattle.apfloat_model.specs.formats.Datum.{Datum, finite, infinite, nan}
-use Rattle.apfloat_model.specs.rounding.Answer.{IsAnswer}
-use Rattle.apfloat_model.specs.rounding.RaisedFlags.{FlagsGoTogether}
+use Rattle.apfloat_model.specs.rounding.{Answer.IsAnswer, RaisedFlags.FlagsGoTogether}
 use Rattle.apfloat_model.specs.whole_numbers.WholeNumbersOut.{to_signed, to_unsigned}
 use Rattle.apfloat_model.proofs.rounding.FlagsTogether.{ok_together, delivered_together, from_signed_together}
-use Rattle.apfloat_model.proofs.rounding.FlagsTogether.{to_signed_together, to_unsigned_together}
+use Rattle.apfloat_model.proofs.rounding.FlagsTogether.{to_signed_together, to_unsigned_together, invalid_if_together}
+use Rattle.apfloat_model.proofs.rounding.{FlagsTogether.answer_together, StatusesTogether.div_by_zero_together}
 use Rattle.apfloat_model.proofs.general.Choices.{match_case}
-use Rattle.apfloat_model.proofs.rounding.FlagsTogether.{invalid_if_together, answer_together}
-use Rattle.apfloat_model.proofs.rounding.StatusesTogether.{div_by_zero_together}
 use Rattle.apfloat_conversions.specs.Scalings.{IsScaled}
 use Rattle.ieee_operations.specs.RaisedFlags.{RaisesTogether, OperationFlagsGoTogether}
-use Rattle.ieee_operations.specs.Exponents.{IsLogB, IsLogBOfNumber}
-use Rattle.ieee_operations.specs.WholeNumbers.{IsRoundedToIntegral}
+use Rattle.ieee_operations.specs.{Exponents.IsLogB, Exponents.IsLogBOfNumber, WholeNumbers.IsRoundedToIntegral}
 
 -- a status that is a given one
 given_together : (flags status : ℕ) → FlagsGoTogether flags → status ≡ flags → FlagsGoTogether status

@@ -1,23 +1,18 @@
 -- The total order is a total order, and agrees with `<`: it compares five keys in turn.
-use Rattle.std.specs.Prelude.{◌≡◌, ◌⊎◌, ℕ, Bool, true, false, not, ◌&&◌, ◌||◌, eqb, ltb, leb, ◌<◌}
-use Rattle.std.specs.Prelude.{Option, Some, None, if◌then◌else◌}
-use Rattle.std.proofs.Common.{refl, sym, ap, ◌∙◌, inl, inr, arith}
-use Rattle.std.specs.Option.{option_map}
-use Rattle.std.specs.declared.cmp.Ordering.{Ordering}
+use Rattle.std.specs.Prelude.{◌≡◌, ◌⊎◌, ℕ, Bool, true, false, not, ◌&&◌, ◌||◌, eqb, ltb, leb}
+use Rattle.std.specs.Prelude.{◌<◌, Option, Some, None, if◌then◌else◌}
+use Rattle.std.specs.{Option.option_map, declared.cmp.Ordering.Ordering}
 use Rattle.std.specs.declared.cmp.Ordering.TheVariants.{Less, Equal, Greater}
 use Rattle.std.specs.Ordering.{nat_cmp, int_cmp, on, then_cmp, flip_args, is_gt, is_lt, is_eq, is_some_and}
 use Rattle.std.specs.Ordering.{ordering_reverse, ordering_then, MatchOrdering}
-use Rattle.std.specs.Cmp.{IsTotalOrder, nat_cmp_total, int_cmp_total, on_total, then_total, back_total}
-use Rattle.std.specs.Cmp.{tied_itself, upto, ranks, ranked, int_ranked}
+use Rattle.std.specs.Cmp.{IsTotalOrder, nat_cmp_total, int_cmp_total, on_total, then_total, back_total, tied_itself}
+use Rattle.std.specs.Cmp.{upto, ranks, ranked, int_ranked}
+use Rattle.std.proofs.Common.{refl, sym, ap, ◌∙◌, inl, inr, arith}
 use Rattle.std.proofs.lemmas.Bool.{le-leb, lt-leb, false≢true}
-use Rattle.apfloat_model.specs.formats.Format.{Format}
-use Rattle.apfloat_model.specs.formats.Datum.{Datum, finite, infinite, nan}
-use Rattle.apfloat_model.specs.formats.Nan.{is_signaling}
-use Rattle.apfloat_model.specs.arithmetic.Exact.{signed, magnitude}
-use Rattle.apfloat_model.specs.order.Classes.{is_negative}
-use Rattle.apfloat_model.specs.order.Order.{is_below, compared, number}
-use Rattle.apfloat_model.proofs.arithmetic.Signs.{magnitude_signed}
-use Rattle.apfloat_model.proofs.order.OrderLaws.{compared_laws}
+use Rattle.apfloat_model.specs.formats.{Format.Format, Datum.Datum, Datum.finite, Datum.infinite, Datum.nan}
+use Rattle.apfloat_model.specs.{formats.Nan.is_signaling, arithmetic.Exact.signed, arithmetic.Exact.magnitude}
+use Rattle.apfloat_model.specs.order.{Classes.is_negative, Order.is_below, Order.compared, Order.number}
+use Rattle.apfloat_model.proofs.{arithmetic.Signs.magnitude_signed, order.OrderLaws.compared_laws}
 use Rattle.ieee_operations.specs.TotalOrder.{total_order, numbers_in_order, HasTotalOrder}
 
 -- ---- the keys

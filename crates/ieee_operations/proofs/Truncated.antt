@@ -1,33 +1,21 @@
 -- A number truncated to another format is ordered as the number itself, but for what was cut off.
-use Rattle.std.specs.Prelude.{◌≡◌, ℕ, zero, suc, ◌*◌, ◌^◌, ◌<◌, ◌≤◌, Bool, true, false, not, eqb, ltb}
-use Rattle.std.specs.Prelude.{pos, neg_ℤ, ◌<ℤ◌, Some, None, if◌then◌else◌}
-use Rattle.std.proofs.Common.{refl, sym, ap, ◌∙◌, arith}
-use Rattle.std.specs.declared.cmp.Ordering.{Ordering}
-use Rattle.std.specs.declared.cmp.Ordering.TheVariants.{Less, Equal, Greater}
+use Rattle.std.specs.Prelude.{◌≡◌, ℕ, zero, suc, ◌*◌, ◌^◌, ◌<◌, ◌≤◌, Bool, true, false, not}
+use Rattle.std.specs.Prelude.{eqb, ltb, pos, neg_ℤ, ◌<ℤ◌, Some, None, if◌then◌else◌}
+use Rattle.std.specs.declared.cmp.Ordering.{Ordering, TheVariants.Less, TheVariants.Equal, TheVariants.Greater}
 use Rattle.std.specs.Ordering.{nat_cmp, int_cmp, ordering_then}
 use Rattle.std.specs.Cmp.{ranks, int_ranks, int_cmp_is}
-use Rattle.std.proofs.lemmas.Cmp.{by_ranked}
-use Rattle.std.proofs.lemmas.Int.{ints}
-use Rattle.std.proofs.lemmas.Bool.{eqb-true, ne_eqb, ltb-true}
-use Rattle.std.proofs.lemmas.Nat.{pow_pos}
-use Rattle.std.proofs.lemmas.Option.{same_Some}
-use Rattle.std.proofs.Math.Nat.{mul-lt-mul_of_pos_right}
-use Rattle.apfloat_model.specs.declared.kinds.Category.TheVariants.{Normal}
-use Rattle.apfloat_model.specs.declared.kinds.NonfiniteBehavior.{NonfiniteBehavior}
-use Rattle.apfloat_model.specs.declared.kinds.Round.TheVariants.{TowardZero}
-use Rattle.apfloat_model.specs.formats.Format.{Format, largest}
-use Rattle.apfloat_model.specs.formats.Datum.{Datum, finite, infinite, nan}
-use Rattle.apfloat_model.specs.formats.Members.{IsMember}
-use Rattle.apfloat_model.specs.rounding.Grid.{IsOnGrid, IsBelow}
+use Rattle.std.proofs.Common.{refl, sym, ap, ◌∙◌, arith}
+use Rattle.std.proofs.lemmas.{Cmp.by_ranked, Int.ints, Bool.eqb-true, Bool.ne_eqb, Bool.ltb-true, Nat.pow_pos}
+use Rattle.std.proofs.{lemmas.Option.same_Some, Math.Nat.mul-lt-mul_of_pos_right}
+use Rattle.apfloat_model.specs.declared.kinds.{Category.TheVariants.Normal, NonfiniteBehavior.NonfiniteBehavior}
+use Rattle.apfloat_model.specs.{declared.kinds.Round.TheVariants.TowardZero, formats.Format.Format}
+use Rattle.apfloat_model.specs.formats.{Format.largest, Datum.Datum, Datum.finite, Datum.infinite, Datum.nan}
+use Rattle.apfloat_model.specs.{formats.Members.IsMember, rounding.Grid.IsOnGrid, rounding.Grid.IsBelow}
 use Rattle.apfloat_model.specs.rounding.Rounding.{IsDelivered, signed_quanta, zero_sign, is_tiny, raises_overflow}
-use Rattle.apfloat_model.specs.arithmetic.Conversions.{IsConversion, IsConvertedNumber}
-use Rattle.apfloat_model.specs.arithmetic.Exact.{signed}
-use Rattle.apfloat_model.specs.order.Classes.{category_of, is_negative}
-use Rattle.apfloat_model.specs.order.Order.{compared}
+use Rattle.apfloat_model.specs.arithmetic.{Conversions.IsConversion, Conversions.IsConvertedNumber, Exact.signed}
+use Rattle.apfloat_model.specs.order.{Classes.category_of, Classes.is_negative, Order.compared}
 use Rattle.apfloat_model.proofs.general.Choices.{not_zero, eqb_self, above_zero}
-use Rattle.apfloat_model.proofs.arithmetic.Signs.{no_sign}
-use Rattle.apfloat_model.proofs.rounding.Deliveries.{quanta_are}
-use Rattle.apfloat_model.proofs.order.Categories.{number_only}
+use Rattle.apfloat_model.proofs.{arithmetic.Signs.no_sign, rounding.Deliveries.quanta_are, order.Categories.number_only}
 use Rattle.ieee_operations.specs.TwoFormats.{in_common_unit, compared_between}
 
 -- ---- magnitudes

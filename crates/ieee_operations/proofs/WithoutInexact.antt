@@ -1,16 +1,12 @@
 -- The flags of roundings to integers, without INEXACT.
 use Rattle.std.proofs.Common.{◌≡◌, ℕ, Bool, true, false, ◌||◌, eqb, ℤ, refl, ap, ◌∙◌, if◌then◌else◌, ◌^◌}
 use Rattle.std.specs.Prelude.{int_lt}
-use Rattle.apfloat_model.specs.declared.kinds.Round.{Round}
-use Rattle.apfloat_model.specs.formats.Format.{Format}
-use Rattle.apfloat_model.specs.formats.Datum.{Datum, finite, infinite, nan}
-use Rattle.apfloat_model.specs.formats.Nan.{invalid_if, is_signaling}
-use Rattle.apfloat_model.specs.arithmetic.Exact.{signed}
-use Rattle.apfloat_model.specs.rounding.Rounding.{ok_bits, inexact_bit}
+use Rattle.apfloat_model.specs.{declared.kinds.Round.Round, formats.Format.Format, formats.Datum.Datum}
+use Rattle.apfloat_model.specs.{arithmetic.Exact.signed, rounding.Rounding.ok_bits, rounding.Rounding.inexact_bit}
+use Rattle.apfloat_model.specs.formats.{Datum.finite, Datum.infinite, Datum.nan, Nan.invalid_if, Nan.is_signaling}
 use Rattle.apfloat_model.specs.whole_numbers.WholeNumbers.{IsRoundToIntegral, inexact_unless, whole_pick, whole_quanta}
 use Rattle.apfloat_model.specs.whole_numbers.WholeNumbersOut.{whole_within, invalid_whole, exact_or_not}
-use Rattle.ieee_operations.specs.StatusFlags.{lowered}
-use Rattle.ieee_operations.specs.WholeNumbers.{IsRoundedToIntegral, is_out_of_range}
+use Rattle.ieee_operations.specs.{StatusFlags.lowered, WholeNumbers.IsRoundedToIntegral, WholeNumbers.is_out_of_range}
 
 lowered_invalid : (test : Bool) → lowered (invalid_if test) inexact_bit ≡ invalid_if test
 lowered_invalid true = refl

@@ -1,22 +1,13 @@
 -- A zero is ordered as +0 of any format.
-use Rattle.std.specs.Prelude.{◌≡◌, ℕ, zero, suc, ◌*◌, ◌^◌, ◌<◌, Bool, true, false, eqb, pos, neg_ℤ, Some}
+use Rattle.std.specs.Prelude.{◌≡◌, ℕ, zero, suc, ◌*◌, ◌^◌, ◌<◌, Bool, true, false, eqb, pos}
+use Rattle.std.specs.{Prelude.neg_ℤ, Prelude.Some, declared.cmp.Ordering.TheVariants.Less}
+use Rattle.std.specs.{declared.cmp.Ordering.TheVariants.Greater, Ordering.int_cmp, Cmp.int_cmp_is}
 use Rattle.std.proofs.Common.{refl, sym, ap, ◌∙◌, arith}
-use Rattle.std.specs.declared.cmp.Ordering.TheVariants.{Less, Greater}
-use Rattle.std.specs.Ordering.{int_cmp}
-use Rattle.std.specs.Cmp.{int_cmp_is}
-use Rattle.std.proofs.lemmas.Int.{ints}
-use Rattle.std.proofs.lemmas.Bool.{eqb-true}
-use Rattle.std.proofs.lemmas.Nat.{pow_pos}
-use Rattle.std.proofs.Math.Nat.{mul-lt-mul_of_pos_right}
-use Rattle.apfloat_model.specs.declared.kinds.Category.TheVariants.{Zero}
-use Rattle.apfloat_model.specs.formats.Format.{Format}
-use Rattle.apfloat_model.specs.formats.Datum.{Datum, finite, infinite, nan}
-use Rattle.apfloat_model.specs.formats.Constants.{zero_datum}
-use Rattle.apfloat_model.specs.arithmetic.Exact.{signed}
-use Rattle.apfloat_model.specs.order.Classes.{category_of}
-use Rattle.apfloat_model.specs.order.Order.{compared}
-use Rattle.apfloat_model.proofs.arithmetic.Signs.{no_sign}
-use Rattle.apfloat_model.proofs.order.Categories.{zero_only}
+use Rattle.std.proofs.{lemmas.Int.ints, lemmas.Bool.eqb-true, lemmas.Nat.pow_pos, Math.Nat.mul-lt-mul_of_pos_right}
+use Rattle.apfloat_model.specs.{declared.kinds.Category.TheVariants.Zero, formats.Format.Format}
+use Rattle.apfloat_model.specs.formats.{Datum.Datum, Datum.finite, Datum.infinite, Datum.nan, Constants.zero_datum}
+use Rattle.apfloat_model.specs.{arithmetic.Exact.signed, order.Classes.category_of, order.Order.compared}
+use Rattle.apfloat_model.proofs.{arithmetic.Signs.no_sign, order.Categories.zero_only}
 use Rattle.ieee_operations.specs.TwoFormats.{compared_between}
 
 -- 0 is above a negative number and below a positive one

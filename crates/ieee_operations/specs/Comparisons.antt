@@ -1,17 +1,10 @@
 -- Comparisons of two data of one format (IEEE 754-2019 5.6.1, 5.11).
 use Rattle.std.specs.Prelude.{◌≡◌, ℕ, Bool, ◌||◌}
-use Rattle.apfloat_model.specs.formats.Format.{Format}
-use Rattle.apfloat_model.specs.formats.Datum.{Datum}
-use Rattle.apfloat_model.specs.declared.status.StatusAnd.{StatusAnd}
-use Rattle.apfloat_model.specs.rounding.Flags.{Gives}
-use Rattle.apfloat_model.specs.formats.Nan.{invalid_if, is_signaling_nan}
-use Rattle.apfloat_model.specs.order.Classes.{is_nan}
-use Rattle.apfloat_model.specs.order.Order.{compared}
-use Rattle.ieee_operations.specs.declared.predicates.Predicate.{Predicate}
-use Rattle.ieee_operations.specs.declared.predicates.OnNan.{OnNan}
-use Rattle.ieee_operations.specs.declared.predicates.OnNan.TheVariants.{Quiet, Signaling}
-use Rattle.ieee_operations.specs.Relations.{has}
-use Rattle.ieee_operations.specs.Predicates.{relations_of}
+use Rattle.apfloat_model.specs.{declared.status.StatusAnd.StatusAnd, rounding.Flags.Gives}
+use Rattle.apfloat_model.specs.formats.{Format.Format, Datum.Datum, Nan.invalid_if, Nan.is_signaling_nan}
+use Rattle.apfloat_model.specs.order.{Classes.is_nan, Order.compared}
+use Rattle.ieee_operations.specs.{Relations.has, Predicates.relations_of, declared.predicates.Predicate.Predicate}
+use Rattle.ieee_operations.specs.declared.predicates.{OnNan.OnNan, OnNan.TheVariants.Quiet, OnNan.TheVariants.Signaling}
 
 -- whether the comparison is an invalid operation (7.2)
 abbrev pub is_invalid : Format → OnNan → Datum → Datum → Bool

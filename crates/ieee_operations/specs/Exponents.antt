@@ -1,20 +1,13 @@
 -- The exponent of a datum with its flags (IEEE 754-2019 5.3.3, logB), and laws of scaled data (scaleB).
 use Rattle.std.specs.Prelude.{◌≡◌, ℕ, ℤ, eqb, not, true, false}
 use Rattle.std.specs.Bool.{MatchBool}
-use Rattle.apfloat_model.specs.declared.kinds.Round.{Round}
-use Rattle.apfloat_model.specs.declared.status.StatusAnd.{StatusAnd}
-use Rattle.apfloat_model.specs.formats.Format.{Format}
+use Rattle.apfloat_model.specs.{declared.kinds.Round.Round, declared.status.StatusAnd.StatusAnd, formats.Format.Format}
 use Rattle.apfloat_model.specs.formats.Datum.{Datum, finite, infinite, nan}
-use Rattle.apfloat_model.specs.formats.Constants.{infinity_of}
-use Rattle.apfloat_model.specs.formats.Nan.{IsOfNan, invalid_if}
-use Rattle.apfloat_model.specs.rounding.Answer.{IsAnswer}
-use Rattle.apfloat_model.specs.rounding.Flags.{Gives}
-use Rattle.apfloat_model.specs.rounding.Rounding.{ok_bits}
-use Rattle.apfloat_model.specs.arithmetic.Exponents.{IsLogarithm, IsIlogb}
-use Rattle.apfloat_model.specs.arithmetic.Quotients.{div_by_zero_bit}
-use Rattle.apfloat_model.specs.arithmetic.Scaling.{IsScaling}
-use Rattle.apfloat_model.specs.order.Classes.{category_of, is_finite_non_zero_category}
-use Rattle.apfloat_model.specs.whole_numbers.WholeNumbers.{IsFromSigned}
+use Rattle.apfloat_model.specs.formats.{Constants.infinity_of, Nan.IsOfNan, Nan.invalid_if}
+use Rattle.apfloat_model.specs.rounding.{Answer.IsAnswer, Flags.Gives, Rounding.ok_bits}
+use Rattle.apfloat_model.specs.arithmetic.{Exponents.IsLogarithm, Exponents.IsIlogb, Quotients.div_by_zero_bit}
+use Rattle.apfloat_model.specs.{arithmetic.Scaling.IsScaling, order.Classes.category_of}
+use Rattle.apfloat_model.specs.{order.Classes.is_finite_non_zero_category, whole_numbers.WholeNumbers.IsFromSigned}
 use Rattle.apfloat_conversions.specs.Scalings.{IsScaled}
 
 -- the logarithm of a magnitude, which is not 0, as a datum, rounded once

@@ -1,18 +1,12 @@
 -- Minima and maxima of two data (IEEE 754-2019 9.6).
 use Rattle.std.specs.Prelude.{ℕ, if◌then◌else◌}
-use Rattle.apfloat_model.specs.formats.Format.{Format}
-use Rattle.apfloat_model.specs.formats.Datum.{Datum, finite, infinite, nan}
-use Rattle.apfloat_model.specs.formats.Nan.{quieted, invalid_if}
-use Rattle.apfloat_model.specs.rounding.Answer.{IsAnswer}
-use Rattle.apfloat_model.specs.arithmetic.Signs.{abs}
-use Rattle.apfloat_model.specs.order.Classes.{is_nan}
-use Rattle.apfloat_model.specs.order.Order.{is_below}
+use Rattle.apfloat_model.specs.formats.{Format.Format, Datum.Datum, Datum.finite, Datum.infinite, Datum.nan}
+use Rattle.apfloat_model.specs.{formats.Nan.quieted, formats.Nan.invalid_if, rounding.Answer.IsAnswer}
+use Rattle.apfloat_model.specs.{arithmetic.Signs.abs, order.Classes.is_nan, order.Order.is_below}
 use Rattle.ieee_operations.specs.declared.predicates.OnNan.TheVariants.{Quiet}
-use Rattle.ieee_operations.specs.declared.extrema.Extremum.{Extremum}
-use Rattle.ieee_operations.specs.declared.extrema.Extremum.TheVariants.{Minimum, Maximum}
-use Rattle.ieee_operations.specs.declared.extrema.Extremum.TheVariants.{MinimumMagnitude, MaximumMagnitude}
-use Rattle.ieee_operations.specs.Comparisons.{is_invalid}
-use Rattle.ieee_operations.specs.TotalOrder.{numbers_in_order}
+use Rattle.ieee_operations.specs.declared.extrema.Extremum.{Extremum, TheVariants.Minimum}
+use Rattle.ieee_operations.specs.declared.extrema.Extremum.TheVariants.{Maximum, MinimumMagnitude, MaximumMagnitude}
+use Rattle.ieee_operations.specs.{Comparisons.is_invalid, TotalOrder.numbers_in_order}
 
 -- ---- data that are not NaNs
 

@@ -1,10 +1,9 @@
 -- The relations that satisfy each comparison predicate (IEEE 754-2019 5.11, tables 5.1 to 5.3).
 use Rattle.std.specs.Prelude.{Bool, true, false}
-use Rattle.ieee_operations.specs.declared.predicates.Predicate.{Predicate}
-use Rattle.ieee_operations.specs.declared.predicates.Predicate.TheVariants.{Equal, NotEqual, Unordered, Ordered}
-use Rattle.ieee_operations.specs.declared.predicates.Predicate.TheVariants.{Greater, GreaterEqual, NotGreater}
-use Rattle.ieee_operations.specs.declared.predicates.Predicate.TheVariants.{Less, LessEqual, NotLess}
-use Rattle.ieee_operations.specs.declared.predicates.Predicate.TheVariants.{LessUnordered, GreaterUnordered}
+use Rattle.ieee_operations.specs.declared.predicates.Predicate.{Predicate, TheVariants.Equal}
+use Rattle.ieee_operations.specs.declared.predicates.Predicate.TheVariants.{NotEqual, Unordered, Ordered, Greater}
+use Rattle.ieee_operations.specs.declared.predicates.Predicate.TheVariants.{GreaterEqual, NotGreater, Less, LessEqual}
+use Rattle.ieee_operations.specs.declared.predicates.Predicate.TheVariants.{NotLess, LessUnordered, GreaterUnordered}
 use Rattle.ieee_operations.specs.declared.predicates.Relations.{Relations}
 
 -- less, equal, greater, unordered

@@ -1,20 +1,14 @@
 -- OVERFLOW and UNDERFLOW are raised only together with INEXACT, by each operation here that returns a status.
 use Rattle.std.specs.Prelude.{ℕ, ℤ, pos}
-use Rattle.apfloat_model.specs.declared.kinds.Round.{Round}
-use Rattle.apfloat_model.specs.formats.Format.{Format}
-use Rattle.apfloat_model.specs.formats.Datum.{Datum}
+use Rattle.apfloat_model.specs.{declared.kinds.Round.Round, formats.Format.Format, formats.Datum.Datum}
 use Rattle.apfloat_model.specs.rounding.RaisedFlags.{FlagsGoTogether}
 use Rattle.apfloat_model.specs.whole_numbers.WholeNumbersOut.{to_signed, to_unsigned}
 use Rattle.apfloat_conversions.specs.Scalings.{IsScaled}
 use Rattle.ieee_operations.specs.declared.extrema.Extremum.{Extremum}
-use Rattle.ieee_operations.specs.declared.predicates.Predicate.{Predicate}
-use Rattle.ieee_operations.specs.declared.predicates.OnNan.{OnNan}
-use Rattle.ieee_operations.specs.Comparisons.{IsComparison}
-use Rattle.ieee_operations.specs.TwoFormats.{IsComparisonBetween}
-use Rattle.ieee_operations.specs.Extrema.{IsExtremum, IsExtremumNumber}
-use Rattle.ieee_operations.specs.Exponents.{IsLogB, IsIntegerLogB}
-use Rattle.ieee_operations.specs.WholeNumbers.{IsRoundedToIntegral, IsConvertedToInteger}
-use Rattle.ieee_operations.specs.WholeNumbers.{IsConvertedToIntegerExactly}
+use Rattle.ieee_operations.specs.declared.predicates.{Predicate.Predicate, OnNan.OnNan}
+use Rattle.ieee_operations.specs.{Comparisons.IsComparison, TwoFormats.IsComparisonBetween, Extrema.IsExtremum}
+use Rattle.ieee_operations.specs.{Extrema.IsExtremumNumber, Exponents.IsLogB, Exponents.IsIntegerLogB}
+use Rattle.ieee_operations.specs.WholeNumbers.{IsRoundedToIntegral, IsConvertedToInteger, IsConvertedToIntegerExactly}
 
 abbrev pub RaisesTogether : {A : Type 0} → (A → ℕ → Type 0) → Type 0
 RaisesTogether {A} Says = (value : A) (status : ℕ) → Says value status → FlagsGoTogether status

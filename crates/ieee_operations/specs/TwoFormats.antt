@@ -1,18 +1,11 @@
 -- Comparisons of a datum of one format with a datum of another (IEEE 754-2019 5.6.1, 5.11): of their exact values.
 use Rattle.std.specs.Prelude.{◌≡◌, ℕ, ◌*◌, ◌^◌, Bool, ◌||◌, Option}
 use Rattle.std.specs.declared.cmp.Ordering.{Ordering}
-use Rattle.apfloat_model.specs.declared.status.StatusAnd.{StatusAnd}
-use Rattle.apfloat_model.specs.rounding.Flags.{Gives}
-use Rattle.apfloat_model.specs.formats.Format.{Format}
-use Rattle.apfloat_model.specs.formats.Datum.{Datum, finite, infinite, nan}
-use Rattle.apfloat_model.specs.formats.Nan.{invalid_if, is_signaling_nan}
-use Rattle.apfloat_model.specs.order.Classes.{is_nan}
-use Rattle.apfloat_model.specs.order.Order.{compared}
-use Rattle.ieee_operations.specs.declared.predicates.Predicate.{Predicate}
-use Rattle.ieee_operations.specs.declared.predicates.OnNan.{OnNan}
-use Rattle.ieee_operations.specs.declared.predicates.OnNan.TheVariants.{Quiet, Signaling}
-use Rattle.ieee_operations.specs.Relations.{has}
-use Rattle.ieee_operations.specs.Predicates.{relations_of}
+use Rattle.apfloat_model.specs.{declared.status.StatusAnd.StatusAnd, rounding.Flags.Gives, formats.Format.Format}
+use Rattle.apfloat_model.specs.{formats.Nan.is_signaling_nan, order.Classes.is_nan, order.Order.compared}
+use Rattle.apfloat_model.specs.formats.{Datum.Datum, Datum.finite, Datum.infinite, Datum.nan, Nan.invalid_if}
+use Rattle.ieee_operations.specs.{Relations.has, Predicates.relations_of, declared.predicates.Predicate.Predicate}
+use Rattle.ieee_operations.specs.declared.predicates.{OnNan.OnNan, OnNan.TheVariants.Quiet, OnNan.TheVariants.Signaling}
 
 -- a datum counted in a unit that divides its quantum and the quantum of the other format
 abbrev pub in_common_unit : Format → Datum → Datum

@@ -1,14 +1,9 @@
 -- Rounding to integral data and conversion to integers, with INEXACT and without it (IEEE 754-2019 5.8, 5.9).
 use Rattle.std.specs.Prelude.{◌≡◌, ℕ, ◌-◌, ◌^◌, Bool, true, ◌||◌, ℤ, pos, neg_ℤ, int_lt}
-use Rattle.apfloat_model.specs.declared.kinds.Round.{Round}
-use Rattle.apfloat_model.specs.declared.status.StatusAnd.{StatusAnd}
-use Rattle.apfloat_model.specs.formats.Format.{Format}
+use Rattle.apfloat_model.specs.{declared.kinds.Round.Round, declared.status.StatusAnd.StatusAnd, formats.Format.Format}
 use Rattle.apfloat_model.specs.formats.Datum.{Datum, finite, infinite, nan}
-use Rattle.apfloat_model.specs.formats.Nan.{IsOfNan, invalid_if}
-use Rattle.apfloat_model.specs.arithmetic.Exact.{signed}
-use Rattle.apfloat_model.specs.rounding.Answer.{IsAnswer}
-use Rattle.apfloat_model.specs.rounding.Flags.{Gives}
-use Rattle.apfloat_model.specs.rounding.Rounding.{ok_bits, signed_quanta}
+use Rattle.apfloat_model.specs.{formats.Nan.IsOfNan, formats.Nan.invalid_if, arithmetic.Exact.signed}
+use Rattle.apfloat_model.specs.rounding.{Answer.IsAnswer, Flags.Gives, Rounding.ok_bits, Rounding.signed_quanta}
 use Rattle.apfloat_model.specs.whole_numbers.WholeNumbers.{whole_pick, whole_quanta}
 use Rattle.apfloat_model.specs.whole_numbers.WholeNumbersOut.{Whole, whole_within}
 

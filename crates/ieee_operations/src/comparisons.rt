@@ -1,13 +1,12 @@
 //! The comparisons of two values of one format (IEEE 754-2019 5.6.1, 5.11).
 
 ghost use Rattle.std.specs.Prelude.{◌≡◌, IsTrue};
-ghost use Rattle.apfloat_model.specs.rounding.Flags.{Gives, bits_of};
-ghost use Rattle.apfloat_model.specs.formats.Nan.{invalid_if};
+ghost use Rattle.apfloat_model.specs.{rounding.Flags.Gives, rounding.Flags.bits_of, formats.Nan.invalid_if};
 ghost use Rattle.apfloat_ieee.specs.FlaggedTypes.{format_of};
 ghost use Rattle.ieee_operations.specs.declared.predicates.OnNan.TheVariants.{Quiet, Signaling};
-ghost use Rattle.ieee_operations.specs.declared.predicates.Predicate.TheVariants.{Equal, NotEqual, Unordered};
-ghost use Rattle.ieee_operations.specs.declared.predicates.Predicate.TheVariants.{Ordered, Greater, GreaterEqual};
-ghost use Rattle.ieee_operations.specs.declared.predicates.Predicate.TheVariants.{NotGreater, Less, LessEqual, NotLess};
+ghost use Rattle.ieee_operations.specs.declared.predicates.Predicate.TheVariants.{Equal, NotEqual, Unordered, Ordered};
+ghost use Rattle.ieee_operations.specs.declared.predicates.Predicate.TheVariants.{Greater, GreaterEqual, NotGreater};
+ghost use Rattle.ieee_operations.specs.declared.predicates.Predicate.TheVariants.{Less, LessEqual, NotLess};
 ghost use Rattle.ieee_operations.specs.declared.predicates.Predicate.TheVariants.{LessUnordered, GreaterUnordered};
 ghost use Rattle.ieee_operations.specs.Comparisons.{IsComparison, is_invalid};
 

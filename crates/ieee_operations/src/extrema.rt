@@ -3,13 +3,12 @@
 //! `minimum` and `maximum` of `Float` return no status, and a NaN unchanged.
 
 ghost use Rattle.std.specs.Prelude.{◌≡◌, true};
-ghost use Rattle.apfloat_model.specs.rounding.Flags.{Gives};
-ghost use Rattle.apfloat_model.specs.order.Classes.{is_nan};
+ghost use Rattle.apfloat_model.specs.{rounding.Flags.Gives, order.Classes.is_nan};
 ghost use Rattle.apfloat_ieee.specs.FlaggedTypes.{format_of};
 ghost use Rattle.ieee_operations.specs.declared.extrema.Extremum.TheVariants.{Minimum, Maximum, MinimumMagnitude};
 ghost use Rattle.ieee_operations.specs.declared.extrema.Extremum.TheVariants.{MaximumMagnitude};
-ghost use Rattle.ieee_operations.specs.Extrema.{IsExtremum, IsExtremumNumber, lesser, greater};
-ghost use Rattle.ieee_operations.specs.Extrema.{chosen, propagated, preferred, quieted_datum};
+ghost use Rattle.ieee_operations.specs.Extrema.{IsExtremum, IsExtremumNumber, lesser, greater, chosen, propagated};
+ghost use Rattle.ieee_operations.specs.Extrema.{preferred, quieted_datum};
 
 use crate::comparisons::{is_invalid, status_if};
 use crate::predicates::OnNan;

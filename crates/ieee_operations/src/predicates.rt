@@ -1,8 +1,7 @@
 //! The comparison predicates, and the relations that satisfy each.
 
 ghost use Rattle.std.specs.Prelude.{◌≡◌};
-ghost use Rattle.ieee_operations.specs.Predicates.{relations_of};
-ghost use Rattle.ieee_operations.specs.Relations.{has};
+ghost use Rattle.ieee_operations.specs.{Predicates.relations_of, Relations.has};
 
 use std::cmp::Ordering;
 

@@ -3,9 +3,8 @@
 ghost use Rattle.apfloat_model.specs.formats.Format.{Format};
 ghost use Rattle.ieee_operations.specs.Comparisons.{IsComparedOnce};
 ghost use Rattle.ieee_operations.specs.Exponents.{IsLogBOnce, IsIntegerLogBOnce, IsScaledOnce, IsScaledAlike};
-ghost use Rattle.ieee_operations.specs.TotalOrder.{HasTotalOrder};
-ghost use Rattle.ieee_operations.specs.TwoFormats.{IsComparedBetweenOnce, IsOrderOfOneFormat};
-ghost use Rattle.ieee_operations.specs.RaisedFlags.{OperationFlagsGoTogether};
+ghost use Rattle.ieee_operations.specs.{TotalOrder.HasTotalOrder, TwoFormats.IsComparedBetweenOnce};
+ghost use Rattle.ieee_operations.specs.{TwoFormats.IsOrderOfOneFormat, RaisedFlags.OperationFlagsGoTogether};
 ghost use Rattle.ieee_operations.specs.WholeNumbers.{IsRoundedToIntegralOnce, IsConvertedOnce, IsConvertedExactlyOnce};
 
 /// A comparison has one result and one status.

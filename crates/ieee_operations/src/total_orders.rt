@@ -2,11 +2,10 @@
 
 ghost use Rattle.std.specs.Prelude.{◌≡◌, ◌<◌, true};
 ghost use Rattle.apfloat_model.specs.order.Classes.{is_nan, is_negative};
-ghost use Rattle.apfloat_model.specs.bits.Layout.{trailing_bits};
+ghost use Rattle.apfloat_model.specs.{bits.Layout.trailing_bits, formats.Nan.nan_significand};
 ghost use Rattle.apfloat_ieee.specs.FlaggedTypes.{format_of};
-ghost use Rattle.ieee_operations.specs.TotalOrder.{total_order, total_order_mag, total_cmp};
-ghost use Rattle.ieee_operations.specs.TotalOrder.{numbers_in_order, nans_in_order, positive_nans_in_order};
-ghost use Rattle.apfloat_model.specs.formats.Nan.{nan_significand};
+ghost use Rattle.ieee_operations.specs.TotalOrder.{total_order, total_order_mag, total_cmp, numbers_in_order};
+ghost use Rattle.ieee_operations.specs.TotalOrder.{nans_in_order, positive_nans_in_order};
 
 use apfloat_base::Float;
 use apfloat_ieee::{Flagged, IeeeFloat};

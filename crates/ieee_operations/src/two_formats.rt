@@ -3,11 +3,8 @@
 ghost use Rattle.std.specs.Prelude.{◌≡◌, if◌then◌else◌};
 ghost use Rattle.std.specs.declared.cmp.Ordering.TheVariants.{Less, Greater};
 ghost use Rattle.std.specs.Ordering.{ordering_then};
-ghost use Rattle.apfloat_model.specs.declared.kinds.Category.TheVariants.{Normal};
-ghost use Rattle.apfloat_model.specs.rounding.Flags.{Gives};
-ghost use Rattle.apfloat_model.specs.formats.Datum.{infinite};
-ghost use Rattle.apfloat_model.specs.order.Classes.{category_of};
-ghost use Rattle.apfloat_model.specs.order.Order.{compared};
+ghost use Rattle.apfloat_model.specs.{declared.kinds.Category.TheVariants.Normal, rounding.Flags.Gives};
+ghost use Rattle.apfloat_model.specs.{formats.Datum.infinite, order.Classes.category_of, order.Order.compared};
 ghost use Rattle.apfloat_ieee.specs.FlaggedTypes.{format_of};
 ghost use Rattle.ieee_operations.specs.TwoFormats.{IsComparisonBetween, compared_between, is_invalid_between};
 

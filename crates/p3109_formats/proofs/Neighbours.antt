@@ -1,20 +1,19 @@
 -- The next values: their codes without a sign, with the sign of the number, are one more and one less.
-use Rattle.std.proofs.Common.{◌≡◌, ℕ, zero, suc, ◌+◌, ◌-◌, ◌*◌, ◌^◌, ◌<◌, ◌≤◌, Bool}
-use Rattle.std.proofs.Common.{true, false, cond, ◌&&◌, eqb, leb, ltb, sym, refl, ap, ◌∙◌, subst, ⊎_elim}
-use Rattle.std.proofs.Common.{arith, ℤ, pos, neg_ℤ, ◌+ℤ◌, ◌-ℤ◌, ◌≤ℤ◌, int_cmp, Some, None}
+use Rattle.std.proofs.Common.{◌≡◌, ℕ, zero, suc, ◌+◌, ◌-◌, ◌*◌, ◌^◌, ◌<◌, ◌≤◌, Bool, true, false, cond, ◌&&◌, eqb, leb}
+use Rattle.std.proofs.Common.{ltb, sym, refl, ap, ◌∙◌, subst, ⊎_elim, arith, ℤ, pos, neg_ℤ, ◌+ℤ◌, ◌-ℤ◌, ◌≤ℤ◌, int_cmp}
+use Rattle.std.proofs.{Common.Some, Common.None, lemmas.Int.ints, lemmas.Nat.mod_below, lemmas.Nat.pow_pos}
 use Rattle.std.proofs.lemmas.Bool.{and_parts, cases_eq, cases_lt, eq-eqb, false≢true, ne_eqb}
-use Rattle.std.proofs.lemmas.{Int.ints, Nat.mod_below, Nat.pow_pos}
+use Rattle.std.specs.{Cmp.int_cmp_is, Cmp.int_ranks, Ordering.MatchOrdering}
 use Rattle.std.specs.Prelude.{◌<ℤ◌}
 use Rattle.std.specs.declared.cmp.Ordering.{Ordering, TheVariants.Less}
-use Rattle.std.specs.{Cmp.int_cmp_is, Cmp.int_ranks, Ordering.MatchOrdering}
 use Rattle.apfloat_model.specs.{arithmetic.Exact.signed, formats.Datum.Datum, order.Order.compared}
-use Rattle.p3109_formats.specs.Laws.{AreNextValues, IsLess}
 use Rattle.p3109_formats.specs.{declared.descriptor.Descriptor.Descriptor, Projections.IsProjection}
+use Rattle.p3109_formats.specs.Laws.{AreNextValues, IsLess}
 use Rattle.p3109_formats.specs.Projections.{code_above, code_below, coded, is_negative_code, largest_index, last_index}
 use Rattle.p3109_formats.specs.Projections.{magnitude_of, nan_code, projected_datum, sign_bits, unsigned_codes}
-use Rattle.p3109_formats.proofs.Codes.{IsCodedBy, all_codes, apart, four_codes, minus_code, nan_at, plain_code}
 use Rattle.p3109_formats.proofs.{OneAnswer.parts_of_code, Order.at_most_past, Order.known_order, Order.left_nan}
 use Rattle.p3109_formats.proofs.{Order.right_nan, Values.largest_some}
+use Rattle.p3109_formats.proofs.Codes.{IsCodedBy, all_codes, apart, four_codes, minus_code, nan_at, plain_code}
 
 -- the code below the sign, with the sign
 abbrev pub rank_of : Descriptor → ℕ → ℤ

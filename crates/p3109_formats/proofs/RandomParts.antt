@@ -22,9 +22,15 @@ use Rattle.p3109_formats.proofs.OneAnswer.{point_pick_once}
 rest_stands : (q a u b s r : ℕ) (loss : Loss) → s ≡ q * u + b → r ≡ a * u + b → StandsFor q loss s u
     → StandsFor a loss r u
 rest_stands q a u b s r ExactlyZero e f h = omega (arith, e, f, h)
-rest_stands q a u b s r LessThanHalf e f h = let l = h.0 in let m = h.1 in (omega (arith, e, f, l), omega (arith, e, f, m))
+rest_stands q a u b s r LessThanHalf e f h =
+    let l = h.0 in
+    let m = h.1 in
+    (omega (arith, e, f, l), omega (arith, e, f, m))
 rest_stands q a u b s r ExactlyHalf e f h = omega (arith, e, f, h)
-rest_stands q a u b s r MoreThanHalf e f h = let l = h.0 in let m = h.1 in (omega (arith, e, f, l), omega (arith, e, f, m))
+rest_stands q a u b s r MoreThanHalf e f h =
+    let l = h.0 in
+    let m = h.1 in
+    (omega (arith, e, f, l), omega (arith, e, f, m))
 
 -- the parts of a rest, which has at least as many digits as they
 pub parts_kept : (number places digits high share amount parts : ℕ) (mode : Round) (loss : Loss) → digits ≤ places

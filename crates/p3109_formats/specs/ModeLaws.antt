@@ -28,7 +28,8 @@ AreCodePicksPicksBy =
 abbrev pub AreProjectionsOfModes : Type 0
 AreProjectionsOfModes =
     (c : Descriptor) (f : Format) (mode : Round) (x : Datum) (code status : ℕ) (loses : Bool)
-    → IsIntoProjectionBy c f (plain_rule (Ieee mode)) x code status loses → IsIntoProjection c f mode x code status loses
+    → IsIntoProjectionBy c f (plain_rule (Ieee mode)) x code status loses
+    → IsIntoProjection c f mode x code status loses
 
 -- as `AreRandomNumbersCounted`, between the points with the numbers `low` and `low + 1`
 abbrev pub AreRandomCodesCounted : Type 0

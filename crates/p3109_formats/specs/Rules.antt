@@ -1,16 +1,15 @@
 -- The rules of conversions into a format of P3109: how a number is rounded, and what becomes of what is past the
 -- largest one.
-use Rattle.std.specs.Prelude.{ℕ, ◌+◌, ◌-◌, ◌*◌, ◌/◌, ◌%◌, ◌^◌, Bool, true, false, leb, eqb}
-use Rattle.std.specs.Prelude.{if◌then◌else◌}
-use Rattle.apfloat_model.specs.declared.kinds.Round.{Round, TheVariants.NearestTiesToAway}
+use Rattle.std.specs.Prelude.{ℕ, ◌+◌, ◌-◌, ◌*◌, ◌/◌, ◌%◌, ◌^◌, Bool, true, false, leb, eqb, if◌then◌else◌}
 use Rattle.apfloat_model.specs.{declared.kinds.Round.TheVariants.NearestTiesToEven, formats.Datum.finite}
 use Rattle.apfloat_model.specs.{rounding.Rounding.inexact_bit, whole_numbers.WholeNumbers.whole_pick}
-use Rattle.small_formats.specs.declared.ConversionRound.{ConversionRound, TheVariants.Ieee}
+use Rattle.apfloat_model.specs.declared.kinds.Round.{Round, TheVariants.NearestTiesToAway}
 use Rattle.small_formats.specs.{declared.RandomDigits.RandomDigits, Codes.point, IndexPicks.IsIndexPick}
 use Rattle.small_formats.specs.{Modes.ieee_mode, PicksBy.IsPointPickBy}
+use Rattle.small_formats.specs.declared.ConversionRound.{ConversionRound, TheVariants.Ieee}
 use Rattle.p3109_formats.specs.declared.{descriptor.Descriptor.Descriptor, rules.ProjectionRound.ProjectionRound}
-use Rattle.p3109_formats.specs.declared.rules.ProjectionRound.TheVariants.{By, StochasticB, StochasticC}
 use Rattle.p3109_formats.specs.declared.rules.{ProjectionRule.ProjectionRule, Saturation.Saturation}
+use Rattle.p3109_formats.specs.declared.rules.ProjectionRound.TheVariants.{By, StochasticB, StochasticC}
 use Rattle.p3109_formats.specs.declared.rules.Saturation.TheVariants.{Overflow, Finite, Propagate}
 use Rattle.p3109_formats.specs.Projections.{IsCodeOf, IsInfinityOf, largest_index}
 

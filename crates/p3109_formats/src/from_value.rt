@@ -1,7 +1,6 @@
 //! Conversions of the values of a format into a format of IEEE P3109.
 
-ghost use Rattle.std.specs.Prelude.{◌≡◌, ℕ, ◌*◌, ◌^◌, ◌<◌, ◌≤◌, Bool, ◌&&◌, eqb, false};
-ghost use Rattle.std.specs.Prelude.{if◌then◌else◌, not, true};
+ghost use Rattle.std.specs.Prelude.{◌≡◌, ℕ, ◌*◌, ◌^◌, ◌<◌, ◌≤◌, Bool, ◌&&◌, eqb, false, if◌then◌else◌, not, true};
 ghost use Rattle.apfloat_model.specs.{formats.Datum.finite, order.Classes.quanta_of, order.Positive.IsPositive};
 ghost use Rattle.apfloat_model.specs.{rounding.Flags.Gives, rounding.Flags.bits_of, declared.kinds.Round.Round};
 ghost use Rattle.apfloat_ieee.specs.Types.{format_of};

@@ -1,7 +1,6 @@
 //! A value of a format of IEEE P3109.
 
-ghost use Rattle.std.specs.Prelude.{◌≡◌, ◌+◌, ◌%◌, ◌^◌, ◌<◌, ◌≤◌, if◌then◌else◌, eqb};
-ghost use Rattle.std.specs.Prelude.{true, false};
+ghost use Rattle.std.specs.Prelude.{◌≡◌, ◌+◌, ◌%◌, ◌^◌, ◌<◌, ◌≤◌, if◌then◌else◌, eqb, true, false};
 ghost use Rattle.apfloat_model.specs.{arithmetic.Exact.signed, formats.Datum.nan};
 ghost use Rattle.apfloat_model.specs.order.{Classes.category_of, Order.compared};
 ghost use Rattle.p3109_formats.specs.Types.{projection_of};

@@ -1,15 +1,11 @@
 -- Whether the last digit of a value is odd, from its significand.
-use Rattle.std.proofs.Common.{◌≡◌, ℕ, ◌+◌, ◌-◌, ◌*◌, ◌/◌, ◌%◌, ◌^◌, ◌<◌, ◌≤◌, ◌⊎◌, not, eqb, sym, refl, ap, ◌∙◌}
-use Rattle.std.proofs.Common.{inl, inr, ⊎_elim, arith, ℤ, pos, ◌+ℤ◌, ◌-ℤ◌, ◌≤ℤ◌}
+use Rattle.std.proofs.Common.{◌≡◌, ℕ, ◌+◌, ◌-◌, ◌*◌, ◌/◌, ◌%◌, ◌^◌, ◌<◌, ◌≤◌, ◌⊎◌, not, eqb, sym, refl, ap, ◌∙◌, inl}
+use Rattle.std.proofs.Common.{inr, ⊎_elim, arith, ℤ, pos, ◌+ℤ◌, ◌-ℤ◌, ◌≤ℤ◌}
 use Rattle.std.proofs.Math.Nat.{mul-mod_left, mul-div_cancel, mul-le-mul_left, mul-le-mul_right, eq_of_mul-eq-mul_right}
-use Rattle.std.proofs.lemmas.Bool.{cases_lt, ne_eqb, eq-eqb}
-use Rattle.std.proofs.lemmas.Int.{ints}
-use Rattle.std.proofs.lemmas.Nat.{pow_pos, div-add-mod'}
+use Rattle.std.proofs.lemmas.{Bool.cases_lt, Bool.ne_eqb, Bool.eq-eqb, Int.ints, Nat.pow_pos, Nat.div-add-mod'}
 use Rattle.apfloat_model.specs.arithmetic.Exact.{up, down}
-use Rattle.apfloat_model.specs.formats.Format.{Format}
-use Rattle.apfloat_model.specs.formats.Lawful.{Constants, IsLawful, format_with}
-use Rattle.apfloat_model.specs.rounding.Enclosure.{IsEnclosed}
-use Rattle.apfloat_model.specs.rounding.Grid.{IsAbove}
+use Rattle.apfloat_model.specs.formats.{Format.Format, Lawful.Constants, Lawful.IsLawful, Lawful.format_with}
+use Rattle.apfloat_model.specs.rounding.{Enclosure.IsEnclosed, Grid.IsAbove}
 use Rattle.apfloat_model.proofs.arithmetic.Signs.{one_side, up_none}
 use Rattle.apfloat_model.proofs.general.Powers.{exponent_below, twice_power}
 use Rattle.apfloat_model.proofs.rounding.Neighbours.{above_is_next, above_unique}

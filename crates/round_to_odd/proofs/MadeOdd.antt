@@ -1,22 +1,19 @@
 -- The answer toward zero, made odd, is the exact result rounded to odd.
-use Rattle.std.proofs.Common.{◌≡◌, ℕ, ◌+◌, ◌*◌, ◌<◌, ◌≤◌, Bool, true, false, ◌||◌, eqb, ltb, cond, if◌then◌else◌, sym}
-use Rattle.std.proofs.Common.{refl, ap, ◌∙◌, subst, ⊎_elim, arith}
-use Rattle.std.specs.Bool.{MatchBool}
+use Rattle.std.proofs.Common.{◌≡◌, ℕ, ◌+◌, ◌*◌, ◌<◌, ◌≤◌, Bool, true, false, ◌||◌, eqb}
+use Rattle.std.proofs.Common.{ltb, cond, if◌then◌else◌, sym, refl, ap, ◌∙◌, subst, ⊎_elim, arith}
 use Rattle.std.proofs.Math.Nat.{lt_of_mul-lt-mul_right}
-use Rattle.std.proofs.lemmas.Bool.{cases_lt, cases_eq, cases_Bool, lt-ltb, le-ltb, ne_eqb, eq-eqb, or_right, MatchBool-at_true, MatchBool-at_false}
-use Rattle.apfloat_model.specs.declared.kinds.Round.TheVariants.{TowardZero}
-use Rattle.apfloat_model.specs.declared.status.StatusAnd.{StatusAnd}
-use Rattle.apfloat_model.specs.formats.Format.{Format, largest}
-use Rattle.apfloat_model.specs.formats.Datum.{Datum, finite}
-use Rattle.apfloat_model.specs.rounding.Flags.{bits_of}
-use Rattle.apfloat_model.specs.rounding.Grid.{IsBelow, IsAbove}
-use Rattle.apfloat_model.specs.rounding.Rounding.{is_tiny, delivered_value, delivered_status, raises_overflow, signed_quanta, zero_sign, inexact_bit}
+use Rattle.std.proofs.lemmas.Bool.{cases_lt, cases_eq, cases_Bool, lt-ltb, le-ltb, ne_eqb, eq-eqb, or_right}
+use Rattle.std.proofs.lemmas.Bool.{MatchBool-at_true, MatchBool-at_false}
+use Rattle.std.specs.Bool.{MatchBool}
+use Rattle.apfloat_model.specs.declared.{kinds.Round.TheVariants.TowardZero, status.StatusAnd.StatusAnd}
+use Rattle.apfloat_model.specs.formats.{Format.Format, Format.largest, Datum.Datum, Datum.finite}
+use Rattle.apfloat_model.specs.rounding.{Flags.bits_of, Grid.IsBelow, Grid.IsAbove}
+use Rattle.apfloat_model.specs.rounding.Rounding.{is_tiny, delivered_value, delivered_status, raises_overflow}
+use Rattle.apfloat_model.specs.rounding.Rounding.{signed_quanta, zero_sign, inexact_bit}
 use Rattle.apfloat_model.proofs.general.Choices.{eqb_self, cond_same}
 use Rattle.apfloat_model.proofs.rounding.Deliveries.{signed_some, quanta_are}
-use Rattle.apfloat_model.proofs.rounding.Laws.{exact_above, below_le_above}
-use Rattle.apfloat_model.proofs.rounding.Neighbours.{above_unique}
-use Rattle.apfloat_model.proofs.rounding.FarMagnitudes.{largest_on_grid}
-use Rattle.apfloat_model.proofs.whole_numbers.SignedNumbers.{largest_some}
+use Rattle.apfloat_model.proofs.rounding.{Laws.exact_above, Laws.below_le_above, Neighbours.above_unique}
+use Rattle.apfloat_model.proofs.{rounding.FarMagnitudes.largest_on_grid, whole_numbers.SignedNumbers.largest_some}
 use Rattle.round_to_odd.specs.Odd.{is_odd_below, odd_between, has_flag, IsMadeOdd, IsMadeOddNumber, IsOddOfTruncated}
 
 -- the next point after the lower neighbour of a magnitude that is above it is the upper neighbour

@@ -1,19 +1,15 @@
 -- A nonzero value and its magnitude, the next value after that, and zeros.
-use Rattle.std.proofs.Common.{◌≡◌, ℕ, ◌+◌, ◌-◌, ◌^◌, ◌<◌, ◌≤◌, Bool, true, false, ◌||◌, eqb, if◌then◌else◌, sym, refl}
-use Rattle.std.proofs.Common.{ap, ◌∙◌, subst, arith}
+use Rattle.std.proofs.Common.{◌≡◌, ℕ, ◌+◌, ◌-◌, ◌^◌, ◌<◌, ◌≤◌, Bool, true, false}
+use Rattle.std.proofs.Common.{◌||◌, eqb, if◌then◌else◌, sym, refl, ap, ◌∙◌, subst, arith}
 use Rattle.std.proofs.lemmas.Bool.{MatchBool-at_false, eqb-true, ne_eqb, or_parts}
 use Rattle.apfloat_model.specs.declared.kinds.Category.TheVariants.{Normal, Zero}
 use Rattle.apfloat_model.specs.formats.Datum.{Datum, finite, infinite, nan}
 use Rattle.apfloat_model.specs.formats.Format.{Format, largest}
 use Rattle.apfloat_model.specs.arithmetic.NextUp.{IsNextUp, IsNextGreater, IsNextOfNumber}
 use Rattle.apfloat_model.specs.order.Classes.{category_of, is_negative, quanta_of}
-use Rattle.apfloat_model.specs.rounding.Grid.{IsOnGrid, IsAbove}
-use Rattle.apfloat_model.specs.rounding.Negation.{negated}
-use Rattle.apfloat_model.proofs.general.Choices.{not_zero, above_zero}
-use Rattle.apfloat_model.proofs.general.Powers.{twice_half}
-use Rattle.apfloat_model.proofs.rounding.Laws.{exact_above}
-use Rattle.apfloat_model.proofs.rounding.NeighboursExist.{above_exists}
-use Rattle.apfloat_model.proofs.rounding.FarMagnitudes.{power_on_grid}
+use Rattle.apfloat_model.specs.rounding.{Grid.IsOnGrid, Grid.IsAbove, Negation.negated}
+use Rattle.apfloat_model.proofs.general.{Choices.not_zero, Choices.above_zero, Powers.twice_half}
+use Rattle.apfloat_model.proofs.rounding.{Laws.exact_above, NeighboursExist.above_exists, FarMagnitudes.power_on_grid}
 use Rattle.apfloat_model.proofs.order.Categories.{zero_only, number_only}
 use Rattle.apfloat_model.proofs.whole_numbers.SignedNumbers.{largest_some}
 use Rattle.round_to_odd.specs.Odd.{is_odd_below, IsMadeOdd, IsMadeOddNumber}

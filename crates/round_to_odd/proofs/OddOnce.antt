@@ -1,15 +1,12 @@
 -- Rounding to odd, rounding again, and rounding to an odd integral datum have one answer each.
 use Rattle.std.proofs.Common.{◌≡◌, ℕ, sym, ap, ◌∙◌}
-use Rattle.apfloat_model.specs.declared.kinds.Round.TheVariants.{TowardZero}
-use Rattle.apfloat_model.specs.formats.Format.{Format}
+use Rattle.apfloat_model.specs.{declared.kinds.Round.TheVariants.TowardZero, formats.Format.Format}
 use Rattle.apfloat_model.specs.formats.Datum.{Datum, finite, infinite, nan}
-use Rattle.apfloat_model.specs.rounding.Flags.{bits_of}
-use Rattle.apfloat_model.specs.rounding.Rounding.{delivered_value, delivered_status}
+use Rattle.apfloat_model.specs.rounding.{Flags.bits_of, Rounding.delivered_value, Rounding.delivered_status}
 use Rattle.apfloat_model.proofs.Once.{Once, answer_once, conversion_once}
 use Rattle.apfloat_model.proofs.Determined.{same_answer, gives_once}
 use Rattle.apfloat_model.proofs.rounding.Neighbours.{below_unique, above_unique}
-use Rattle.round_to_odd.specs.Odd.{odd_between, IsToOddOnce}
-use Rattle.round_to_odd.specs.Again.{joined, IsRoundedAgainOnce}
+use Rattle.round_to_odd.specs.{Odd.odd_between, Odd.IsToOddOnce, Again.joined, Again.IsRoundedAgainOnce}
 use Rattle.round_to_odd.specs.Wholes.{IsRoundToOddIntegral, IsOddIntegralOnce}
 
 pub to_odd_once : IsToOddOnce

@@ -1,15 +1,13 @@
 -- A magnitude rounded to odd compares with each even multiple of the last place as the magnitude itself does.
-use Rattle.std.proofs.Common.{◌≡◌, ℕ, ◌+◌, ◌-◌, ◌*◌, ◌/◌, ◌%◌, ◌^◌, ◌<◌, ◌≤◌, ◌⊎◌, Bool, true, false, cond, eqb, sym, ap, ◌∙◌, subst, inl, inr, ⊎_elim, arith}
-use Rattle.std.proofs.Math.Nat.{mul-le-mul_left, mul-le-mul_right, lt_of_mul-lt-mul_right, eq_of_mul-eq-mul_right, mul-div_cancel, pow-le-pow_right}
-use Rattle.std.proofs.lemmas.Nat.{pow-add, pow_pos}
-use Rattle.std.proofs.lemmas.Bool.{cases_lt, eq-eqb, ne_eqb}
-use Rattle.apfloat_model.specs.rounding.Grid.{IsOnGrid, IsBelow, IsAbove}
-use Rattle.apfloat_model.specs.rounding.Enclosure.{IsEnclosed}
-use Rattle.apfloat_model.proofs.general.Choices.{cond_same}
-use Rattle.apfloat_model.proofs.general.Powers.{two_pos, twice_half, twice_power}
-use Rattle.apfloat_model.proofs.rounding.Laws.{exact_above}
-use Rattle.apfloat_model.proofs.rounding.Neighbours.{below_is, above_is_next, below_unique, above_unique}
-use Rattle.apfloat_model.proofs.rounding.NeighboursExist.{enclosed_at}
+use Rattle.std.proofs.Common.{◌≡◌, ℕ, ◌+◌, ◌-◌, ◌*◌, ◌/◌, ◌%◌, ◌^◌, ◌<◌, ◌≤◌}
+use Rattle.std.proofs.Common.{◌⊎◌, Bool, true, false, cond, eqb, sym, ap, ◌∙◌, subst, inl, inr, ⊎_elim}
+use Rattle.std.proofs.{Common.arith, Math.Nat.mul-le-mul_left, Math.Nat.mul-le-mul_right}
+use Rattle.std.proofs.Math.Nat.{lt_of_mul-lt-mul_right, eq_of_mul-eq-mul_right, mul-div_cancel, pow-le-pow_right}
+use Rattle.std.proofs.lemmas.{Nat.pow-add, Nat.pow_pos, Bool.cases_lt, Bool.eq-eqb, Bool.ne_eqb}
+use Rattle.apfloat_model.specs.rounding.{Grid.IsOnGrid, Grid.IsBelow, Grid.IsAbove, Enclosure.IsEnclosed}
+use Rattle.apfloat_model.proofs.general.{Choices.cond_same, Powers.two_pos, Powers.twice_half, Powers.twice_power}
+use Rattle.apfloat_model.proofs.rounding.{Laws.exact_above, Neighbours.below_is, Neighbours.above_is_next}
+use Rattle.apfloat_model.proofs.rounding.{Neighbours.below_unique, Neighbours.above_unique, NeighboursExist.enclosed_at}
 use Rattle.round_to_odd.specs.Odd.{is_odd_below, odd_between}
 
 -- ---- grids

@@ -1,19 +1,17 @@
 -- The largest value of a format that has room for another, rounded to that other format: what is delivered past the
 -- largest value, or, in the modes that do not lead out, the largest value.
-use Rattle.std.proofs.Common.{◌≡◌, ℕ, ◌+◌, ◌-◌, ◌*◌, ◌%◌, ◌^◌, ◌<◌, ◌≤◌, ◌⊎◌, Bool, true, false, eqb, ltb, leb, cond, sym, refl, ap, ◌∙◌, inl, inr, ⊎_elim, arith}
+use Rattle.std.proofs.Common.{◌≡◌, ℕ, ◌+◌, ◌-◌, ◌*◌, ◌%◌, ◌^◌, ◌<◌, ◌≤◌, ◌⊎◌, Bool, true, false, eqb, ltb, leb, cond}
+use Rattle.std.proofs.Common.{sym, refl, ap, ◌∙◌, inl, inr, ⊎_elim, arith}
 use Rattle.std.proofs.Math.Nat.{mul-le-mul_right, mul-le-mul_left, mul-pos, eq_of_mul-eq-mul_right}
-use Rattle.std.proofs.lemmas.Bool.{cases_lt, lt-ltb, le-ltb, lt-leb}
-use Rattle.std.proofs.lemmas.Nat.{pow-add, pow_pos}
-use Rattle.apfloat_model.specs.declared.kinds.Round.{Round}
-use Rattle.apfloat_model.specs.declared.kinds.Round.TheVariants.{NearestTiesToEven, TowardPositive, TowardNegative, TowardZero, NearestTiesToAway}
+use Rattle.std.proofs.lemmas.{Bool.cases_lt, Bool.lt-ltb, Bool.le-ltb, Bool.lt-leb, Nat.pow-add, Nat.pow_pos}
+use Rattle.apfloat_model.specs.declared.kinds.Round.{Round, TheVariants.NearestTiesToEven, TheVariants.TowardPositive}
+use Rattle.apfloat_model.specs.declared.kinds.Round.TheVariants.{TowardNegative, TowardZero, NearestTiesToAway}
 use Rattle.apfloat_model.specs.formats.Format.{Format, smallest_normalized, largest, greatest_significand}
 use Rattle.apfloat_model.specs.rounding.Enclosure.{IsEnclosed}
 use Rattle.apfloat_model.specs.rounding.Rounding.{takes_above, IsPick, is_tiny, rounds_below_normal, leads_out}
 use Rattle.apfloat_model.proofs.formats.Greatest.{greatest_fits, greatest_full}
-use Rattle.apfloat_model.proofs.general.Choices.{either_false}
-use Rattle.apfloat_model.proofs.general.Powers.{twice_half, half_at_most}
-use Rattle.apfloat_model.proofs.rounding.FarMagnitudes.{picks_past}
-use Rattle.apfloat_model.proofs.rounding.Picks.{inexact_pick, pick_unique}
+use Rattle.apfloat_model.proofs.general.{Choices.either_false, Powers.twice_half, Powers.half_at_most}
+use Rattle.apfloat_model.proofs.rounding.{FarMagnitudes.picks_past, Picks.inexact_pick, Picks.pick_unique}
 
 -- near the upper neighbour, a mode takes it exactly if it leads out of the finite numbers
 takes_out : (mode : Round) (negative odd : Bool) (x y : ℕ) → y < x

@@ -1,10 +1,9 @@
 -- Which built-in formats have room for others.
 use Rattle.std.proofs.Common.{◌≡◌, ℕ, ◌+◌, ◌≤◌, Bool, true, false, cond, refl, arith, lit≤}
-use Rattle.apfloat_model.specs.declared.kinds.NonfiniteBehavior.TheVariants.{IEEE754}
-use Rattle.apfloat_model.specs.formats.Formats.{half_constants, single_constants, double_constants, quad_constants, bfloat_constants}
+use Rattle.apfloat_model.specs.{declared.kinds.NonfiniteBehavior.TheVariants.IEEE754, formats.Formats.half_constants}
+use Rattle.apfloat_model.specs.formats.Formats.{single_constants, double_constants, quad_constants, bfloat_constants}
 use Rattle.apfloat_model.specs.formats.Formats.{e5m2_constants, e4m3fn_constants, e4m3fnuz_constants, x87_constants}
-use Rattle.apfloat_model.specs.formats.Lawful.{Constants, format_with}
-use Rattle.apfloat_model.specs.rounding.Standing.{reads_halves}
+use Rattle.apfloat_model.specs.{formats.Lawful.Constants, formats.Lawful.format_with, rounding.Standing.reads_halves}
 use Rattle.round_to_odd.specs.Rooms.{HaveRoom, AreRooms, HasNoRoom}
 
 at_most_an_eighth : (halves : Bool) → cond halves 3 2 ≤ 3

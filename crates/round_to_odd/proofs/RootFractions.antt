@@ -1,13 +1,9 @@
 -- A fraction that agrees with a square root, where both are multiplied by a number, and how both are delivered.
 use Rattle.std.proofs.Common.{◌≡◌, ℕ, ◌*◌, ◌<◌, false, ap, subst, lit<, arith}
 use Rattle.std.proofs.Math.Nat.{mul-lt-mul_of_pos_right, mul-pos, lt_of_mul-lt-mul_right}
-use Rattle.apfloat_model.specs.declared.kinds.Round.{Round}
-use Rattle.apfloat_model.specs.formats.Format.{Format}
-use Rattle.apfloat_model.specs.formats.Datum.{Datum}
-use Rattle.apfloat_model.specs.rounding.Rounding.{IsDelivered}
-use Rattle.apfloat_model.specs.arithmetic.Roots.{IsDeliveredRoot}
-use Rattle.apfloat_model.proofs.Once.{delivered_root_once}
-use Rattle.apfloat_model.proofs.rounding.Laws.{delivered_exists}
+use Rattle.apfloat_model.specs.{declared.kinds.Round.Round, formats.Format.Format, formats.Datum.Datum}
+use Rattle.apfloat_model.specs.{rounding.Rounding.IsDelivered, arithmetic.Roots.IsDeliveredRoot}
+use Rattle.apfloat_model.proofs.{Once.delivered_root_once, rounding.Laws.delivered_exists}
 use Rattle.apfloat_model.proofs.arithmetic.RootDeliveries.{root_delivered}
 use Rattle.apfloat_model.proofs.arithmetic.RootSides.{AgreesWithRoot, coarser, agreeing}
 

@@ -1,25 +1,17 @@
 -- A root that was rounded to odd, and rounded again to a format for which there is room, is rounded once. One fraction
 -- compares like the root with quarters of quanta of both formats, and of fractions that is known.
 use Rattle.std.proofs.Common.{◌≡◌, ℕ, ◌*◌, ◌^◌, ◌<◌, ◌≤◌, false, subst, arith}
-use Rattle.std.proofs.Math.Nat.{mul-pos}
-use Rattle.std.proofs.lemmas.Nat.{pow_pos}
-use Rattle.apfloat_model.specs.declared.kinds.Round.{Round}
-use Rattle.apfloat_model.specs.declared.kinds.Round.TheVariants.{TowardZero}
-use Rattle.apfloat_model.specs.declared.status.StatusAnd.{StatusAnd}
-use Rattle.apfloat_model.specs.formats.Format.{Format}
-use Rattle.apfloat_model.specs.formats.Datum.{Datum}
-use Rattle.apfloat_model.specs.rounding.Flags.{Gives, bits_of}
-use Rattle.apfloat_model.specs.rounding.Rounding.{IsDelivered}
+use Rattle.std.proofs.{Math.Nat.mul-pos, lemmas.Nat.pow_pos}
+use Rattle.apfloat_model.specs.declared.kinds.Round.{Round, TheVariants.TowardZero}
+use Rattle.apfloat_model.specs.{declared.status.StatusAnd.StatusAnd, formats.Format.Format, formats.Datum.Datum}
+use Rattle.apfloat_model.specs.rounding.{Flags.Gives, Flags.bits_of, Rounding.IsDelivered}
 use Rattle.apfloat_model.specs.arithmetic.Roots.{IsDeliveredRoot}
-use Rattle.apfloat_model.proofs.general.Choices.{not_zero}
-use Rattle.apfloat_model.proofs.arithmetic.RootDeliveries.{root_delivered}
+use Rattle.apfloat_model.proofs.{general.Choices.not_zero, arithmetic.RootDeliveries.root_delivered}
 use Rattle.apfloat_model.proofs.arithmetic.RootSides.{AgreesWithRoot, coarser, agreeing}
-use Rattle.round_to_odd.specs.Odd.{IsToOdd, IsAnswerMadeOdd}
-use Rattle.round_to_odd.specs.Again.{IsRoundedAgain, HasRoomFor}
+use Rattle.round_to_odd.specs.{Odd.IsToOdd, Odd.IsAnswerMadeOdd, Again.IsRoundedAgain, Again.HasRoomFor}
 use Rattle.round_to_odd.specs.Roots.{IsRootRoundedOnce, IsOwnRootRoundedOnce}
-use Rattle.round_to_odd.proofs.MadeOdd.{odd_of_truncated}
-use Rattle.round_to_odd.proofs.RoundedOnce.{rounded_once}
-use Rattle.round_to_odd.proofs.RootFractions.{scaled_agrees, moved_agrees, root_some, fraction_delivered, multiplied_root}
+use Rattle.round_to_odd.proofs.{MadeOdd.odd_of_truncated, RoundedOnce.rounded_once, RootFractions.scaled_agrees}
+use Rattle.round_to_odd.proofs.RootFractions.{moved_agrees, root_some, fraction_delivered, multiplied_root}
 
 -- Three digits at least, in the format with room.
 precise_too : (f g : Format) → 3 ≤ g.precision → HasRoomFor g f → 3 ≤ f.precision

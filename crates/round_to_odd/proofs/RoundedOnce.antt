@@ -1,34 +1,26 @@
 -- A result rounded to odd, and rounded again to a format for which there is room, is rounded once.
-use Rattle.std.proofs.Common.{◌≡◌, ℕ, ◌+◌, ◌-◌, ◌*◌, ◌^◌, ◌<◌, ◌≤◌, Bool, true, false, ◌||◌, eqb, ltb, cond, if◌then◌else◌, sym, refl, ap, ◌∙◌, subst, inl, inr, ⊎_elim, arith}
+use Rattle.std.proofs.Common.{◌≡◌, ℕ, ◌+◌, ◌-◌, ◌*◌, ◌^◌, ◌<◌, ◌≤◌, Bool, true, false, ◌||◌, eqb, ltb, cond}
+use Rattle.std.proofs.Common.{if◌then◌else◌, sym, refl, ap, ◌∙◌, subst, inl, inr, ⊎_elim, arith}
 use Rattle.std.proofs.Math.Nat.{mul-le-mul_right, mul-pos, eq_of_mul-eq-mul_right, pow-le-pow_right}
 use Rattle.std.proofs.lemmas.Bool.{cases_lt, cases_eq, lt-ltb, le-ltb, ne_eqb, eq-eqb, MatchBool-at_false}
 use Rattle.std.proofs.lemmas.Nat.{pow-add, pow_pos}
-use Rattle.apfloat_model.specs.declared.kinds.Round.{Round}
-use Rattle.apfloat_model.specs.declared.kinds.Round.TheVariants.{TowardZero}
-use Rattle.apfloat_model.specs.declared.kinds.NonfiniteBehavior.{NonfiniteBehavior}
-use Rattle.apfloat_model.specs.declared.kinds.NonfiniteBehavior.TheVariants.{IEEE754}
-use Rattle.apfloat_model.specs.declared.status.StatusAnd.{StatusAnd}
-use Rattle.apfloat_model.specs.formats.Format.{Format, largest, greatest_significand}
-use Rattle.apfloat_model.specs.formats.Datum.{Datum, finite}
-use Rattle.apfloat_model.specs.rounding.Flags.{Gives, bits_of}
-use Rattle.apfloat_model.specs.rounding.Grid.{IsOnGrid, IsBelow, IsAbove}
-use Rattle.apfloat_model.specs.rounding.Standing.{reads_halves}
-use Rattle.apfloat_model.specs.rounding.Rounding.{IsDelivered, is_tiny, delivered_value, delivered_status, leads_out, raises_overflow}
+use Rattle.apfloat_model.specs.{declared.status.StatusAnd.StatusAnd, formats.Format.Format}
+use Rattle.apfloat_model.specs.declared.kinds.Round.{Round, TheVariants.TowardZero}
+use Rattle.apfloat_model.specs.declared.kinds.NonfiniteBehavior.{NonfiniteBehavior, TheVariants.IEEE754}
+use Rattle.apfloat_model.specs.formats.{Format.largest, Format.greatest_significand, Datum.Datum, Datum.finite}
+use Rattle.apfloat_model.specs.rounding.{Flags.Gives, Flags.bits_of, Grid.IsOnGrid, Grid.IsBelow, Grid.IsAbove}
+use Rattle.apfloat_model.specs.rounding.{Standing.reads_halves, Rounding.IsDelivered, Rounding.is_tiny}
+use Rattle.apfloat_model.specs.rounding.Rounding.{delivered_value, delivered_status, leads_out, raises_overflow}
 use Rattle.apfloat_model.specs.arithmetic.Conversions.{IsConversion, IsConvertedNumber}
-use Rattle.apfloat_model.proofs.general.Choices.{not_zero}
-use Rattle.apfloat_model.proofs.general.Powers.{two_pos, twice_half}
-use Rattle.apfloat_model.proofs.formats.Greatest.{greatest_some}
-use Rattle.apfloat_model.proofs.rounding.Deliveries.{signed_some}
+use Rattle.apfloat_model.proofs.{formats.Greatest.greatest_some, rounding.Deliveries.signed_some}
+use Rattle.apfloat_model.proofs.general.{Choices.not_zero, Powers.two_pos, Powers.twice_half}
+use Rattle.apfloat_model.proofs.rounding.{Neighbours.none_between, ModesAgree.pick_on_grid}
 use Rattle.apfloat_model.proofs.rounding.FarMagnitudes.{IsFarAbove, picks_past, power_on_grid}
 use Rattle.apfloat_model.proofs.rounding.Laws.{zero_on_grid, delivered_exists, below_le_above}
-use Rattle.apfloat_model.proofs.rounding.Neighbours.{none_between}
-use Rattle.apfloat_model.proofs.rounding.ModesAgree.{pick_on_grid}
 use Rattle.round_to_odd.specs.Odd.{IsToOdd, is_odd_below, odd_between}
 use Rattle.round_to_odd.specs.Again.{joined, IsRoundedAgain, HasRoomFor, IsRoundedOnce}
+use Rattle.round_to_odd.proofs.{OddPoints.twice_on_grid, Sides.same_sides, SameDeliveries.same_delivered}
 use Rattle.round_to_odd.proofs.OddPoints.{AgreesAtEven, odd_agrees, odd_on_grid, wider_grid, moved_on_grid}
-use Rattle.round_to_odd.proofs.OddPoints.{twice_on_grid}
-use Rattle.round_to_odd.proofs.Sides.{same_sides}
-use Rattle.round_to_odd.proofs.SameDeliveries.{same_delivered}
 use Rattle.round_to_odd.proofs.PastLargest.{IsPickedAtEnd, picked_at_end, end_not_tiny}
 
 -- ---- flags

@@ -4,19 +4,15 @@ use Rattle.std.proofs.Common.{◌≡◌, ℕ, ◌+◌, ◌-◌, ◌*◌, ◌/◌
 use Rattle.std.proofs.Common.{ltb, leb, cond, if◌then◌else◌, sym, refl, ap, ◌∙◌, ⊎_elim, arith}
 use Rattle.std.proofs.lemmas.Bool.{cases_lt, eq-eqb, ne_eqb, lt-ltb, le-ltb, le-leb, lt-leb, leb-false, ltb-true}
 use Rattle.std.proofs.lemmas.Nat.{pow_pos}
-use Rattle.apfloat_model.specs.declared.kinds.Round.{Round}
-use Rattle.apfloat_model.specs.formats.Format.{Format, smallest_normalized, largest}
-use Rattle.apfloat_model.specs.formats.Datum.{Datum}
-use Rattle.apfloat_model.specs.rounding.Grid.{IsOnGrid, IsBelow, IsAbove}
-use Rattle.apfloat_model.specs.rounding.Standing.{reads_halves}
-use Rattle.apfloat_model.specs.rounding.Rounding.{takes_above, IsPick, IsDelivered, is_tiny, rounds_below_normal, delivered_status, raises_overflow, ok_bits, overflow_bit, underflow_bit, inexact_bit}
-use Rattle.apfloat_model.proofs.general.Powers.{twice_power}
+use Rattle.apfloat_model.specs.{declared.kinds.Round.Round, formats.Format.Format, formats.Format.smallest_normalized}
+use Rattle.apfloat_model.specs.{formats.Format.largest, formats.Datum.Datum, rounding.Grid.IsOnGrid}
+use Rattle.apfloat_model.specs.rounding.{Grid.IsBelow, Grid.IsAbove, Standing.reads_halves, Rounding.takes_above}
+use Rattle.apfloat_model.specs.rounding.Rounding.{IsPick, IsDelivered, is_tiny, rounds_below_normal, delivered_status}
+use Rattle.apfloat_model.specs.rounding.Rounding.{raises_overflow, ok_bits, overflow_bit, underflow_bit, inexact_bit}
+use Rattle.apfloat_model.proofs.general.{Powers.twice_power, Choices.where_open, Choices.by_order}
+use Rattle.apfloat_model.proofs.rounding.{FarMagnitudes.power_on_grid, ModesAgree.pick_on_grid}
 use Rattle.apfloat_model.proofs.rounding.Picks.{takes_less, takes_half, takes_more}
-use Rattle.apfloat_model.proofs.rounding.FarMagnitudes.{power_on_grid}
-use Rattle.apfloat_model.proofs.rounding.ModesAgree.{pick_on_grid}
-use Rattle.apfloat_model.proofs.general.Choices.{where_open, by_order}
-use Rattle.round_to_odd.proofs.OddPoints.{twice_on_grid, wider_grid, sum_on_grid}
-use Rattle.round_to_odd.proofs.Sides.{SameSides}
+use Rattle.round_to_odd.proofs.{OddPoints.twice_on_grid, OddPoints.wider_grid, OddPoints.sum_on_grid, Sides.SameSides}
 
 -- two magnitudes on the same side of the midpoint take the same neighbour
 pub takes_alike : (mode : Round) (negative odd : Bool) (low high x b y d : ℕ) → low * b ≤ x → x ≤ high * b

@@ -1,32 +1,26 @@
 -- Rounding to an odd integer, from the integers toward zero and away from zero.
-use Rattle.std.proofs.Common.{◌≡◌, ℕ, zero, suc, ◌+◌, ◌-◌, ◌*◌, ◌/◌, ◌%◌, ◌^◌, ◌<◌, ◌≤◌, Bool, true, false, not, ◌&&◌, eqb, cond, if◌then◌else◌, sym, refl, ap, ◌∙◌, subst, ⊎_elim, arith}
-use Rattle.std.proofs.Common.{ℤ, pos, negsuc, neg_ℤ, ◌≤ℤ◌}
-use Rattle.std.specs.Prelude.{unsigned_abs, int_lt, ◌<ℤ◌}
+use Rattle.std.proofs.Common.{◌≡◌, ℕ, zero, suc, ◌+◌, ◌-◌, ◌*◌, ◌/◌, ◌%◌, ◌^◌, ◌<◌}
+use Rattle.std.proofs.Common.{◌≤◌, Bool, true, false, not, ◌&&◌, eqb, cond, if◌then◌else◌, sym, refl}
+use Rattle.std.proofs.Common.{ap, ◌∙◌, subst, ⊎_elim, arith, ℤ, pos, negsuc, neg_ℤ, ◌≤ℤ◌}
 use Rattle.std.proofs.Math.Nat.{eq_of_mul-eq-mul_right}
-use Rattle.std.proofs.lemmas.Bool.{cases_lt, cases_Bool, eqb-true, eqb-false}
-use Rattle.std.proofs.lemmas.Int.{ints}
-use Rattle.std.proofs.lemmas.Nat.{pow_pos}
-use Rattle.apfloat_model.specs.declared.kinds.Round.{Round}
-use Rattle.apfloat_model.specs.declared.kinds.Round.TheVariants.{NearestTiesToEven, TowardZero, TowardPositive, TowardNegative}
-use Rattle.apfloat_model.specs.declared.kinds.Category.TheVariants.{Zero}
-use Rattle.apfloat_model.specs.formats.Datum.{Datum, finite, infinite, nan}
-use Rattle.apfloat_model.specs.formats.Format.{Format}
-use Rattle.apfloat_model.specs.formats.Members.{IsMember, IsFiniteOf}
-use Rattle.apfloat_model.specs.arithmetic.Exact.{signed, sign_of}
-use Rattle.apfloat_model.specs.arithmetic.Scaling.{IsScaling}
+use Rattle.std.proofs.lemmas.{Bool.cases_lt, Bool.cases_Bool, Bool.eqb-true, Bool.eqb-false, Int.ints, Nat.pow_pos}
+use Rattle.std.specs.Prelude.{unsigned_abs, int_lt, ◌<ℤ◌}
+use Rattle.apfloat_model.specs.declared.kinds.Round.{Round, TheVariants.NearestTiesToEven}
+use Rattle.apfloat_model.specs.declared.kinds.Round.TheVariants.{TowardZero, TowardPositive, TowardNegative}
+use Rattle.apfloat_model.specs.{declared.kinds.Category.TheVariants.Zero, formats.Datum.Datum, formats.Datum.finite}
+use Rattle.apfloat_model.specs.formats.{Datum.infinite, Datum.nan, Format.Format, Members.IsMember, Members.IsFiniteOf}
+use Rattle.apfloat_model.specs.arithmetic.{Exact.signed, Exact.sign_of, Scaling.IsScaling}
 use Rattle.apfloat_model.specs.order.Classes.{is_negative, is_integer, category_of}
-use Rattle.apfloat_model.specs.rounding.Grid.{IsOnGrid}
-use Rattle.apfloat_model.specs.rounding.Rounding.{ok_bits, signed_quanta}
+use Rattle.apfloat_model.specs.rounding.{Grid.IsOnGrid, Rounding.ok_bits, Rounding.signed_quanta}
 use Rattle.apfloat_model.specs.whole_numbers.WholeNumbers.{whole_pick, inexact_unless, IsRoundToIntegral}
-use Rattle.apfloat_model.specs.whole_numbers.WholeNumbersOut.{Whole, whole_within, ranged, exact_or_not, IsToUnsigned, IsToSigned}
-use Rattle.apfloat_model.proofs.general.Choices.{cond_same}
-use Rattle.apfloat_model.proofs.general.Powers.{twice_power}
-use Rattle.apfloat_model.proofs.rounding.Laws.{delivered_once, exact_delivered}
+use Rattle.apfloat_model.specs.whole_numbers.WholeNumbersOut.{Whole, whole_within, ranged, exact_or_not, IsToUnsigned}
+use Rattle.apfloat_model.specs.whole_numbers.WholeNumbersOut.{IsToSigned}
+use Rattle.apfloat_model.proofs.general.{Choices.cond_same, Powers.twice_power}
+use Rattle.apfloat_model.proofs.rounding.{Laws.delivered_once, Laws.exact_delivered, Deliveries.quanta_are}
 use Rattle.apfloat_model.proofs.whole_numbers.SignedTests.{less_so, less_not}
-use Rattle.round_to_odd.specs.Wholes.{odd_whole, odd_within, to_odd_unsigned, to_odd_signed, IsOddWhole, IsRoundToOddIntegral}
-use Rattle.apfloat_model.proofs.formats.LawfulRanges.{HasRanges}
-use Rattle.apfloat_model.proofs.rounding.Deliveries.{quanta_are}
-use Rattle.apfloat_model.proofs.order.Categories.{zero_only}
+use Rattle.apfloat_model.proofs.{formats.LawfulRanges.HasRanges, order.Categories.zero_only}
+use Rattle.round_to_odd.specs.Wholes.{odd_whole, odd_within, to_odd_unsigned, to_odd_signed, IsOddWhole}
+use Rattle.round_to_odd.specs.Wholes.{IsRoundToOddIntegral}
 use Rattle.round_to_odd.proofs.LastDigits.{half_is_whole}
 
 -- the mode that rounds away from zero on the side of that sign

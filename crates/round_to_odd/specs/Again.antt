@@ -2,15 +2,10 @@
 use Rattle.std.specs.Prelude.{◌≡◌, ℕ, ◌+◌, ◌*◌, ◌^◌, ◌<◌, ◌≤◌, Bool, if◌then◌else◌}
 use Rattle.std.specs.Int.RustNames.{bit_or}
 use Rattle.bitflags.specs.Sets.{without}
-use Rattle.apfloat_model.specs.declared.kinds.Round.{Round}
-use Rattle.apfloat_model.specs.declared.kinds.NonfiniteBehavior.TheVariants.{IEEE754}
-use Rattle.apfloat_model.specs.declared.status.StatusAnd.{StatusAnd}
-use Rattle.apfloat_model.specs.formats.Format.{Format}
-use Rattle.apfloat_model.specs.formats.Datum.{Datum}
-use Rattle.apfloat_model.specs.rounding.Flags.{Gives, bits_of}
-use Rattle.apfloat_model.specs.rounding.Standing.{reads_halves}
-use Rattle.apfloat_model.specs.rounding.Rounding.{IsDelivered, underflow_bit}
-use Rattle.apfloat_model.specs.arithmetic.Conversions.{IsConversion}
+use Rattle.apfloat_model.specs.declared.kinds.{Round.Round, NonfiniteBehavior.TheVariants.IEEE754}
+use Rattle.apfloat_model.specs.{declared.status.StatusAnd.StatusAnd, formats.Format.Format, formats.Datum.Datum}
+use Rattle.apfloat_model.specs.rounding.{Flags.Gives, Flags.bits_of, Standing.reads_halves, Rounding.IsDelivered}
+use Rattle.apfloat_model.specs.{rounding.Rounding.underflow_bit, arithmetic.Conversions.IsConversion}
 use Rattle.round_to_odd.specs.Odd.{IsToOdd}
 
 -- the flags of the second rounding, and those of the first but UNDERFLOW

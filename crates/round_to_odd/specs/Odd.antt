@@ -1,14 +1,11 @@
 -- Rounding to odd: an exact result becomes itself if the format has it, and otherwise the one of its two neighbours
 -- whose last digit is odd. IEEE 754-2019 has no such mode; a result rounded to odd can be rounded again (Again).
+use Rattle.std.specs.{Bool.MatchBool, Int.RustNames.bit_and}
 use Rattle.std.specs.Prelude.{◌≡◌, ℕ, ◌+◌, ◌-◌, ◌/◌, ◌%◌, Bool, not, ◌||◌, eqb, ◌==◌, if◌then◌else◌, ◌<◌, ◌≤◌}
-use Rattle.std.specs.Bool.{MatchBool}
-use Rattle.std.specs.Int.RustNames.{bit_and}
-use Rattle.apfloat_model.specs.declared.kinds.Round.TheVariants.{TowardZero}
-use Rattle.apfloat_model.specs.declared.status.StatusAnd.{StatusAnd}
+use Rattle.apfloat_model.specs.declared.{kinds.Round.TheVariants.TowardZero, status.StatusAnd.StatusAnd}
 use Rattle.apfloat_model.specs.formats.Format.{Format, largest}
 use Rattle.apfloat_model.specs.formats.Datum.{Datum, finite, infinite, nan}
-use Rattle.apfloat_model.specs.rounding.Flags.{Gives, bits_of}
-use Rattle.apfloat_model.specs.rounding.Grid.{IsBelow, IsAbove}
+use Rattle.apfloat_model.specs.rounding.{Flags.Gives, Flags.bits_of, Grid.IsBelow, Grid.IsAbove}
 use Rattle.apfloat_model.specs.rounding.Rounding.{delivered_value, delivered_status, inexact_bit, IsDelivered}
 
 -- whether the lower of two neighbours is an odd multiple of their distance

@@ -1,7 +1,7 @@
 -- Which built-in formats have room for others.
 use Rattle.std.specs.Prelude.{Bool}
-use Rattle.apfloat_model.specs.formats.Lawful.{Constants, format_with}
-use Rattle.apfloat_model.specs.formats.Formats.{half_constants, single_constants, double_constants, quad_constants, bfloat_constants}
+use Rattle.apfloat_model.specs.formats.{Lawful.Constants, Lawful.format_with, Formats.half_constants}
+use Rattle.apfloat_model.specs.formats.Formats.{single_constants, double_constants, quad_constants, bfloat_constants}
 use Rattle.apfloat_model.specs.formats.Formats.{e5m2_constants, e4m3fn_constants, e4m3fnuz_constants, x87_constants}
 use Rattle.round_to_odd.specs.Again.{HasRoomFor}
 

@@ -1,16 +1,11 @@
 -- Square roots that are rounded to odd, and rounded again to another format. A root need not be a fraction, so these
 -- statements begin with the answer toward zero, as `to_odd` does.
 use Rattle.std.specs.Prelude.{ℕ, ◌<◌, ◌≤◌, false}
-use Rattle.apfloat_model.specs.declared.kinds.Round.{Round}
-use Rattle.apfloat_model.specs.declared.kinds.Round.TheVariants.{TowardZero}
-use Rattle.apfloat_model.specs.declared.status.StatusAnd.{StatusAnd}
-use Rattle.apfloat_model.specs.formats.Format.{Format}
-use Rattle.apfloat_model.specs.formats.Datum.{Datum, finite}
-use Rattle.apfloat_model.specs.rounding.Flags.{Gives}
-use Rattle.apfloat_model.specs.arithmetic.Roots.{IsRoot}
+use Rattle.apfloat_model.specs.declared.kinds.Round.{Round, TheVariants.TowardZero}
+use Rattle.apfloat_model.specs.{declared.status.StatusAnd.StatusAnd, formats.Format.Format, formats.Datum.Datum}
+use Rattle.apfloat_model.specs.{formats.Datum.finite, rounding.Flags.Gives, arithmetic.Roots.IsRoot}
 use Rattle.apfloat_arithmetic.specs.other_formats.RootsOf.{IsRootTo}
-use Rattle.round_to_odd.specs.Odd.{IsAnswerMadeOdd}
-use Rattle.round_to_odd.specs.Again.{HasRoomFor, IsRoundedAgain}
+use Rattle.round_to_odd.specs.{Odd.IsAnswerMadeOdd, Again.HasRoomFor, Again.IsRoundedAgain}
 
 -- the root of a positive number of the format h, rounded to odd in f, and then to g, is that root rounded once to g
 abbrev pub IsRootRoundedOnce : Type 0

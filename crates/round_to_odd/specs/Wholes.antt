@@ -1,13 +1,9 @@
 -- Rounding to odd where the neighbours are integers: integers out, and rounding to an integral datum.
 use Rattle.std.specs.Prelude.{◌≡◌, ℕ, ◌+◌, ◌-◌, ◌*◌, ◌/◌, ◌%◌, ◌^◌, ◌&&◌, eqb, ℤ, pos, neg_ℤ, if◌then◌else◌}
-use Rattle.apfloat_model.specs.declared.status.StatusAnd.{StatusAnd}
-use Rattle.apfloat_model.specs.formats.Format.{Format}
+use Rattle.apfloat_model.specs.{declared.status.StatusAnd.StatusAnd, formats.Format.Format, formats.Nan.IsOfNan}
+use Rattle.apfloat_model.specs.{arithmetic.Exact.signed}
 use Rattle.apfloat_model.specs.formats.Datum.{Datum, finite, infinite, nan}
-use Rattle.apfloat_model.specs.formats.Nan.{IsOfNan}
-use Rattle.apfloat_model.specs.arithmetic.Exact.{signed}
-use Rattle.apfloat_model.specs.rounding.Answer.{IsAnswer}
-use Rattle.apfloat_model.specs.rounding.Flags.{Gives}
-use Rattle.apfloat_model.specs.rounding.Rounding.{ok_bits, signed_quanta}
+use Rattle.apfloat_model.specs.rounding.{Answer.IsAnswer, Flags.Gives, Rounding.ok_bits, Rounding.signed_quanta}
 use Rattle.apfloat_model.specs.whole_numbers.WholeNumbers.{inexact_unless}
 use Rattle.apfloat_model.specs.whole_numbers.WholeNumbersOut.{Whole, invalid_whole, exact_or_not, ranged}
 

@@ -1,11 +1,9 @@
 //! The second rounding of a result that was rounded to odd.
 
 ghost use Rattle.std.specs.Prelude.{◌≡◌, ◌*◌, ◌^◌, ◌<◌, ℕ, Bool};
-ghost use Rattle.apfloat_model.specs.rounding.Flags.{Gives, bits_of};
-ghost use Rattle.apfloat_model.specs.rounding.Rounding.{IsDelivered};
+ghost use Rattle.apfloat_model.specs.rounding.{Flags.Gives, Flags.bits_of, Rounding.IsDelivered};
 ghost use Rattle.apfloat_ieee.specs.FlaggedTypes.{format_of};
-ghost use Rattle.round_to_odd.specs.Odd.{IsToOdd};
-ghost use Rattle.round_to_odd.specs.Again.{IsRoundedAgain, HasRoomFor, joined};
+ghost use Rattle.round_to_odd.specs.{Odd.IsToOdd, Again.IsRoundedAgain, Again.HasRoomFor, Again.joined};
 
 use apfloat_base::{Flags, FloatConvert, Round, Status, StatusAnd};
 use apfloat_ieee::{Flagged, IeeeFloat};

@@ -1,12 +1,8 @@
 //! The last digit of a number, and a number with a sign.
 
 ghost use Rattle.std.specs.Prelude.{◌≡◌, ◌+◌, ◌^◌, ◌<◌, ℕ, false, pos, ◌+ℤ◌};
-ghost use Rattle.apfloat_model.specs.formats.Datum.{finite};
-ghost use Rattle.apfloat_model.specs.order.Classes.{quanta_of};
-ghost use Rattle.apfloat_model.specs.order.Positive.{IsPositive};
-ghost use Rattle.apfloat_model.specs.rounding.Bounds.{IsWithin};
-ghost use Rattle.apfloat_model.specs.rounding.Grid.{IsAbove};
-ghost use Rattle.apfloat_model.specs.rounding.Standing.{down};
+ghost use Rattle.apfloat_model.specs.{formats.Datum.finite, order.Classes.quanta_of, order.Positive.IsPositive};
+ghost use Rattle.apfloat_model.specs.rounding.{Bounds.IsWithin, Grid.IsAbove, Standing.down};
 ghost use Rattle.apfloat_ieee.specs.FlaggedTypes.{format_of};
 ghost use Rattle.round_to_odd.specs.Odd.{is_odd_below};
 

@@ -1,17 +1,12 @@
 //! An answer toward zero as the answer rounded to odd.
 
 ghost use Rattle.std.specs.Prelude.{◌≡◌, ◌+◌, ◌<◌, ◌||◌, ℕ, eqb};
-ghost use Rattle.apfloat_model.specs.declared.kinds.Category.TheVariants.{Normal};
-ghost use Rattle.apfloat_model.specs.declared.kinds.Round.TheVariants.{TowardZero};
-ghost use Rattle.apfloat_model.specs.formats.Format.{largest};
-ghost use Rattle.apfloat_model.specs.formats.Members.{IsMember};
-ghost use Rattle.apfloat_model.specs.order.Classes.{category_of, quanta_of};
-ghost use Rattle.apfloat_model.specs.rounding.Flags.{Gives};
-ghost use Rattle.apfloat_model.specs.rounding.Grid.{IsAbove};
-ghost use Rattle.apfloat_model.specs.rounding.Rounding.{IsDelivered};
+ghost use Rattle.apfloat_model.specs.declared.kinds.{Category.TheVariants.Normal, Round.TheVariants.TowardZero};
+ghost use Rattle.apfloat_model.specs.formats.{Format.largest, Members.IsMember};
+ghost use Rattle.apfloat_model.specs.order.{Classes.category_of, Classes.quanta_of, Positive.IsPositive};
+ghost use Rattle.apfloat_model.specs.rounding.{Flags.Gives, Grid.IsAbove, Rounding.IsDelivered};
 ghost use Rattle.apfloat_ieee.specs.FlaggedTypes.{format_of};
 ghost use Rattle.round_to_odd.specs.Odd.{IsToOdd, IsMadeOdd, IsAnswerMadeOdd, is_odd_below};
-ghost use Rattle.apfloat_model.specs.order.Positive.{IsPositive};
 
 use crate::numbers::{is_odd, with_sign};
 use apfloat_base::{Category, Flags, Float, Status, StatusAnd};

@@ -1,10 +1,8 @@
 //! Theorems about the definitions that the calls cite, as contracts of functions with empty bodies.
 
-ghost use Rattle.round_to_odd.specs.Odd.{IsOddOfTruncated, IsToOddOnce};
-ghost use Rattle.round_to_odd.specs.Again.{IsRoundedOnce, IsRoundedAgainOnce};
-ghost use Rattle.round_to_odd.specs.Roots.{IsRootRoundedOnce, IsOwnRootRoundedOnce};
-ghost use Rattle.round_to_odd.specs.Rooms.{AreRooms, HasNoRoom};
-ghost use Rattle.round_to_odd.specs.Wholes.{IsOddIntegralOnce};
+ghost use Rattle.round_to_odd.specs.{Odd.IsOddOfTruncated, Odd.IsToOddOnce, Again.IsRoundedOnce};
+ghost use Rattle.round_to_odd.specs.{Again.IsRoundedAgainOnce, Roots.IsRootRoundedOnce, Roots.IsOwnRootRoundedOnce};
+ghost use Rattle.round_to_odd.specs.{Rooms.AreRooms, Rooms.HasNoRoom, Wholes.IsOddIntegralOnce};
 
 /// What `to_odd` makes of an answer toward zero is the exact result rounded to odd.
 pub fn odd_of_truncated_is_odd()

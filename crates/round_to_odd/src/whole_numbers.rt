@@ -1,11 +1,9 @@
 //! Rounding to odd from integers, to integers and to integral values.
 
 ghost use Rattle.std.specs.Prelude.{◌≡◌, ◌*◌, ◌^◌, ◌<◌, ◌≤◌, ◌%◌, ℕ, Bool, eqb, not, pos, false, if◌then◌else◌};
+ghost use Rattle.apfloat_model.specs.{formats.Datum.finite, arithmetic.Exact.sign_of, arithmetic.Exact.magnitude};
+ghost use Rattle.apfloat_model.specs.{order.Classes.is_negative, rounding.Flags.Gives, rounding.Flags.bits_of};
 ghost use Rattle.apfloat_model.specs.declared.kinds.Round.TheVariants.{TowardPositive, TowardNegative};
-ghost use Rattle.apfloat_model.specs.formats.Datum.{finite};
-ghost use Rattle.apfloat_model.specs.arithmetic.Exact.{sign_of, magnitude};
-ghost use Rattle.apfloat_model.specs.order.Classes.{is_negative};
-ghost use Rattle.apfloat_model.specs.rounding.Flags.{Gives, bits_of};
 ghost use Rattle.apfloat_ieee.specs.FlaggedTypes.{format_of};
 ghost use Rattle.round_to_odd.specs.Odd.{IsToOdd};
 ghost use Rattle.round_to_odd.specs.Wholes.{IsOddWhole, IsRoundToOddIntegral, to_odd_unsigned, to_odd_signed};

@@ -1,16 +1,12 @@
 -- With two digits or more, the odd code has the odd significand.
-use Rattle.std.proofs.Common.{◌≡◌, ℕ, ◌+◌, ◌-◌, ◌*◌, ◌%◌, ◌^◌, ◌<◌, ◌≤◌, Bool, false, cond, eqb}
-use Rattle.std.proofs.Common.{sym, refl, ap, ◌∙◌, subst, arith}
-use Rattle.std.proofs.Math.Nat.{add-mul-mod_self_right}
+use Rattle.std.proofs.Common.{◌≡◌, ℕ, ◌+◌, ◌-◌, ◌*◌, ◌%◌, ◌^◌, ◌<◌, ◌≤◌, Bool, false, cond, eqb, sym, refl, ap, ◌∙◌}
+use Rattle.std.proofs.{Common.subst, Common.arith, Math.Nat.add-mul-mod_self_right}
 use Rattle.apfloat_model.specs.rounding.Enclosure.{IsEnclosed}
 use Rattle.apfloat_model.proofs.general.Powers.{twice_half}
-use Rattle.small_formats.specs.declared.modes.ConversionRound.{ConversionRound}
-use Rattle.small_formats.specs.Codes.{index_of, point}
-use Rattle.small_formats.specs.Modes.{IsPickBy, takes_next}
-use Rattle.small_formats.specs.PicksBy.{IsCodePickBy, moves}
-use Rattle.small_formats.proofs.ModePicks.{index_is, picked_between}
-use Rattle.small_formats.proofs.Points.{HasForm, at_index, at_next, form_of}
-use Rattle.small_formats.proofs.StoredPicks.{moved_point}
+use Rattle.small_formats.specs.{declared.modes.ConversionRound.ConversionRound, Codes.index_of, Codes.point}
+use Rattle.small_formats.specs.{Modes.IsPickBy, Modes.takes_next, PicksBy.IsCodePickBy, PicksBy.moves}
+use Rattle.small_formats.proofs.{ModePicks.index_is, ModePicks.picked_between, Points.HasForm, Points.at_index}
+use Rattle.small_formats.proofs.{Points.at_next, Points.form_of, StoredPicks.moved_point}
 
 -- the last digit of a significand is that of the index of its point
 last_digit : (p m c : ℕ) → 2 ≤ p → index_of p m c % 2 ≡ m % 2

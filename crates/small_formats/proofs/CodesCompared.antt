@@ -1,14 +1,10 @@
 -- Codes are in the order of the numbers that they mean.
-use Rattle.std.proofs.Common.{◌≡◌, ℕ, zero, suc, ◌+◌, ◌-◌, ◌<◌, ◌≤◌, Bool, true, false}
-use Rattle.std.proofs.Common.{ap, ◌∙◌, arith, eqb, sym, ℤ, pos, neg_ℤ}
+use Rattle.std.proofs.Common.{◌≡◌, ℕ, zero, suc, ◌+◌, ◌-◌, ◌<◌, ◌≤◌, Bool, true, false, ap}
+use Rattle.std.proofs.Common.{◌∙◌, arith, eqb, sym, ℤ, pos, neg_ℤ}
+use Rattle.std.proofs.lemmas.{Bool.eq-eqb, Bool.ne_eqb, Int.ints, Nat.pow_pos}
 use Rattle.std.specs.Prelude.{◌<ℤ◌}
-use Rattle.std.specs.declared.cmp.Ordering.{Ordering}
-use Rattle.std.specs.declared.cmp.Ordering.TheVariants.{Less, Equal, Greater}
-use Rattle.std.specs.Ordering.{int_cmp, MatchOrdering}
-use Rattle.std.specs.Cmp.{int_cmp_is, int_ranks}
-use Rattle.std.proofs.lemmas.Bool.{eq-eqb, ne_eqb}
-use Rattle.std.proofs.lemmas.Int.{ints}
-use Rattle.std.proofs.lemmas.Nat.{pow_pos}
+use Rattle.std.specs.declared.cmp.Ordering.{Ordering, TheVariants.Less, TheVariants.Equal, TheVariants.Greater}
+use Rattle.std.specs.{Ordering.int_cmp, Ordering.MatchOrdering, Cmp.int_cmp_is, Cmp.int_ranks}
 use Rattle.apfloat_model.specs.arithmetic.Exact.{signed}
 use Rattle.small_formats.specs.Codes.{point}
 use Rattle.small_formats.proofs.Points.{increasing, low_point, points_in_order}

@@ -1,17 +1,13 @@
 -- What a code means, in another format.
 use Rattle.std.proofs.Common.{◌≡◌, ℕ, ◌*◌, ◌^◌, ◌<◌, Bool, false, not, eqb, sym, refl, ap, ◌∙◌, subst, arith}
+use Rattle.std.proofs.lemmas.{Bool.eq-eqb, Bool.ne_eqb, Nat.pow_pos}
 use Rattle.std.specs.Bool.{MatchBool}
-use Rattle.std.proofs.lemmas.Bool.{eq-eqb, ne_eqb}
-use Rattle.std.proofs.lemmas.Nat.{pow_pos}
 use Rattle.apfloat_model.specs.declared.kinds.Round.{Round}
-use Rattle.apfloat_model.specs.arithmetic.Conversions.{IsConversion, IsConvertedNumber, IsKept}
-use Rattle.apfloat_model.specs.arithmetic.Conversions.{loses_zero_sign}
-use Rattle.apfloat_model.specs.formats.Datum.{Datum, finite}
-use Rattle.apfloat_model.specs.formats.Format.{Format}
+use Rattle.apfloat_model.specs.arithmetic.Conversions.{IsConversion, IsConvertedNumber, IsKept, loses_zero_sign}
+use Rattle.apfloat_model.specs.formats.{Datum.Datum, Datum.finite, Format.Format}
 use Rattle.apfloat_model.specs.rounding.Rounding.{IsDelivered, ok_bits, zero_sign}
+use Rattle.small_formats.specs.{Scales.scale_format, Scales.scale_of, Storage.StorageConstants, Storage.format_with}
 use Rattle.small_formats.specs.Codes.{datum_of, is_negative_code, magnitude_of, point}
-use Rattle.small_formats.specs.Scales.{scale_format, scale_of}
-use Rattle.small_formats.specs.Storage.{StorageConstants, format_with}
 use Rattle.small_formats.proofs.CodesCompared.{not_below_number, zero_point}
 
 -- ---- elements

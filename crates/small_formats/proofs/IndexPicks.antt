@@ -1,7 +1,6 @@
 -- A pick by indices has one answer where the points increase.
-use Rattle.std.proofs.Common.{◌≡◌, ℕ, ◌+◌, ◌*◌, ◌<◌, ◌≤◌, Bool, sym, ap, ◌∙◌, ⊎_elim, arith}
-use Rattle.std.proofs.Math.Nat.{mul-le-mul_right}
-use Rattle.std.proofs.lemmas.Bool.{cases_lt}
+use Rattle.std.proofs.Common.{◌≡◌, ℕ, ◌+◌, ◌*◌, ◌<◌, ◌≤◌, Bool, sym, ap, ◌∙◌, ⊎_elim}
+use Rattle.std.proofs.{Common.arith, Math.Nat.mul-le-mul_right, lemmas.Bool.cases_lt}
 use Rattle.small_formats.specs.IndexPicks.{IsIndexPick, index_between}
 
 -- a magnitude is between two points in one way

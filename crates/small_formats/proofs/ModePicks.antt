@@ -1,21 +1,15 @@
 -- The point that a mode of conversions picks, from the digits that a cut keeps; what is delivered for it.
-use Rattle.std.proofs.Common.{◌≡◌, ℕ, ◌+◌, ◌-◌, ◌*◌, ◌/◌, ◌%◌, ◌^◌, ◌<◌, ◌≤◌, Bool, false, cond, eqb}
-use Rattle.std.proofs.Common.{sym, ap, ◌∙◌, ⊎_elim, arith}
-use Rattle.std.proofs.Math.Nat.{mul-le-mul_right, mul-pos}
-use Rattle.std.proofs.lemmas.Bool.{cases_lt, eq-eqb, ne_eqb, MatchBool-at_false}
-use Rattle.std.proofs.lemmas.Nat.{pow_pos, div-add-mod', mod_below}
+use Rattle.std.proofs.Common.{◌≡◌, ℕ, ◌+◌, ◌-◌, ◌*◌, ◌/◌, ◌%◌, ◌^◌, ◌<◌, ◌≤◌}
+use Rattle.std.proofs.Common.{Bool, false, cond, eqb, sym, ap, ◌∙◌, ⊎_elim, arith}
+use Rattle.std.proofs.{Math.Nat.mul-le-mul_right, Math.Nat.mul-pos, lemmas.Bool.cases_lt, lemmas.Bool.eq-eqb}
+use Rattle.std.proofs.lemmas.{Bool.ne_eqb, Bool.MatchBool-at_false, Nat.pow_pos, Nat.div-add-mod', Nat.mod_below}
 use Rattle.apfloat_model.specs.rounding.Enclosure.{IsEnclosed}
 use Rattle.apfloat_model.proofs.general.Choices.{cond_times, cond_same}
-use Rattle.apfloat_model.proofs.rounding.KeptDigits.{same_unit}
-use Rattle.apfloat_model.proofs.rounding.Neighbours.{below_is, above_is_same, above_is_next}
-use Rattle.apfloat_model.proofs.rounding.Picks.{odd_is}
-use Rattle.small_formats.specs.declared.modes.ConversionRound.{ConversionRound}
-use Rattle.small_formats.specs.Codes.{point}
-use Rattle.small_formats.specs.IndexPicks.{index_between}
-use Rattle.small_formats.specs.ModeConversions.{IsSaturatedBy}
-use Rattle.small_formats.specs.Modes.{IsPickBy, ieee_mode, takes_next}
-use Rattle.small_formats.specs.Picks.{IsPointDelivered}
-use Rattle.small_formats.specs.PicksBy.{IsPointAt, moves}
+use Rattle.apfloat_model.proofs.rounding.{KeptDigits.same_unit, Neighbours.below_is, Neighbours.above_is_same}
+use Rattle.apfloat_model.proofs.rounding.{Neighbours.above_is_next, Picks.odd_is}
+use Rattle.small_formats.specs.{declared.modes.ConversionRound.ConversionRound, Codes.point, IndexPicks.index_between}
+use Rattle.small_formats.specs.{ModeConversions.IsSaturatedBy, Modes.IsPickBy, Modes.ieee_mode, Modes.takes_next}
+use Rattle.small_formats.specs.{Picks.IsPointDelivered, PicksBy.IsPointAt, PicksBy.moves}
 use Rattle.small_formats.specs.Storage.{StorageConstants, IsLawfulStorage}
 use Rattle.small_formats.proofs.MovesScaled.{moves_alike}
 

@@ -1,16 +1,13 @@
 -- Conversions by the modes of conversions have one answer, and those by the five modes are those of the model.
 use Rattle.std.proofs.Common.{◌≡◌, ℕ, zero, suc, ◌*◌, ◌^◌, ◌<◌, Bool, false, not, eqb, sym, ap, ◌∙◌, arith}
 use Rattle.std.proofs.lemmas.Bool.{ne_eqb, MatchBool-at_false}
-use Rattle.apfloat_model.specs.formats.Datum.{finite, infinite, nan}
-use Rattle.apfloat_model.specs.formats.Format.{Format}
+use Rattle.apfloat_model.specs.formats.{Datum.finite, Datum.infinite, Datum.nan, Format.Format}
 use Rattle.apfloat_model.specs.rounding.Rounding.{delivered_status, ok_bits}
 use Rattle.apfloat_model.proofs.general.Choices.{match_false}
 use Rattle.apfloat_model.proofs.rounding.Neighbours.{below_unique, above_unique}
-use Rattle.small_formats.specs.declared.modes.ConversionRound.{ConversionRound}
-use Rattle.small_formats.specs.declared.modes.ConversionRound.TheVariants.{Ieee}
+use Rattle.small_formats.specs.{ModeConversions.IsStoredBy, ModeLaws.IsIntoByOnce, ModeLaws.IsIntoOfModel}
+use Rattle.small_formats.specs.declared.modes.ConversionRound.{ConversionRound, TheVariants.Ieee}
 use Rattle.small_formats.specs.Conversions.{IsStoredNumber, saturated_value}
-use Rattle.small_formats.specs.ModeConversions.{IsStoredBy}
-use Rattle.small_formats.specs.ModeLaws.{IsIntoByOnce, IsIntoOfModel}
 use Rattle.small_formats.specs.Modes.{IsPickBy, ieee_mode, next_between}
 use Rattle.small_formats.specs.Storage.{StorageConstants, IsLawfulStorage, format_with}
 use Rattle.small_formats.proofs.OneAnswer.{AreSame, code_once, given_once}

@@ -1,13 +1,11 @@
 -- A common factor of both distances does not change which neighbour a mode of conversions takes.
-use Rattle.std.proofs.Common.{◌≡◌, ℕ, zero, suc, ◌+◌, ◌*◌, ◌/◌, ◌^◌, ◌<◌, Bool, false, cond, leb, eqb, sym, refl}
-use Rattle.std.proofs.Common.{ap, ◌∙◌, arith}
-use Rattle.std.proofs.Math.Nat.{mul-div-mul_right, mul-pos}
-use Rattle.std.proofs.lemmas.Bool.{eq-eqb, ne_eqb}
+use Rattle.std.proofs.Common.{◌≡◌, ℕ, zero, suc, ◌+◌, ◌*◌, ◌/◌, ◌^◌, ◌<◌, Bool, false, cond}
+use Rattle.std.proofs.Common.{leb, eqb, sym, refl, ap, ◌∙◌, arith}
+use Rattle.std.proofs.{Math.Nat.mul-div-mul_right, Math.Nat.mul-pos, lemmas.Bool.eq-eqb, lemmas.Bool.ne_eqb}
 use Rattle.apfloat_model.proofs.rounding.Picks.{takes_scaled}
 use Rattle.small_formats.specs.declared.modes.ConversionRound.{ConversionRound}
 use Rattle.small_formats.specs.declared.modes.ConversionRound.TheVariants.{Ieee, ToOdd, Stochastic}
-use Rattle.small_formats.specs.Modes.{takes_next, parts_above}
-use Rattle.small_formats.specs.PicksBy.{moves}
+use Rattle.small_formats.specs.{Modes.takes_next, Modes.parts_above, PicksBy.moves}
 
 pub parts_scaled : (digits x y w : ℕ) → 0 < w → parts_above digits (x * w) (y * w) ≡ parts_above digits x y
 parts_scaled digits x y w p =

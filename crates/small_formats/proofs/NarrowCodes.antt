@@ -1,23 +1,22 @@
 -- `e3m4` and the format with the same digits and one bit of exponent more: their codes and their roundings.
-use Rattle.std.proofs.Common.{◌≡◌, ℕ, zero, suc, ◌+◌, ◌-◌, ◌*◌, ◌/◌, ◌%◌, ◌^◌, ◌<◌, ◌≤◌, Bool, true, false, cond, not, eqb, ltb}
-use Rattle.std.proofs.Common.{sym, refl, ap, ◌∙◌, subst, inl, inr, ⊎_elim, arith, lit≤}
-use Rattle.std.proofs.Math.Nat.{mul-le-mul_left, mul-le-mul_right, pow-le-pow_right}
-use Rattle.std.proofs.lemmas.Bool.{cases_eq, cases_lt, eq-eqb, eqb-true, false≢true, le-ltb, lt-ltb, ltb-true, ne_eqb, MatchBool-at_false}
-use Rattle.apfloat_model.specs.declared.kinds.Round.{Round}
+use Rattle.std.proofs.Common.{◌≡◌, ℕ, zero, suc, ◌+◌, ◌-◌, ◌*◌, ◌/◌, ◌%◌, ◌^◌, ◌<◌}
+use Rattle.std.proofs.Common.{◌≤◌, Bool, true, false, cond, not, eqb, ltb, sym, refl, ap, ◌∙◌, subst, inl}
+use Rattle.std.proofs.{Common.inr, Common.⊎_elim, Common.arith, Common.lit≤, Math.Nat.mul-le-mul_left}
+use Rattle.std.proofs.{Math.Nat.mul-le-mul_right, Math.Nat.pow-le-pow_right, lemmas.Bool.cases_eq, lemmas.Bool.cases_lt}
+use Rattle.std.proofs.lemmas.Bool.{eq-eqb, eqb-true, false≢true, le-ltb, lt-ltb, ltb-true, ne_eqb, MatchBool-at_false}
 use Rattle.std.specs.Bool.{MatchBool}
-use Rattle.apfloat_model.specs.arithmetic.Conversions.{IsConversion, IsConvertedNumber, IsExactlyConverted, IsKept, loses_zero_sign}
+use Rattle.apfloat_model.specs.{declared.kinds.Round.Round, arithmetic.Conversions.IsConversion}
+use Rattle.apfloat_model.specs.arithmetic.Conversions.{IsConvertedNumber, IsExactlyConverted, IsKept, loses_zero_sign}
 use Rattle.apfloat_model.specs.bits.Interchange.{AreWithin, IsInterchange, bits_of_fields}
 use Rattle.apfloat_model.specs.bits.Layout.{Fields, IsEncodedBy, datum_of_fields, fields_of, implied_number}
-use Rattle.apfloat_model.specs.formats.Datum.{Datum, finite, infinite, nan}
-use Rattle.apfloat_model.specs.formats.Format.{Format}
+use Rattle.apfloat_model.specs.formats.{Datum.Datum, Datum.finite, Datum.infinite, Datum.nan, Format.Format}
 use Rattle.apfloat_model.specs.order.Classes.{is_finite, is_negative, quanta_of}
 use Rattle.apfloat_model.specs.rounding.Rounding.{IsDelivered, delivered_status, delivered_value, leads_out, zero_sign}
-use Rattle.apfloat_model.proofs.Once.{conversion_once}
-use Rattle.apfloat_model.proofs.bits.EncodedOnce.{encoded_once, fields_with}
+use Rattle.apfloat_model.proofs.{Once.conversion_once, bits.EncodedOnce.encoded_once, bits.EncodedOnce.fields_with}
 use Rattle.apfloat_model.proofs.bits.Encodings.{bits_back, fields_back, fields_within}
-use Rattle.apfloat_model.proofs.general.Powers.{two_pos}
-use Rattle.apfloat_model.proofs.general.Choices.{digit_low}
-use Rattle.small_formats.specs.Float8E3M4.{IsE3M4Once, IsNarrow, e3m4_datum, e3m4_format, e3m4_layout, narrowed, wide_datum, wide_format, wide_layout, widened}
+use Rattle.apfloat_model.proofs.general.{Powers.two_pos, Choices.digit_low}
+use Rattle.small_formats.specs.Float8E3M4.{IsE3M4Once, IsNarrow, e3m4_datum, e3m4_format, e3m4_layout, narrowed}
+use Rattle.small_formats.specs.Float8E3M4.{wide_datum, wide_format, wide_layout, widened}
 
 -- ---- fields
 

@@ -1,25 +1,17 @@
 -- Conversions into storage formats have one answer.
-use Rattle.std.proofs.Common.{◌≡◌, ℕ, zero, suc, ◌+◌, ◌-◌, ◌*◌, ◌%◌, ◌^◌, ◌<◌, ◌≤◌, Bool, true, false, cond}
-use Rattle.std.proofs.Common.{not, eqb, leb}
-use Rattle.std.proofs.Common.{sym, refl, ap, ◌∙◌, subst, ⊎_elim, arith, lit≤}
+use Rattle.std.proofs.Common.{◌≡◌, ℕ, zero, suc, ◌+◌, ◌-◌, ◌*◌, ◌%◌, ◌^◌, ◌<◌, ◌≤◌, Bool, true, false, cond, not, eqb}
+use Rattle.std.proofs.Common.{leb, sym, refl, ap, ◌∙◌, subst, ⊎_elim, arith, lit≤}
 use Rattle.std.proofs.Math.Nat.{mod-eq_of_lt, add-mul-mod_self_right}
 use Rattle.std.proofs.lemmas.Bool.{cases_lt, le-leb, lt-leb, ne_eqb, MatchBool-at_false}
+use Rattle.apfloat_model.specs.{order.Classes.is_negative, order.Classes.quanta_of, rounding.Rounding.delivered_status}
+use Rattle.apfloat_model.specs.{rounding.Rounding.ok_bits, arithmetic.Conversions.IsConversion}
 use Rattle.apfloat_model.specs.declared.kinds.Round.{Round}
-use Rattle.apfloat_model.specs.formats.Datum.{Datum, finite, infinite, nan}
-use Rattle.apfloat_model.specs.formats.Format.{Format}
-use Rattle.apfloat_model.specs.order.Classes.{is_negative, quanta_of}
-use Rattle.apfloat_model.specs.rounding.Rounding.{delivered_status, ok_bits}
-use Rattle.apfloat_model.proofs.general.Powers.{twice_half}
-use Rattle.apfloat_model.specs.arithmetic.Conversions.{IsConversion}
-use Rattle.apfloat_model.specs.bits.Interchange.{IsInterchange}
-use Rattle.apfloat_model.specs.bits.Layout.{IsEncodedBy}
-use Rattle.apfloat_model.proofs.Once.{conversion_once}
-use Rattle.apfloat_model.proofs.bits.EncodedOnce.{encoded_once}
+use Rattle.apfloat_model.specs.formats.{Datum.Datum, Datum.finite, Datum.infinite, Datum.nan, Format.Format}
+use Rattle.apfloat_model.specs.bits.{Interchange.IsInterchange, Layout.IsEncodedBy}
+use Rattle.apfloat_model.proofs.{general.Powers.twice_half, Once.conversion_once, bits.EncodedOnce.encoded_once}
 use Rattle.apfloat_model.proofs.rounding.Picks.{pick_unique}
-use Rattle.small_formats.specs.Codes.{datum_of}
+use Rattle.small_formats.specs.{Laws.IsCodeOnce, Laws.IsIntoOnce, Laws.IsUnsignedOnce, Scales.IsCode, Codes.datum_of}
 use Rattle.small_formats.specs.Conversions.{IsGiven, IsSaturated, IsStoredNumber, saturated_value}
-use Rattle.small_formats.specs.Laws.{IsCodeOnce, IsIntoOnce, IsUnsignedOnce}
-use Rattle.small_formats.specs.Scales.{IsCode}
 use Rattle.small_formats.specs.Storage.{StorageConstants, IsLawfulStorage, format_with}
 use Rattle.small_formats.specs.Unsigned.{signed_format, signed_layout, unsigned_datum}
 use Rattle.small_formats.proofs.Points.{one_number}

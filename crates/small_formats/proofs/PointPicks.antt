@@ -1,22 +1,16 @@
 -- The point that is picked, for each precision, from the digits that a cut keeps.
-use Rattle.std.proofs.Common.{◌≡◌, ℕ, ◌+◌, ◌-◌, ◌*◌, ◌/◌, ◌%◌, ◌^◌, ◌<◌, ◌≤◌, Bool, true, false, cond, eqb}
-use Rattle.std.proofs.Common.{sym, ap, ◌∙◌, subst, ⊎_elim, arith}
+use Rattle.std.proofs.Common.{◌≡◌, ℕ, ◌+◌, ◌-◌, ◌*◌, ◌/◌, ◌%◌, ◌^◌, ◌<◌, ◌≤◌}
+use Rattle.std.proofs.Common.{Bool, true, false, cond, eqb, sym, ap, ◌∙◌, subst, ⊎_elim, arith}
 use Rattle.std.proofs.Math.Nat.{mul-pos}
-use Rattle.std.proofs.lemmas.Bool.{cases_eq, eq-eqb, ne_eqb}
-use Rattle.std.proofs.lemmas.Nat.{pow_pos}
-use Rattle.apfloat_model.specs.declared.loss.Loss.{Loss}
-use Rattle.apfloat_model.specs.declared.loss.Loss.TheVariants.{ExactlyZero}
-use Rattle.apfloat_model.specs.rounding.Enclosure.{IsEnclosed}
-use Rattle.apfloat_model.specs.rounding.Standing.{StandsFor}
+use Rattle.std.proofs.lemmas.{Bool.cases_eq, Bool.eq-eqb, Bool.ne_eqb, Nat.pow_pos}
+use Rattle.apfloat_model.specs.declared.loss.Loss.{Loss, TheVariants.ExactlyZero}
+use Rattle.apfloat_model.specs.rounding.{Enclosure.IsEnclosed, Standing.StandsFor}
 use Rattle.apfloat_model.proofs.general.Choices.{match_true, match_false, off_both}
 use Rattle.apfloat_model.proofs.rounding.Losses.{stands_past, stands_to}
-use Rattle.small_formats.specs.declared.modes.ConversionRound.{ConversionRound}
-use Rattle.small_formats.specs.Codes.{index_of, point}
+use Rattle.small_formats.specs.{declared.modes.ConversionRound.ConversionRound, Codes.index_of, Codes.point}
 use Rattle.small_formats.specs.PicksBy.{IsCodePickBy, IsPointAt, IsPointPickBy, moves}
-use Rattle.small_formats.proofs.CodePicks.{code_picks_by}
-use Rattle.small_formats.proofs.ModePicks.{index_is, moves_kept, stays}
-use Rattle.small_formats.proofs.Points.{at_index, at_next}
-use Rattle.small_formats.proofs.StoredPicks.{exact_cases, moved_point}
+use Rattle.small_formats.proofs.{CodePicks.code_picks_by, ModePicks.index_is, ModePicks.moves_kept, ModePicks.stays}
+use Rattle.small_formats.proofs.{Points.at_index, Points.at_next, StoredPicks.exact_cases, StoredPicks.moved_point}
 
 -- with two digits or more, the odd number has the odd significand
 point_picked : (p : ℕ) (mode : ConversionRound) (negative : Bool) (amount parts index : ℕ) → 0 < p → 0 < parts

@@ -1,27 +1,18 @@
 -- The quotient of two numbers with 125 digits, in quanta of a third format.
-use Rattle.std.proofs.Common.{if◌then◌else◌}
-use Rattle.std.proofs.Common.{◌≡◌, ℕ, zero, suc, ◌+◌, ◌-◌, ◌*◌, ◌/◌, ◌^◌, ◌<◌, ◌≤◌, Bool, true, false, eqb, refl}
-use Rattle.std.proofs.Common.{sym, ap, ◌∙◌, subst, arith}
-use Rattle.std.proofs.Common.{ℤ, pos, ◌+ℤ◌, ◌-ℤ◌}
+use Rattle.std.proofs.Common.{if◌then◌else◌, ◌≡◌, ℕ, zero, suc, ◌+◌, ◌-◌, ◌*◌, ◌/◌, ◌^◌, ◌<◌, ◌≤◌, Bool, true, false}
+use Rattle.std.proofs.Common.{eqb, refl, sym, ap, ◌∙◌, subst, arith, ℤ, pos, ◌+ℤ◌, ◌-ℤ◌}
 use Rattle.std.proofs.Math.Nat.{mul-le-mul_right, mul-pos, eq_of_mul-eq-mul_right, le-div_iff_mul-le}
-use Rattle.std.proofs.lemmas.Bool.{eq-eqb, ne_eqb}
-use Rattle.std.proofs.lemmas.Int.{ints}
-use Rattle.std.proofs.lemmas.Nat.{pow-add, pow_pos}
-use Rattle.apfloat_model.specs.declared.kinds.Category.TheVariants.{Normal}
-use Rattle.apfloat_model.specs.declared.kinds.NonfiniteBehavior.{NonfiniteBehavior}
-use Rattle.apfloat_model.specs.declared.kinds.Round.{Round}
-use Rattle.apfloat_model.specs.declared.loss.Loss.{Loss}
+use Rattle.std.proofs.lemmas.{Bool.eq-eqb, Bool.ne_eqb, Int.ints, Nat.pow-add, Nat.pow_pos}
+use Rattle.apfloat_model.specs.declared.{kinds.Round.Round, loss.Loss.Loss}
+use Rattle.apfloat_model.specs.declared.kinds.{Category.TheVariants.Normal, NonfiniteBehavior.NonfiniteBehavior}
 use Rattle.apfloat_model.specs.formats.Datum.{Datum, finite, infinite, nan}
 use Rattle.apfloat_model.specs.order.Classes.{category_of, is_finite, is_negative, quanta_of}
-use Rattle.apfloat_model.specs.rounding.Negation.{negated}
-use Rattle.apfloat_model.specs.rounding.Rounding.{IsPick}
+use Rattle.apfloat_model.specs.rounding.{Negation.negated, Rounding.IsPick}
 use Rattle.apfloat_model.specs.rounding.Standing.{StandsFor, up, down}
-use Rattle.apfloat_model.proofs.arithmetic.Fractions.{quotient_carries}
-use Rattle.apfloat_model.proofs.rounding.KeptDigits.{stands_cancel, stands_times}
-use Rattle.apfloat_model.proofs.rounding.Laws.{exact_is_picked, zero_on_grid}
+use Rattle.apfloat_model.proofs.{arithmetic.Fractions.quotient_carries, rounding.KeptDigits.stands_cancel}
+use Rattle.apfloat_model.proofs.rounding.{KeptDigits.stands_times, Laws.exact_is_picked, Laws.zero_on_grid}
 use Rattle.apfloat_model.proofs.order.PositiveValues.{magnitude_is, some_quanta}
-use Rattle.small_formats.specs.Codes.{point}
-use Rattle.small_formats.specs.Picks.{IsPickedAt}
+use Rattle.small_formats.specs.{Codes.point, Picks.IsPickedAt}
 use Rattle.small_formats.proofs.CodesCompared.{zero_point}
 
 -- what stands for one of two equal fractions stands for the other

@@ -1,10 +1,8 @@
 -- A quotient in a storage format has one answer.
 use Rattle.std.proofs.Common.{ℕ, ◌+◌, ◌*◌, ◌^◌, ◌<◌}
-use Rattle.std.proofs.Math.Nat.{mul-pos, mul_comm}
-use Rattle.std.proofs.lemmas.Nat.{pow_pos}
+use Rattle.std.proofs.{Math.Nat.mul-pos, Math.Nat.mul_comm, lemmas.Nat.pow_pos}
 use Rattle.apfloat_model.specs.order.Classes.{is_negative, quanta_of}
-use Rattle.small_formats.specs.Quotients.{IsQuotientOnce, IsRatioOf}
-use Rattle.small_formats.specs.Storage.{format_with}
+use Rattle.small_formats.specs.{Quotients.IsQuotientOnce, Quotients.IsRatioOf, Storage.format_with}
 use Rattle.small_formats.proofs.OneAnswer.{saturated_once}
 
 pub quotient_once : IsQuotientOnce

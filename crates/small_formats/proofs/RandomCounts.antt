@@ -1,12 +1,10 @@
 -- How many random numbers take a magnitude to its upper neighbour, and that one which is a point stays.
-use Rattle.std.proofs.Common.{◌≡◌, ℕ, zero, suc, ◌+◌, ◌-◌, ◌*◌, ◌^◌, ◌<◌, ◌≤◌, Bool, true, false, cond}
-use Rattle.std.proofs.Common.{leb, ltb, sym, refl, ap, ◌∙◌, ⊎_elim, arith}
+use Rattle.std.proofs.Common.{◌≡◌, ℕ, zero, suc, ◌+◌, ◌-◌, ◌*◌, ◌^◌, ◌<◌, ◌≤◌, Bool}
+use Rattle.std.proofs.Common.{true, false, cond, leb, ltb, sym, refl, ap, ◌∙◌, ⊎_elim, arith}
 use Rattle.std.proofs.Math.Nat.{div-lt_iff_lt-mul, mul-lt-mul_of_pos_right}
-use Rattle.std.proofs.lemmas.Bool.{cases_lt, le-leb, lt-leb, lt-ltb, le-ltb}
-use Rattle.std.proofs.lemmas.Nat.{pow_pos}
+use Rattle.std.proofs.lemmas.{Bool.cases_lt, Bool.le-leb, Bool.lt-leb, Bool.lt-ltb, Bool.le-ltb, Nat.pow_pos}
 use Rattle.apfloat_model.specs.rounding.Grid.{IsBelow, IsAbove}
-use Rattle.apfloat_model.proofs.general.Choices.{cond_same}
-use Rattle.apfloat_model.proofs.rounding.Laws.{exact_below, exact_above}
+use Rattle.apfloat_model.proofs.{general.Choices.cond_same, rounding.Laws.exact_below, rounding.Laws.exact_above}
 use Rattle.apfloat_model.proofs.rounding.Neighbours.{below_unique, above_unique}
 use Rattle.small_formats.specs.declared.modes.ConversionRound.TheVariants.{Stochastic}
 use Rattle.small_formats.specs.ModeLaws.{AreRandomNumbersCounted, ArePicksOfModel, StaysExact, count_below}

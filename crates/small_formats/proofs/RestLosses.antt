@@ -1,21 +1,17 @@
 -- What the loss of a cut says of the rest, and how it decides the mode.
-use Rattle.std.proofs.Common.{◌≡◌, ℕ, ◌+◌, ◌-◌, ◌*◌, ◌/◌, ◌%◌, ◌^◌, ◌<◌, ◌≤◌, Bool, true, false, cond}
-use Rattle.std.proofs.Common.{sym, refl, ap, ◌∙◌, arith, subst, ⊎_elim, leb, not, ◌&&◌}
+use Rattle.std.proofs.Common.{◌≡◌, ℕ, ◌+◌, ◌-◌, ◌*◌, ◌/◌, ◌%◌, ◌^◌, ◌<◌, ◌≤◌, Bool, true, false, cond, sym, refl, ap}
+use Rattle.std.proofs.Common.{◌∙◌, arith, subst, ⊎_elim, leb, not, ◌&&◌}
 use Rattle.std.proofs.Math.Nat.{mul-div_cancel, mul-div-mul_right, mul-lt-mul_of_pos_right, mod-eq_of_lt}
 use Rattle.std.proofs.Math.Nat.{pow-le-pow_right, div-lt_iff_lt-mul}
 use Rattle.std.proofs.lemmas.Bool.{eq-eqb, ne_eqb, cases_lt, lt-leb}
 use Rattle.std.proofs.lemmas.Nat.{pow-add, pow_pos, mod_below, mod-pow-add, div-mul-add}
-use Rattle.apfloat_model.specs.declared.kinds.Round.{Round}
-use Rattle.apfloat_model.specs.declared.loss.Loss.{Loss}
+use Rattle.apfloat_model.specs.declared.{kinds.Round.Round, loss.Loss.Loss}
 use Rattle.apfloat_model.specs.declared.loss.Loss.TheVariants.{ExactlyZero, LessThanHalf, ExactlyHalf, MoreThanHalf}
-use Rattle.apfloat_model.specs.rounding.Enclosure.{rounds_up}
-use Rattle.apfloat_model.specs.rounding.Rounding.{takes_above}
-use Rattle.apfloat_model.specs.rounding.Standing.{StandsFor}
+use Rattle.apfloat_model.specs.rounding.{Enclosure.rounds_up, Rounding.takes_above, Standing.StandsFor}
 use Rattle.apfloat_model.proofs.general.Powers.{two_pos}
 use Rattle.apfloat_model.proofs.rounding.Picks.{takes_less, takes_half, takes_more}
+use Rattle.small_formats.specs.{declared.modes.RandomDigits.RandomDigits, Modes.parts_above, Modes.takes_next}
 use Rattle.small_formats.specs.declared.modes.ConversionRound.TheVariants.{Ieee, ToOdd, Stochastic}
-use Rattle.small_formats.specs.declared.modes.RandomDigits.{RandomDigits}
-use Rattle.small_formats.specs.Modes.{parts_above, takes_next}
 use Rattle.small_formats.specs.PicksBy.{moves}
 
 -- ---- nothing is lost exactly if the rest is 0

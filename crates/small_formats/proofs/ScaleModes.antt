@@ -1,21 +1,13 @@
 -- Conversions into scales have one answer.
-use Rattle.std.proofs.Common.{◌≡◌, ℕ, zero, suc, ◌*◌, ◌^◌, ◌<◌, ◌≤◌, Bool, true}
-use Rattle.std.proofs.Common.{false, not, eqb, sym, ap, ◌∙◌}
-use Rattle.std.proofs.Common.{inl, inr, arith}
-use Rattle.std.proofs.Math.Nat.{mul-le-mul_right}
-use Rattle.std.proofs.Math.Pow.{pow-lt}
-use Rattle.std.proofs.lemmas.Bool.{ne_eqb, MatchBool-at_false}
-use Rattle.std.proofs.lemmas.Nat.{pow_pos}
+use Rattle.std.proofs.Common.{◌≡◌, ℕ, zero, suc, ◌*◌, ◌^◌, ◌<◌, ◌≤◌, Bool, true, false, not, eqb, sym, ap, ◌∙◌, inl}
+use Rattle.std.proofs.{Common.inr, Common.arith, Math.Nat.mul-le-mul_right, Math.Pow.pow-lt}
+use Rattle.std.proofs.lemmas.{Bool.ne_eqb, Bool.MatchBool-at_false, Nat.pow_pos}
 use Rattle.apfloat_model.specs.declared.kinds.Round.{Round}
-use Rattle.apfloat_model.specs.formats.Datum.{Datum, finite, infinite, nan}
-use Rattle.apfloat_model.specs.formats.Format.{Format}
+use Rattle.apfloat_model.specs.formats.{Datum.Datum, Datum.finite, Datum.infinite, Datum.nan, Format.Format}
 use Rattle.apfloat_model.specs.rounding.Rounding.{ok_bits, takes_above}
-use Rattle.small_formats.specs.Laws.{IsScaleOnce}
-use Rattle.small_formats.specs.Modes.{ieee_mode, takes_next}
-use Rattle.small_formats.specs.ScaleModes.{IsScaleByOnce}
+use Rattle.small_formats.specs.{Laws.IsScaleOnce, Modes.ieee_mode, Modes.takes_next, ScaleModes.IsScaleByOnce}
 use Rattle.small_formats.specs.Scales.{IsPickedScale, IsScaleIn, IsScaleOf, delivered_code, scale_format, scale_status}
-use Rattle.small_formats.proofs.IndexPicks.{index_pick_once}
-use Rattle.small_formats.proofs.OneAnswer.{AreSame, scale_code_once}
+use Rattle.small_formats.proofs.{IndexPicks.index_pick_once, OneAnswer.AreSame, OneAnswer.scale_code_once}
 
 pub some_quanta : (n : ℕ) → eqb (suc n) 0 ≡ false
 some_quanta n = ne_eqb (suc n) 0 (λ e. omega (arith, e))

@@ -1,23 +1,15 @@
 -- The scale that is picked for a number, and what is delivered for it.
-use Rattle.std.proofs.Common.{◌≡◌, ℕ, ◌+◌, ◌-◌, ◌*◌, ◌/◌, ◌%◌, ◌^◌, ◌<◌, ◌≤◌, Bool, true, false, cond, eqb, ltb}
-use Rattle.std.proofs.Common.{sym, refl, ap, ◌∙◌, subst, inl, inr, arith, ℤ, pos, ◌+ℤ◌}
+use Rattle.std.proofs.{Math.Nat.pow-le-pow_right, lemmas.Bool.lt-ltb, lemmas.Bool.le-ltb}
+use Rattle.std.proofs.Common.{◌≡◌, ℕ, ◌+◌, ◌-◌, ◌*◌, ◌/◌, ◌%◌, ◌^◌, ◌<◌, ◌≤◌, Bool, true, false, cond, eqb, ltb, sym}
+use Rattle.std.proofs.Common.{refl, ap, ◌∙◌, subst, inl, inr, arith, ℤ, pos, ◌+ℤ◌}
 use Rattle.std.proofs.Math.Nat.{lt_of_mul-lt-mul_right, mul-lt-mul_of_pos_right, mul-le-mul_right, mul-pos}
-use Rattle.std.proofs.Math.Nat.{pow-le-pow_right}
-use Rattle.std.proofs.lemmas.Bool.{lt-ltb, le-ltb, eq-eqb, ne_eqb}
-use Rattle.std.proofs.lemmas.Nat.{pow-add, pow_pos, div-mul-add}
-use Rattle.std.proofs.lemmas.Int.{ints}
-use Rattle.apfloat_model.specs.declared.loss.Loss.{Loss}
-use Rattle.apfloat_model.specs.declared.loss.Loss.TheVariants.{ExactlyZero}
-use Rattle.apfloat_model.specs.rounding.Rounding.{leads_out}
-use Rattle.apfloat_model.specs.rounding.Standing.{StandsFor, up, down}
-use Rattle.apfloat_model.proofs.general.Powers.{two_pos}
-use Rattle.apfloat_model.proofs.rounding.KeptDigits.{kept_stands}
+use Rattle.std.proofs.lemmas.{Bool.eq-eqb, Bool.ne_eqb, Nat.pow-add, Nat.pow_pos, Nat.div-mul-add, Int.ints}
+use Rattle.apfloat_model.specs.declared.loss.Loss.{Loss, TheVariants.ExactlyZero}
+use Rattle.apfloat_model.specs.rounding.{Rounding.leads_out, Standing.StandsFor, Standing.up, Standing.down}
+use Rattle.apfloat_model.proofs.{general.Powers.two_pos, rounding.KeptDigits.kept_stands}
 use Rattle.apfloat_model.proofs.rounding.Losses.{stands_from, stands_past, stands_to}
-use Rattle.small_formats.specs.declared.modes.ConversionRound.{ConversionRound}
-use Rattle.small_formats.specs.IndexPicks.{IsIndexPick}
-use Rattle.small_formats.specs.Modes.{ieee_mode, takes_next}
-use Rattle.small_formats.specs.PicksBy.{moves}
-use Rattle.small_formats.specs.ScaleModes.{IsDeliveredScaleBy}
+use Rattle.small_formats.specs.{declared.modes.ConversionRound.ConversionRound, IndexPicks.IsIndexPick, Modes.ieee_mode}
+use Rattle.small_formats.specs.{Modes.takes_next, PicksBy.moves, ScaleModes.IsDeliveredScaleBy}
 use Rattle.small_formats.proofs.ModePicks.{code_between, moves_kept, stays}
 
 -- ---- below the least scale

@@ -1,14 +1,11 @@
 -- Codes by their signs and magnitudes, and numbers in the quanta of another format.
-use Rattle.std.proofs.Common.{◌≡◌, ℕ, ◌+◌, ◌-◌, ◌*◌, ◌%◌, ◌^◌, ◌<◌, Bool, true, false, cond, leb}
-use Rattle.std.proofs.Common.{ap, ◌∙◌, arith, ℤ, pos, ◌+ℤ◌, ◌-ℤ◌}
+use Rattle.std.proofs.Common.{◌≡◌, ℕ, ◌+◌, ◌-◌, ◌*◌, ◌%◌, ◌^◌, ◌<◌, Bool, true, false}
+use Rattle.std.proofs.Common.{cond, leb, ap, ◌∙◌, arith, ℤ, pos, ◌+ℤ◌, ◌-ℤ◌}
 use Rattle.std.proofs.Math.Nat.{mod-eq_of_lt, add-mul-mod_self_right}
-use Rattle.std.proofs.lemmas.Bool.{le-leb, lt-leb}
-use Rattle.std.proofs.lemmas.Int.{ints}
-use Rattle.apfloat_model.specs.formats.Datum.{finite}
-use Rattle.apfloat_model.specs.rounding.Standing.{up, down}
+use Rattle.std.proofs.lemmas.{Bool.le-leb, Bool.lt-leb, Int.ints}
+use Rattle.apfloat_model.specs.{formats.Datum.finite, rounding.Standing.up, rounding.Standing.down}
 use Rattle.apfloat_model.proofs.arithmetic.SingleScalings.{scaled_stands}
-use Rattle.small_formats.specs.Codes.{datum_of, magnitude_of, point}
-use Rattle.small_formats.specs.Storage.{StorageConstants}
+use Rattle.small_formats.specs.{Codes.datum_of, Codes.magnitude_of, Codes.point, Storage.StorageConstants}
 
 -- ---- codes
 

@@ -1,22 +1,15 @@
 -- The point that is picked, from the digits that a cut keeps; what is delivered for it.
-use Rattle.std.proofs.Common.{◌≡◌, ℕ, ◌+◌, ◌-◌, ◌*◌, ◌%◌, ◌^◌, ◌<◌, ◌≤◌, ◌⊎◌, Bool, true, false, cond, eqb, ltb}
-use Rattle.std.proofs.Common.{sym, refl, ap, ◌∙◌, subst, inl, inr, ⊎_elim, arith}
-use Rattle.std.proofs.lemmas.Bool.{cases_lt, lt-ltb, le-ltb, eq-eqb, ne_eqb}
-use Rattle.std.proofs.lemmas.Nat.{pow-add, pow_pos}
-use Rattle.apfloat_model.specs.declared.kinds.Round.{Round}
-use Rattle.apfloat_model.specs.declared.loss.Loss.{Loss}
-use Rattle.apfloat_model.specs.declared.loss.Loss.TheVariants.{ExactlyZero}
-use Rattle.apfloat_model.specs.formats.Datum.{finite}
-use Rattle.apfloat_model.specs.formats.Format.{largest}
-use Rattle.apfloat_model.specs.rounding.Enclosure.{IsEnclosed, rounds_up}
-use Rattle.apfloat_model.specs.rounding.Rounding.{IsPick, leads_out}
-use Rattle.apfloat_model.specs.rounding.Standing.{StandsFor}
+use Rattle.std.proofs.Common.{◌≡◌, ℕ, ◌+◌, ◌-◌, ◌*◌, ◌%◌, ◌^◌, ◌<◌, ◌≤◌}
+use Rattle.std.proofs.Common.{◌⊎◌, Bool, true, false, cond, eqb, ltb, sym, refl, ap, ◌∙◌, subst, inl, inr}
+use Rattle.std.proofs.{Common.⊎_elim, Common.arith, lemmas.Bool.cases_lt}
+use Rattle.std.proofs.lemmas.{Bool.lt-ltb, Bool.le-ltb, Bool.eq-eqb, Bool.ne_eqb, Nat.pow-add, Nat.pow_pos}
+use Rattle.apfloat_model.specs.declared.{kinds.Round.Round, loss.Loss.Loss, loss.Loss.TheVariants.ExactlyZero}
+use Rattle.apfloat_model.specs.{formats.Datum.finite, formats.Format.largest, rounding.Enclosure.IsEnclosed}
+use Rattle.apfloat_model.specs.rounding.{Enclosure.rounds_up, Rounding.IsPick, Rounding.leads_out, Standing.StandsFor}
 use Rattle.apfloat_model.proofs.general.Powers.{twice_half}
-use Rattle.apfloat_model.proofs.rounding.Deliveries.{exact_if, inexact_if}
-use Rattle.apfloat_model.proofs.rounding.Picks.{pick_is}
+use Rattle.apfloat_model.proofs.rounding.{Deliveries.exact_if, Deliveries.inexact_if, Picks.pick_is}
 use Rattle.small_formats.specs.Codes.{datum_of, index_of, largest_index, point}
-use Rattle.small_formats.specs.Conversions.{IsSaturated}
-use Rattle.small_formats.specs.Picks.{IsPickedAt, IsPointDelivered}
+use Rattle.small_formats.specs.{Conversions.IsSaturated, Picks.IsPickedAt, Picks.IsPointDelivered}
 use Rattle.small_formats.specs.Storage.{StorageConstants, IsLawfulStorage, format_with}
 use Rattle.small_formats.proofs.Points.{at_index, at_next, low_point, points_in_order}
 

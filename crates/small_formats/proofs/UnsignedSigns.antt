@@ -1,12 +1,10 @@
 -- A value that is not below zero keeps no sign when it is converted into `e4m3fn`.
 use Rattle.std.proofs.Common.{◌≡◌, ℕ, zero, suc, Bool, true, false, cond, eqb, ltb, refl, ap, ◌∙◌, arith}
 use Rattle.std.proofs.lemmas.Bool.{ne_eqb, MatchBool-at_false}
-use Rattle.apfloat_model.specs.declared.kinds.Round.{Round}
-use Rattle.apfloat_model.specs.arithmetic.Conversions.{IsConversion, IsConvertedNumber}
-use Rattle.apfloat_model.specs.formats.Datum.{Datum, finite, infinite, nan}
-use Rattle.apfloat_model.specs.formats.Format.{Format, largest, nan_base}
-use Rattle.apfloat_model.specs.order.Classes.{is_finite, is_negative}
-use Rattle.apfloat_model.specs.rounding.Rounding.{leads_out}
+use Rattle.apfloat_model.specs.{declared.kinds.Round.Round, arithmetic.Conversions.IsConversion}
+use Rattle.apfloat_model.specs.{arithmetic.Conversions.IsConvertedNumber, formats.Datum.Datum, formats.Datum.finite}
+use Rattle.apfloat_model.specs.formats.{Datum.infinite, Datum.nan, Format.Format, Format.largest, Format.nan_base}
+use Rattle.apfloat_model.specs.{order.Classes.is_finite, order.Classes.is_negative, rounding.Rounding.leads_out}
 use Rattle.small_formats.specs.Unsigned.{signed_format}
 
 pub kept_sign : (past leads none negative : Bool) (base most quanta : ℕ)

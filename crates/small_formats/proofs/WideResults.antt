@@ -1,66 +1,49 @@
 -- A result toward zero in a wider format, made odd and then rounded to the storage format, is the exact result rounded
 -- once.
-use Rattle.std.proofs.Common.{◌≡◌, ℕ, ◌+◌, ◌-◌, ◌*◌, ◌^◌, ◌<◌, ◌≤◌, Bool, true, false}
-use Rattle.std.proofs.Common.{if◌then◌else◌, sym, refl, ap, ◌∙◌, subst, ⊎_elim, lit<, arith, zero, suc}
-use Rattle.std.proofs.Common.{cond, eqb, ltb, not}
-use Rattle.std.specs.Prelude.{ℤ, pos, negsuc, ◌+ℤ◌, ◌*ℤ◌}
+use Rattle.std.proofs.Common.{◌≡◌, ℕ, ◌+◌, ◌-◌, ◌*◌, ◌^◌, ◌<◌, ◌≤◌, Bool, true, false, if◌then◌else◌, sym, refl, ap}
+use Rattle.std.proofs.Common.{◌∙◌, subst, ⊎_elim, lit<, arith, zero, suc, cond, eqb, ltb, not}
 use Rattle.std.proofs.Math.Nat.{eq_of_mul-eq-mul_right, le_of_mul-le-mul_right, lt_of_mul-lt-mul_right, mul-pos}
 use Rattle.std.proofs.Math.Nat.{mul-le-mul_right, pow-le-pow_right}
+use Rattle.std.proofs.lemmas.{Bool.false≢true, Int.ints, Nat.mod_below, Nat.pow-add, Nat.pow_pos}
 use Rattle.std.proofs.lemmas.Bool.{cases_eq, cases_lt, eq-eqb, eqb-true, le-ltb, lt-ltb, ne_eqb, MatchBool-at_false}
-use Rattle.std.proofs.lemmas.Bool.{false≢true}
+use Rattle.std.specs.Prelude.{ℤ, pos, negsuc, ◌+ℤ◌, ◌*ℤ◌}
 use Rattle.std.specs.Bool.{MatchBool}
-use Rattle.std.proofs.lemmas.Int.{ints}
-use Rattle.std.proofs.lemmas.Nat.{mod_below, pow-add, pow_pos}
-use Rattle.apfloat_model.specs.declared.kinds.NonfiniteBehavior.{NonfiniteBehavior}
-use Rattle.apfloat_model.specs.declared.kinds.NonfiniteBehavior.TheVariants.{IEEE754}
-use Rattle.apfloat_model.specs.declared.kinds.Round.{Round}
-use Rattle.apfloat_model.specs.declared.kinds.Round.TheVariants.{TowardZero}
-use Rattle.apfloat_model.specs.declared.status.StatusAnd.{StatusAnd}
-use Rattle.apfloat_model.specs.arithmetic.Conversions.{IsExactlyConverted}
+use Rattle.apfloat_model.specs.{declared.status.StatusAnd.StatusAnd, arithmetic.Conversions.IsExactlyConverted}
+use Rattle.apfloat_model.specs.declared.kinds.NonfiniteBehavior.{NonfiniteBehavior, TheVariants.IEEE754}
+use Rattle.apfloat_model.specs.declared.kinds.Round.{Round, TheVariants.TowardZero}
 use Rattle.apfloat_model.specs.arithmetic.Exact.{IsRounded, magnitude, product_sign, sign_of, signed, zero_sum_sign}
 use Rattle.apfloat_model.specs.arithmetic.FusedSums.{IsFusedSum, fused_sum}
 use Rattle.apfloat_model.specs.arithmetic.Products.{IsProduct, product as product_of}
 use Rattle.apfloat_model.specs.arithmetic.Quotients.{IsQuotient, quotient as quotient_of}
 use Rattle.apfloat_model.specs.arithmetic.Roots.{IsDeliveredRoot, IsRoot, root as root_of}
 use Rattle.apfloat_model.specs.arithmetic.Sums.{IsDifference, IsSum, difference as difference_of, sum as sum_of}
+use Rattle.apfloat_model.specs.formats.{Format.Format, Format.largest, Format.nan_base, Nan.qnan}
 use Rattle.apfloat_model.specs.formats.Datum.{Datum, finite, infinite, nan}
-use Rattle.apfloat_model.specs.formats.Format.{Format, largest, nan_base}
-use Rattle.apfloat_model.specs.formats.Nan.{qnan}
 use Rattle.apfloat_model.specs.order.Classes.{category_of, is_finite, is_negative, quanta_of}
 use Rattle.apfloat_model.specs.order.Predicates.{is_finite_category, is_zero_category}
-use Rattle.apfloat_model.specs.rounding.Answer.{IsAnswer}
-use Rattle.apfloat_model.specs.rounding.Flags.{Gives, bits_of}
-use Rattle.apfloat_model.specs.rounding.Grid.{IsBelow, IsAbove}
+use Rattle.apfloat_model.specs.rounding.{Answer.IsAnswer, Flags.Gives, Flags.bits_of, Grid.IsBelow, Grid.IsAbove}
 use Rattle.apfloat_model.specs.rounding.Negation.{negated}
 use Rattle.apfloat_model.specs.rounding.Outcome.{Yields, exactly, invalid, rooted, rounded, totalled}
 use Rattle.apfloat_model.specs.rounding.Rounding.{IsDelivered, delivered_status, delivered_value, inexact_bit}
-use Rattle.apfloat_model.specs.rounding.Rounding.{leads_out, ok_bits}
-use Rattle.apfloat_model.specs.rounding.Rounding.{past_largest, zero_sign}
-use Rattle.apfloat_model.proofs.Outcomes.{yields_once}
-use Rattle.apfloat_model.proofs.formats.Greatest.{greatest_full}
-use Rattle.apfloat_model.proofs.general.Choices.{not_zero}
-use Rattle.apfloat_model.proofs.general.Powers.{two_pos}
-use Rattle.apfloat_model.proofs.arithmetic.RootDeliveries.{root_delivered}
+use Rattle.apfloat_model.specs.rounding.Rounding.{leads_out, ok_bits, past_largest, zero_sign}
+use Rattle.apfloat_model.proofs.{Outcomes.yields_once, formats.Greatest.greatest_full, general.Choices.not_zero}
+use Rattle.apfloat_model.proofs.{general.Powers.two_pos, arithmetic.RootDeliveries.root_delivered}
 use Rattle.apfloat_model.proofs.arithmetic.RootSides.{AgreesWithRoot, agreeing, coarser}
-use Rattle.apfloat_model.proofs.rounding.Deliveries.{signed_some}
-use Rattle.apfloat_model.proofs.rounding.FarMagnitudes.{far_above, largest_below, largest_on_grid}
-use Rattle.apfloat_model.proofs.rounding.Picks.{pick_unique}
+use Rattle.apfloat_model.proofs.rounding.{Deliveries.signed_some, FarMagnitudes.far_above, FarMagnitudes.largest_below}
+use Rattle.apfloat_model.proofs.rounding.{FarMagnitudes.largest_on_grid, Picks.pick_unique}
 use Rattle.apfloat_model.proofs.rounding.Laws.{below_le_above, delivered_once, zero_delivered, zero_on_grid}
-use Rattle.apfloat_model.proofs.whole_numbers.SignedNumbers.{largest_some}
-use Rattle.apfloat_model.proofs.whole_numbers.SignedNumbers.{negated_is}
+use Rattle.apfloat_model.proofs.whole_numbers.SignedNumbers.{largest_some, negated_is}
 use Rattle.apfloat_model.proofs.whole_numbers.SignedProducts.{magnitude-times, sign_times, signed_times, sum_times}
 use Rattle.round_to_odd.specs.Odd.{IsAnswerMadeOdd, IsToOdd, has_flag, is_odd_below, odd_between}
+use Rattle.round_to_odd.proofs.{SameDeliveries.pick_same, SameDeliveries.same_delivered, Sides.same_sides}
 use Rattle.round_to_odd.proofs.MadeOdd.{odd_of_truncated}
 use Rattle.round_to_odd.proofs.OddPoints.{AgreesAtEven, moved_on_grid, odd_agrees, wider_grid}
 use Rattle.round_to_odd.proofs.RootFractions.{fraction_delivered, moved_agrees, root_some}
-use Rattle.round_to_odd.proofs.SameDeliveries.{pick_same, same_delivered}
-use Rattle.round_to_odd.proofs.Sides.{same_sides}
 use Rattle.small_formats.specs.Arithmetic.{IsStored, IsStoredOnce, stored_datum}
 use Rattle.small_formats.specs.Codes.{datum_of, is_negative_code, largest_index, magnitude_of, point}
 use Rattle.small_formats.specs.Conversions.{IsInto, IsSaturated, IsStoredNumber}
 use Rattle.small_formats.specs.Storage.{StorageConstants, IsLawfulStorage, format_with}
-use Rattle.small_formats.proofs.OneAnswer.{code_once}
-use Rattle.small_formats.proofs.Points.{point_on_grid}
+use Rattle.small_formats.proofs.{OneAnswer.code_once, Points.point_on_grid}
 use Rattle.small_formats.proofs.StoredPicks.{largest_point, not_greater}
 use Rattle.small_formats.proofs.blocks_lemmas.SameFractions.{delivered_across, same_fraction}
 

@@ -1,12 +1,10 @@
 -- Arithmetic of storage formats: the exact result is delivered once in the format of the model with the same numbers,
 -- and where that is no number, one stands for it.
 use Rattle.std.specs.Prelude.{◌≡◌, ℕ, ◌^◌, ◌<◌, false}
-use Rattle.apfloat_model.specs.declared.kinds.Round.{Round}
-use Rattle.apfloat_model.specs.formats.Datum.{Datum, finite, infinite, nan}
-use Rattle.apfloat_model.specs.formats.Format.{Format, largest}
+use Rattle.apfloat_model.specs.{declared.kinds.Round.Round, formats.Datum.Datum}
+use Rattle.apfloat_model.specs.formats.{Datum.finite, Datum.infinite, Datum.nan, Format.Format, Format.largest}
 use Rattle.apfloat_model.specs.rounding.Outcome.{Outcome, Yields}
-use Rattle.small_formats.specs.Codes.{datum_of}
-use Rattle.small_formats.specs.Storage.{StorageConstants, IsLawfulStorage, format_with}
+use Rattle.small_formats.specs.{Codes.datum_of, Storage.StorageConstants, Storage.IsLawfulStorage, Storage.format_with}
 
 -- as for integers, an infinity is the largest number of its sign, and a NaN zero
 abbrev pub stored_datum : Format → Datum → Datum

@@ -1,13 +1,10 @@
 -- Conversions into a storage format without infinities and NaNs. docs/FORMATS.md has them as a table.
 use Rattle.std.specs.Prelude.{◌≡◌, ℕ, ◌*◌, ◌^◌, Bool, true, false, not, eqb, ltb, if◌then◌else◌}
 use Rattle.std.specs.Bool.{MatchBool}
-use Rattle.apfloat_model.specs.declared.kinds.Round.{Round}
-use Rattle.apfloat_model.specs.formats.Format.{Format, largest}
-use Rattle.apfloat_model.specs.formats.Datum.{Datum, finite, infinite, nan}
-use Rattle.apfloat_model.specs.formats.Nan.{invalid_bit}
+use Rattle.apfloat_model.specs.{declared.kinds.Round.Round, formats.Format.Format, formats.Format.largest}
+use Rattle.apfloat_model.specs.formats.{Datum.Datum, Datum.finite, Datum.infinite, Datum.nan, Nan.invalid_bit}
 use Rattle.apfloat_model.specs.rounding.Rounding.{IsPick, delivered_status, ok_bits}
-use Rattle.small_formats.specs.Codes.{datum_of}
-use Rattle.small_formats.specs.Storage.{StorageConstants, format_with}
+use Rattle.small_formats.specs.{Codes.datum_of, Storage.StorageConstants, Storage.format_with}
 
 -- past the largest number there is nothing but that number
 abbrev pub saturated_value : Format → Bool → ℕ → Datum

@@ -1,11 +1,8 @@
 -- `e3m4`: eight bits, three of them the exponent, with the infinities and NaNs of IEEE 754. Its definitions are those
 -- of the model. Its greatest exponent is below its precision, so 15.5 rounds to an integer past the largest number.
 use Rattle.std.specs.Prelude.{◌≡◌, ◌⊎◌, ℕ, ◌+◌, ◌-◌, ◌*◌, ◌/◌, ◌%◌, ◌<◌, ◌≤◌, Bool, ltb, if◌then◌else◌, false}
-use Rattle.apfloat_model.specs.declared.kinds.NonfiniteBehavior.TheVariants.{IEEE754}
-use Rattle.apfloat_model.specs.declared.kinds.Round.{Round}
-use Rattle.apfloat_model.specs.arithmetic.Conversions.{IsConversion}
-use Rattle.apfloat_model.specs.formats.Datum.{Datum}
-use Rattle.apfloat_model.specs.formats.Format.{Format}
+use Rattle.apfloat_model.specs.{arithmetic.Conversions.IsConversion, formats.Datum.Datum, formats.Format.Format}
+use Rattle.apfloat_model.specs.declared.kinds.{NonfiniteBehavior.TheVariants.IEEE754, Round.Round}
 use Rattle.apfloat_model.specs.bits.Layout.{Layout, datum_of}
 
 -- with a greatest exponent that is so many above the least one

@@ -1,13 +1,8 @@
 -- Theorems about storage formats.
 use Rattle.std.specs.Prelude.{◌≡◌, ℕ, ◌^◌, ◌<◌, ◌≤◌, Bool}
-use Rattle.apfloat_model.specs.declared.kinds.Round.{Round}
-use Rattle.apfloat_model.specs.formats.Datum.{Datum}
-use Rattle.apfloat_model.specs.formats.Format.{Format}
-use Rattle.small_formats.specs.Codes.{datum_of, point}
-use Rattle.small_formats.specs.Conversions.{IsInto}
-use Rattle.small_formats.specs.Scales.{IsScale}
-use Rattle.small_formats.specs.Storage.{StorageConstants, IsLawfulStorage}
-use Rattle.small_formats.specs.Unsigned.{IsUnsigned}
+use Rattle.apfloat_model.specs.{declared.kinds.Round.Round, formats.Datum.Datum, formats.Format.Format}
+use Rattle.small_formats.specs.{Codes.datum_of, Codes.point, Conversions.IsInto, Scales.IsScale}
+use Rattle.small_formats.specs.{Storage.StorageConstants, Storage.IsLawfulStorage, Unsigned.IsUnsigned}
 
 -- the point with the greater number is the greater one
 abbrev pub AreCodesInOrder : Type 0

@@ -2,16 +2,12 @@
 use Rattle.std.specs.Prelude.{◌≡◌, ℕ, ◌*◌, ◌^◌, Bool, true, false, not, eqb}
 use Rattle.std.specs.Bool.{MatchBool}
 use Rattle.apfloat_model.specs.formats.Format.{Format, largest}
-use Rattle.apfloat_model.specs.formats.Datum.{Datum, finite, infinite, nan}
-use Rattle.apfloat_model.specs.formats.Nan.{invalid_bit}
+use Rattle.apfloat_model.specs.formats.{Datum.Datum, Datum.finite, Datum.infinite, Datum.nan, Nan.invalid_bit}
 use Rattle.apfloat_model.specs.rounding.Rounding.{delivered_status, ok_bits}
-use Rattle.small_formats.specs.declared.modes.ConversionRound.{ConversionRound}
-use Rattle.small_formats.specs.declared.modes.NanResult.{NanResult}
+use Rattle.small_formats.specs.declared.modes.{ConversionRound.ConversionRound, NanResult.NanResult}
 use Rattle.small_formats.specs.declared.modes.NanResult.TheVariants.{Zero, Largest}
-use Rattle.small_formats.specs.Codes.{datum_of}
-use Rattle.small_formats.specs.Conversions.{IsGiven, saturated_value}
-use Rattle.small_formats.specs.Modes.{IsPickBy, ieee_mode}
-use Rattle.small_formats.specs.Storage.{StorageConstants, format_with}
+use Rattle.small_formats.specs.{Codes.datum_of, Conversions.IsGiven, Conversions.saturated_value, Modes.IsPickBy}
+use Rattle.small_formats.specs.{Modes.ieee_mode, Storage.StorageConstants, Storage.format_with}
 
 -- as `IsSaturated`
 pub record IsSaturatedBy (c : StorageConstants) (mode : ConversionRound) (negative : Bool)

@@ -1,19 +1,11 @@
 -- Theorems about the modes of conversions.
-use Rattle.std.specs.Prelude.{if◌then◌else◌}
-use Rattle.std.specs.Prelude.{◌≡◌, ℕ, zero, suc, ◌+◌, ◌-◌, ◌*◌, ◌^◌, ◌<◌, Bool, ltb}
-use Rattle.apfloat_model.specs.declared.kinds.Round.{Round}
-use Rattle.apfloat_model.specs.formats.Datum.{Datum}
-use Rattle.apfloat_model.specs.formats.Format.{Format}
-use Rattle.apfloat_model.specs.rounding.Grid.{IsOnGrid, IsBelow, IsAbove}
-use Rattle.apfloat_model.specs.rounding.Rounding.{IsPick}
-use Rattle.small_formats.specs.declared.modes.ConversionRound.{ConversionRound}
-use Rattle.small_formats.specs.declared.modes.ConversionRound.TheVariants.{Ieee, Stochastic}
-use Rattle.small_formats.specs.declared.modes.NanResult.{NanResult}
-use Rattle.small_formats.specs.declared.modes.NanResult.TheVariants.{Zero}
-use Rattle.small_formats.specs.declared.modes.RandomDigits.{RandomDigits}
-use Rattle.small_formats.specs.Conversions.{IsInto}
-use Rattle.small_formats.specs.ModeConversions.{IsIntoBy}
-use Rattle.small_formats.specs.Modes.{IsPickBy, parts_above}
+use Rattle.std.specs.Prelude.{if◌then◌else◌, ◌≡◌, ℕ, zero, suc, ◌+◌, ◌-◌, ◌*◌, ◌^◌, ◌<◌, Bool, ltb}
+use Rattle.apfloat_model.specs.{declared.kinds.Round.Round, formats.Datum.Datum, formats.Format.Format}
+use Rattle.apfloat_model.specs.rounding.{Grid.IsOnGrid, Grid.IsBelow, Grid.IsAbove, Rounding.IsPick}
+use Rattle.small_formats.specs.{Conversions.IsInto, ModeConversions.IsIntoBy, Modes.IsPickBy, Modes.parts_above}
+use Rattle.small_formats.specs.declared.modes.{ConversionRound.TheVariants.Stochastic, NanResult.NanResult}
+use Rattle.small_formats.specs.declared.modes.{NanResult.TheVariants.Zero, RandomDigits.RandomDigits}
+use Rattle.small_formats.specs.declared.modes.ConversionRound.{ConversionRound, TheVariants.Ieee}
 use Rattle.small_formats.specs.Storage.{StorageConstants, IsLawfulStorage}
 
 -- how many of the numbers below `bound` pass the test

@@ -1,11 +1,8 @@
 -- The modes of conversions: which of its two neighbours a magnitude becomes. Of the five modes of IEEE 754 it is the
 -- one of `IsPick`.
-use Rattle.std.specs.Prelude.{if◌then◌else◌}
-use Rattle.std.specs.Prelude.{◌≡◌, ℕ, ◌+◌, ◌-◌, ◌*◌, ◌/◌, ◌%◌, ◌^◌, Bool, not, leb, eqb}
-use Rattle.apfloat_model.specs.declared.kinds.Round.{Round}
-use Rattle.apfloat_model.specs.declared.kinds.Round.TheVariants.{NearestTiesToEven, TowardZero}
-use Rattle.apfloat_model.specs.rounding.Grid.{IsBelow, IsAbove}
-use Rattle.apfloat_model.specs.rounding.Rounding.{takes_above}
+use Rattle.std.specs.Prelude.{if◌then◌else◌, ◌≡◌, ℕ, ◌+◌, ◌-◌, ◌*◌, ◌/◌, ◌%◌, ◌^◌, Bool, not, leb, eqb}
+use Rattle.apfloat_model.specs.declared.kinds.Round.{Round, TheVariants.NearestTiesToEven, TheVariants.TowardZero}
+use Rattle.apfloat_model.specs.rounding.{Grid.IsBelow, Grid.IsAbove, Rounding.takes_above}
 use Rattle.small_formats.specs.declared.modes.ConversionRound.{ConversionRound}
 use Rattle.small_formats.specs.declared.modes.ConversionRound.TheVariants.{Ieee, ToOdd, Stochastic}
 

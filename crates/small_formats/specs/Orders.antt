@@ -1,10 +1,8 @@
 -- The order of stored numbers is that of what their codes mean.
-use Rattle.std.specs.Prelude.{ℕ}
-use Rattle.std.specs.declared.cmp.Ordering.{Ordering}
+use Rattle.std.specs.{Prelude.ℕ, declared.cmp.Ordering.Ordering}
 use Rattle.std.specs.Ordering.{bool_cmp, int_cmp, ordering_then}
 use Rattle.apfloat_model.specs.order.Order.{number}
-use Rattle.small_formats.specs.Codes.{datum_of, is_negative_code}
-use Rattle.small_formats.specs.Storage.{StorageConstants}
+use Rattle.small_formats.specs.{Codes.datum_of, Codes.is_negative_code, Storage.StorageConstants}
 
 -- as `compared` of the model, which is never None here
 abbrev pub compared_codes : StorageConstants → ℕ → ℕ → Ordering

@@ -2,8 +2,7 @@
 use Rattle.std.specs.Prelude.{◌≡◌, ℕ, ◌*◌, Bool, eqb}
 use Rattle.apfloat_model.specs.declared.kinds.Round.{Round}
 use Rattle.apfloat_model.specs.rounding.Rounding.{IsPick, delivered_status}
-use Rattle.small_formats.specs.Codes.{datum_of, point}
-use Rattle.small_formats.specs.Conversions.{saturated_value}
+use Rattle.small_formats.specs.{Codes.datum_of, Codes.point, Conversions.saturated_value}
 use Rattle.small_formats.specs.Storage.{StorageConstants, format_with}
 
 -- the point with that index is picked, and is the magnitude itself or not

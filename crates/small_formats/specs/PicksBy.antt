@@ -1,11 +1,8 @@
 -- A pick of a mode of conversions by the index of its point; and the same decision for a cut, where nothing may be
 -- left.
-use Rattle.std.specs.Prelude.{if◌then◌else◌}
-use Rattle.std.specs.Prelude.{◌≡◌, ℕ, ◌*◌, Bool, false, eqb}
+use Rattle.std.specs.Prelude.{if◌then◌else◌, ◌≡◌, ℕ, ◌*◌, Bool, false, eqb}
 use Rattle.std.specs.Bool.{MatchBool}
-use Rattle.small_formats.specs.declared.modes.ConversionRound.{ConversionRound}
-use Rattle.small_formats.specs.Codes.{point}
-use Rattle.small_formats.specs.IndexPicks.{IsIndexPick}
+use Rattle.small_formats.specs.{declared.modes.ConversionRound.ConversionRound, Codes.point, IndexPicks.IsIndexPick}
 use Rattle.small_formats.specs.Modes.{IsPickBy, takes_next}
 
 -- whether a magnitude moves to the point above it; one that is a point does not

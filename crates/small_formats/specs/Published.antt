@@ -1,7 +1,6 @@
 -- The named elements, as the document that defines them describes them (OCP Microscaling Formats 1.0, 5.3).
 use Rattle.std.specs.Prelude.{◌≡◌, ℕ, ◌+◌, ◌*◌, ◌^◌, pos, ◌-ℤ◌}
-use Rattle.small_formats.specs.Codes.{largest_index, point}
-use Rattle.small_formats.specs.Storage.{StorageConstants, format_with}
+use Rattle.small_formats.specs.{Codes.largest_index, Codes.point, Storage.StorageConstants, Storage.format_with}
 
 -- Below the sign are the exponent, with its bias, and the significand without its first digit. The largest number and
 -- the smallest positive one are in sixteenths.

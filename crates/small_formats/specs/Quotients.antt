@@ -1,8 +1,6 @@
 -- Quotients of two values, in quanta of a third format.
 use Rattle.std.specs.Prelude.{◌≡◌, ℕ, ◌+◌, ◌*◌, ◌^◌, ◌<◌}
-use Rattle.apfloat_model.specs.declared.kinds.Round.{Round}
-use Rattle.apfloat_model.specs.formats.Datum.{Datum}
-use Rattle.apfloat_model.specs.formats.Format.{Format}
+use Rattle.apfloat_model.specs.{declared.kinds.Round.Round, formats.Datum.Datum, formats.Format.Format}
 use Rattle.apfloat_model.specs.order.Classes.{is_negative, quanta_of}
 use Rattle.small_formats.specs.Conversions.{IsSaturated}
 use Rattle.small_formats.specs.Storage.{StorageConstants, IsLawfulStorage, format_with}

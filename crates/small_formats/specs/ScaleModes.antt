@@ -1,11 +1,8 @@
 -- Conversions into scales by the modes of conversions. Codes decide what is odd, and the two powers of two around a
 -- number are the neighbours that random digits choose from.
 use Rattle.std.specs.Prelude.{◌≡◌, ℕ, Bool, false}
-use Rattle.apfloat_model.specs.declared.kinds.Round.{Round}
-use Rattle.apfloat_model.specs.formats.Datum.{Datum}
-use Rattle.apfloat_model.specs.formats.Format.{Format}
-use Rattle.small_formats.specs.declared.modes.ConversionRound.{ConversionRound}
-use Rattle.small_formats.specs.declared.modes.ConversionRound.TheVariants.{Ieee}
+use Rattle.apfloat_model.specs.{declared.kinds.Round.Round, formats.Datum.Datum, formats.Format.Format}
+use Rattle.small_formats.specs.declared.modes.ConversionRound.{ConversionRound, TheVariants.Ieee}
 use Rattle.small_formats.specs.Modes.{ieee_mode, takes_next}
 use Rattle.small_formats.specs.Scales.{IsDeliveredScale, IsScale, IsScaleIn}
 

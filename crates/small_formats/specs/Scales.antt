@@ -1,14 +1,11 @@
 -- Scales: the powers of two from 2 ^ -127 to 2 ^ 127, and a NaN, in 8 bits. There is no sign and no zero.
-use Rattle.std.specs.Prelude.{◌≡◌, ◌⊎◌, ℕ, ◌+◌, ◌*◌, ◌^◌, ◌<◌, Bool, true, false, not, eqb}
-use Rattle.std.specs.Prelude.{ltb, if◌then◌else◌}
+use Rattle.std.specs.Prelude.{◌≡◌, ◌⊎◌, ℕ, ◌+◌, ◌*◌, ◌^◌, ◌<◌, Bool, true, false, not, eqb, ltb, if◌then◌else◌}
 use Rattle.std.specs.Bool.{MatchBool}
-use Rattle.apfloat_model.specs.declared.kinds.NonfiniteBehavior.TheVariants.{NanOnly}
-use Rattle.apfloat_model.specs.declared.kinds.Round.{Round}
-use Rattle.apfloat_model.specs.formats.Format.{Format, payload_mask}
-use Rattle.apfloat_model.specs.formats.Datum.{Datum, finite, infinite, nan}
-use Rattle.apfloat_model.specs.formats.Nan.{invalid_bit, invalid_if, is_signaling}
-use Rattle.apfloat_model.specs.rounding.Rounding.{takes_above, leads_out, ok_bits, overflow_bit}
-use Rattle.apfloat_model.specs.rounding.Rounding.{underflow_bit, inexact_bit}
+use Rattle.apfloat_model.specs.declared.kinds.{NonfiniteBehavior.TheVariants.NanOnly, Round.Round}
+use Rattle.apfloat_model.specs.formats.{Format.Format, Format.payload_mask, Datum.Datum, Datum.finite, Datum.infinite}
+use Rattle.apfloat_model.specs.formats.{Datum.nan, Nan.invalid_bit, Nan.invalid_if, Nan.is_signaling}
+use Rattle.apfloat_model.specs.rounding.Rounding.{takes_above, leads_out, ok_bits, overflow_bit, underflow_bit}
+use Rattle.apfloat_model.specs.rounding.Rounding.{inexact_bit}
 use Rattle.small_formats.specs.IndexPicks.{IsIndexPick}
 
 -- the quantum is the least scale

@@ -1,8 +1,7 @@
 -- The constants of a storage format: a sign, an exponent and a significand in at most 8 bits, all of whose codes are
 -- numbers.
 use Rattle.std.specs.Prelude.{ℕ, ◌-◌, ◌^◌, ◌<◌, ◌≤◌, ℤ, pos, neg_ℤ, ◌-ℤ◌, ◌≤ℤ◌, unsigned_abs, false}
-use Rattle.apfloat_model.specs.declared.kinds.NonfiniteBehavior.TheVariants.{IEEE754}
-use Rattle.apfloat_model.specs.formats.Format.{Format}
+use Rattle.apfloat_model.specs.{declared.kinds.NonfiniteBehavior.TheVariants.IEEE754, formats.Format.Format}
 use Rattle.apfloat_model.specs.rounding.Bounds.{format_bound}
 
 -- named as in the types of storage formats

@@ -1,15 +1,11 @@
 -- The numbers of `e4m3fn` without a sign, and its NaN, in 7 bits.
 use Rattle.std.specs.Prelude.{ℕ, Bool, true, not, eqb, if◌then◌else◌}
 use Rattle.std.specs.Bool.{MatchBool}
-use Rattle.apfloat_model.specs.declared.kinds.Round.{Round}
-use Rattle.apfloat_model.specs.arithmetic.Conversions.{IsConversion}
-use Rattle.apfloat_model.specs.bits.Layout.{Layout, datum_of}
-use Rattle.apfloat_model.specs.formats.Datum.{Datum, finite, infinite, nan}
-use Rattle.apfloat_model.specs.formats.Format.{Format, payload_mask}
-use Rattle.apfloat_model.specs.formats.Formats.{e4m3fn_constants}
-use Rattle.apfloat_model.specs.formats.Lawful.{format_with, layout_with}
-use Rattle.apfloat_model.specs.formats.Nan.{invalid_bit, invalid_if, is_signaling}
-use Rattle.apfloat_model.specs.rounding.Rounding.{inexact_bit}
+use Rattle.apfloat_model.specs.{declared.kinds.Round.Round, arithmetic.Conversions.IsConversion, bits.Layout.Layout}
+use Rattle.apfloat_model.specs.{bits.Layout.datum_of, formats.Datum.Datum, formats.Datum.finite, formats.Datum.infinite}
+use Rattle.apfloat_model.specs.formats.{Datum.nan, Format.Format, Format.payload_mask, Formats.e4m3fn_constants}
+use Rattle.apfloat_model.specs.formats.{Lawful.format_with, Lawful.layout_with, Nan.invalid_bit, Nan.invalid_if}
+use Rattle.apfloat_model.specs.{formats.Nan.is_signaling, rounding.Rounding.inexact_bit}
 use Rattle.small_formats.specs.Scales.{IsCode}
 
 abbrev pub signed_format : Format

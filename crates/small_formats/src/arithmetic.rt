@@ -6,26 +6,18 @@
 
 ghost use Rattle.std.specs.Prelude.{◌≡◌, ◌+◌, ◌-◌, ◌*◌, ◌^◌, false, eqb, pos, neg_ℤ, refl};
 ghost use Rattle.std.specs.Bool.{MatchBool};
-ghost use Rattle.apfloat_model.specs.declared.kinds.NonfiniteBehavior.TheVariants.{IEEE754};
-ghost use Rattle.apfloat_model.specs.formats.Datum.{finite};
+ghost use Rattle.apfloat_model.specs.{declared.kinds.NonfiniteBehavior.TheVariants.IEEE754, formats.Datum.finite};
 ghost use Rattle.apfloat_model.specs.order.Classes.{is_finite, is_negative, quanta_of};
-ghost use Rattle.apfloat_model.specs.rounding.Answer.{IsAnswer};
-ghost use Rattle.apfloat_model.proofs.formats.LawTest.{lawful_from_test};
-ghost use Rattle.apfloat_model.specs.arithmetic.FusedSums.{fused_sum};
-ghost use Rattle.apfloat_model.specs.arithmetic.Products.{product};
-ghost use Rattle.apfloat_model.specs.arithmetic.Quotients.{quotient};
-ghost use Rattle.apfloat_model.specs.arithmetic.Roots.{root};
+ghost use Rattle.apfloat_model.specs.rounding.{Answer.IsAnswer, Flags.Gives, Flags.bits_of, Rounding.ok_bits};
+ghost use Rattle.apfloat_model.specs.arithmetic.{FusedSums.fused_sum, Products.product, Quotients.quotient, Roots.root};
 ghost use Rattle.apfloat_model.specs.arithmetic.Sums.{difference, sum};
-ghost use Rattle.apfloat_model.specs.rounding.Flags.{Gives, bits_of};
-ghost use Rattle.apfloat_model.specs.rounding.Rounding.{ok_bits};
+ghost use Rattle.apfloat_model.proofs.formats.LawTest.{lawful_from_test};
 ghost use Rattle.apfloat_ieee.specs.FlaggedTypes.{format_of as flagged_format_of};
 ghost use Rattle.apfloat_ieee.specs.Types.{format_of};
 ghost use Rattle.round_to_odd.specs.Odd.{IsAnswerMadeOdd};
 ghost use Rattle.small_formats.specs.Arithmetic.{IsStored, stored_datum};
 ghost use Rattle.small_formats.specs.Codes.{datum_of, is_negative_code, magnitude_of, point};
-ghost use Rattle.small_formats.specs.Conversions.{IsSaturated};
-ghost use Rattle.small_formats.specs.Storage.{format_with};
-ghost use Rattle.small_formats.specs.Types.{constants_of};
+ghost use Rattle.small_formats.specs.{Conversions.IsSaturated, Storage.format_with, Types.constants_of};
 
 use crate::format::StorageFormat;
 use crate::stored::StoredFloat;

@@ -2,8 +2,7 @@
 
 ghost use Rattle.std.specs.Prelude.{◌≡◌, ◌⊎◌, ℕ, ◌+◌, ◌-◌, ◌*◌, ◌/◌, ◌%◌, ◌^◌, ◌<◌, ◌≤◌, pos, neg_ℤ, ◌≤ℤ◌};
 ghost use Rattle.apfloat_model.specs.rounding.Bounds.{IsWithin, unit_bound, place_bound};
-ghost use Rattle.apfloat_model.specs.rounding.Enclosure.{IsEnclosed};
-ghost use Rattle.apfloat_model.specs.rounding.Standing.{StandsFor, up, down};
+ghost use Rattle.apfloat_model.specs.rounding.{Enclosure.IsEnclosed, Standing.StandsFor, Standing.up, Standing.down};
 
 use apfloat_base::ExpInt;
 use apfloat_model::Loss;

@@ -1,11 +1,8 @@
 //! Minima and maxima of the numbers of a storage format, and their total order.
 
 ghost use Rattle.std.specs.Prelude.{◌≡◌};
-ghost use Rattle.apfloat_model.specs.order.Classes.{is_zero};
-ghost use Rattle.apfloat_model.specs.order.Order.{maximum, minimum};
-ghost use Rattle.small_formats.specs.Codes.{datum_of};
-ghost use Rattle.small_formats.specs.Orders.{total_codes};
-ghost use Rattle.small_formats.specs.Types.{constants_of};
+ghost use Rattle.apfloat_model.specs.order.{Classes.is_zero, Order.maximum, Order.minimum};
+ghost use Rattle.small_formats.specs.{Codes.datum_of, Orders.total_codes, Types.constants_of};
 
 use crate::format::StorageFormat;
 use crate::stored::StoredFloat;

@@ -1,14 +1,12 @@
 //! `Float8E3M4`, converted by a format with the same digits and one bit of exponent more.
 
 ghost use Rattle.std.specs.Prelude.{◌≡◌, ◌+◌, ◌-◌, ◌^◌, if◌then◌else◌, pos, negsuc, false, refl};
+ghost use Rattle.apfloat_model.specs.{formats.Datum.finite, formats.Datum.infinite, order.Classes.category_of};
+ghost use Rattle.apfloat_model.specs.{order.Classes.is_negative, order.Order.compared, rounding.Flags.bits_of};
 ghost use Rattle.apfloat_model.specs.declared.kinds.NonfiniteBehavior.TheVariants.{IEEE754};
-ghost use Rattle.apfloat_model.proofs.formats.LawTest.{lawful_from_test};
 ghost use Rattle.apfloat_model.specs.arithmetic.Conversions.{IsConversion, IsExactlyConverted};
-ghost use Rattle.apfloat_model.specs.formats.Datum.{finite, infinite};
-ghost use Rattle.apfloat_model.specs.order.Classes.{category_of, is_negative};
-ghost use Rattle.apfloat_model.specs.order.Order.{compared};
-ghost use Rattle.apfloat_model.specs.rounding.Flags.{bits_of};
 ghost use Rattle.apfloat_model.specs.rounding.Rounding.{inexact_bit, leads_out, overflow_bit};
+ghost use Rattle.apfloat_model.proofs.formats.LawTest.{lawful_from_test};
 ghost use Rattle.apfloat_ieee.specs.FlaggedTypes.{format_of as flagged_format_of};
 ghost use Rattle.apfloat_ieee.specs.Types.{format_of};
 ghost use Rattle.small_formats.specs.Float8E3M4.{IsNarrow, e3m4_datum, e3m4_format, narrowed, widened};

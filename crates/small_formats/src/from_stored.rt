@@ -1,10 +1,7 @@
 //! Conversions of the numbers of one storage format into another.
 
 ghost use Rattle.apfloat_model.specs.rounding.Flags.{bits_of};
-ghost use Rattle.small_formats.specs.Codes.{datum_of};
-ghost use Rattle.small_formats.specs.Conversions.{IsInto};
-ghost use Rattle.small_formats.specs.Storage.{format_with};
-ghost use Rattle.small_formats.specs.Types.{constants_of};
+ghost use Rattle.small_formats.specs.{Codes.datum_of, Conversions.IsInto, Storage.format_with, Types.constants_of};
 
 use crate::arithmetic::widened;
 use crate::format::StorageFormat;

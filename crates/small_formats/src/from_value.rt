@@ -1,17 +1,12 @@
 //! Conversions of the values of a format into a storage format.
 
 ghost use Rattle.std.specs.Prelude.{◌≡◌, ℕ, ◌+◌, ◌-◌, ◌*◌, ◌^◌, ◌<◌, ◌≤◌, eqb, ltb, if◌then◌else◌};
-ghost use Rattle.apfloat_model.specs.formats.Datum.{finite};
-ghost use Rattle.apfloat_model.specs.formats.Format.{largest};
+ghost use Rattle.apfloat_model.specs.formats.{Datum.finite, Format.largest};
 ghost use Rattle.apfloat_model.specs.rounding.Flags.{Gives, bits_of};
-ghost use Rattle.apfloat_model.specs.rounding.Rounding.{leads_out, ok_bits};
-ghost use Rattle.apfloat_model.specs.rounding.Rounding.{overflow_bit, underflow_bit, inexact_bit};
+ghost use Rattle.apfloat_model.specs.rounding.Rounding.{leads_out, ok_bits, overflow_bit, underflow_bit, inexact_bit};
 ghost use Rattle.apfloat_ieee.specs.Types.{format_of};
-ghost use Rattle.small_formats.specs.Codes.{datum_of, largest_index, point};
-ghost use Rattle.small_formats.specs.Conversions.{IsInto};
-ghost use Rattle.small_formats.specs.Picks.{IsPointDelivered};
-ghost use Rattle.small_formats.specs.Storage.{format_with};
-ghost use Rattle.small_formats.specs.Types.{constants_of};
+ghost use Rattle.small_formats.specs.{Codes.datum_of, Codes.largest_index, Codes.point, Conversions.IsInto};
+ghost use Rattle.small_formats.specs.{Picks.IsPointDelivered, Storage.format_with, Types.constants_of};
 
 use crate::format::StorageFormat;
 use crate::modes::{ConversionRound, NanResult};

@@ -1,14 +1,11 @@
 //! Conversions into a storage format by the modes of conversions.
 
 ghost use Rattle.std.specs.Prelude.{◌≡◌, ℕ, ◌+◌, ◌-◌, ◌*◌, ◌^◌, ◌<◌, ◌≤◌};
-ghost use Rattle.apfloat_model.specs.order.Classes.{quanta_of};
+ghost use Rattle.apfloat_model.specs.order.{Classes.quanta_of, Positive.IsPositive};
 ghost use Rattle.apfloat_model.specs.rounding.Flags.{Gives, bits_of};
 ghost use Rattle.apfloat_ieee.specs.Types.{format_of};
-ghost use Rattle.apfloat_model.specs.order.Positive.{IsPositive};
-ghost use Rattle.small_formats.specs.Codes.{datum_of};
-ghost use Rattle.small_formats.specs.ModeConversions.{IsIntoBy, IsSaturatedBy, nan_result};
-ghost use Rattle.small_formats.specs.Storage.{format_with};
-ghost use Rattle.small_formats.specs.Types.{constants_of};
+ghost use Rattle.small_formats.specs.{Codes.datum_of, ModeConversions.IsIntoBy, ModeConversions.IsSaturatedBy};
+ghost use Rattle.small_formats.specs.{ModeConversions.nan_result, Storage.format_with, Types.constants_of};
 
 use crate::format::StorageFormat;
 use crate::from_value::{deliver_pick, largest_of_sign, scale};

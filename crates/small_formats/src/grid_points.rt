@@ -1,8 +1,7 @@
 //! The numbers of grid points, converted.
 
 ghost use Rattle.std.specs.Prelude.{◌≡◌, ◌*◌, ◌^◌, ◌<◌, ◌≤◌, pos, ◌-ℤ◌, not, eqb};
-ghost use Rattle.apfloat_model.specs.rounding.Bounds.{IsWithin};
-ghost use Rattle.apfloat_model.specs.rounding.Flags.{Gives, bits_of};
+ghost use Rattle.apfloat_model.specs.rounding.{Bounds.IsWithin, Flags.Gives, Flags.bits_of};
 ghost use Rattle.apfloat_model.specs.rounding.Rounding.{IsDelivered, ok_bits};
 ghost use Rattle.apfloat_ieee.specs.FlaggedTypes.{format_of};
 ghost use Rattle.small_formats.specs.Codes.{point};

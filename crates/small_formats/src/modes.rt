@@ -1,8 +1,7 @@
 //! The modes of conversions, and what a NaN becomes in a format without NaNs.
 
 ghost use Rattle.std.specs.Prelude.{◌≡◌, MatchResult};
-ghost use Rattle.small_formats.specs.RandomDigits.{AreRandomDigits};
-ghost use Rattle.small_formats.specs.RandomErrors.{IsRefused};
+ghost use Rattle.small_formats.specs.{RandomDigits.AreRandomDigits, RandomErrors.IsRefused};
 
 use apfloat_base::Round;
 use apfloat_words::power_of_two;

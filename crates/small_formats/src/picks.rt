@@ -1,15 +1,11 @@
 //! The point that is picked for a number.
 
-ghost use Rattle.std.specs.Prelude.{◌≡◌, ℕ, ◌+◌, ◌-◌, ◌*◌, ◌/◌, ◌%◌, ◌^◌, ◌<◌, ◌≤◌, not, ◌&&◌, leb, eqb};
-ghost use Rattle.std.specs.Prelude.{if◌then◌else◌};
-ghost use Rattle.apfloat_model.specs.order.Classes.{quanta_of};
-ghost use Rattle.apfloat_model.specs.order.Positive.{IsPositive};
+ghost use Rattle.std.specs.Prelude.{◌≡◌, ℕ, ◌+◌, ◌-◌, ◌*◌, ◌/◌, ◌%◌, ◌^◌, ◌<◌, ◌≤◌, not, ◌&&◌, leb, eqb, if◌then◌else◌};
+ghost use Rattle.apfloat_model.specs.order.{Classes.quanta_of, Positive.IsPositive};
 ghost use Rattle.apfloat_model.specs.rounding.Bounds.{IsWithin, unit_bound, place_bound};
 ghost use Rattle.apfloat_model.specs.rounding.Standing.{StandsFor, up, down};
 ghost use Rattle.apfloat_ieee.specs.Types.{format_of};
-ghost use Rattle.small_formats.specs.Codes.{index_of};
-ghost use Rattle.small_formats.specs.Modes.{ieee_mode};
-ghost use Rattle.small_formats.specs.PicksBy.{IsPointAt, moves};
+ghost use Rattle.small_formats.specs.{Codes.index_of, Modes.ieee_mode, PicksBy.IsPointAt, PicksBy.moves};
 
 use crate::cuts::{cut, parts_of_rest};
 use crate::modes::{ConversionRound, RandomDigits};

@@ -4,13 +4,10 @@
 ghost use Rattle.std.specs.Prelude.{◌≡◌, ◌*◌, ◌^◌, true, false};
 ghost use Rattle.apfloat_model.specs.formats.Datum.{finite, infinite, nan};
 ghost use Rattle.apfloat_model.specs.order.Classes.{is_nan};
-ghost use Rattle.small_formats.specs.Float8E3M4.{e3m4_datum, e3m4_format};
-ghost use Rattle.small_formats.specs.Published.{IsPublishedElement, e2m1, e2m3, e3m2};
-ghost use Rattle.small_formats.specs.Scales.{scale_format, scale_of};
-ghost use Rattle.small_formats.specs.Types.{constants_of};
-ghost use Rattle.small_formats.specs.Unsigned.{signed_format, unsigned_datum};
-ghost use Rattle.small_formats.specs.declared.blocks.mx.TheConstants.{BLOCK};
-ghost use Rattle.small_formats.specs.declared.blocks.nvfp4.TheConstants.{NVFP4_BLOCK};
+ghost use Rattle.small_formats.specs.{Scales.scale_format, Scales.scale_of, Types.constants_of, Float8E3M4.e3m4_datum};
+ghost use Rattle.small_formats.specs.{Float8E3M4.e3m4_format, Published.IsPublishedElement, Published.e2m1};
+ghost use Rattle.small_formats.specs.{Published.e2m3, Published.e3m2, Unsigned.signed_format, Unsigned.unsigned_datum};
+ghost use Rattle.small_formats.specs.declared.blocks.{mx.TheConstants.BLOCK, nvfp4.TheConstants.NVFP4_BLOCK};
 
 /// `E2M1FN`, `E2M3FN` and `E3M2FN` are the elements of OCP Microscaling Formats 1.0 (5.3).
 pub fn elements_are_those_of_ocp()

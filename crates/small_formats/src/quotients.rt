@@ -1,17 +1,12 @@
 //! Quotients of two values in a storage format.
 
 ghost use Rattle.std.specs.Prelude.{◌≡◌, ℕ, ◌+◌, ◌-◌, ◌*◌, ◌^◌, ◌<◌, ◌≤◌, pos, ◌+ℤ◌, ◌-ℤ◌, true};
-ghost use Rattle.apfloat_model.specs.order.Classes.{is_finite, is_negative};
-ghost use Rattle.apfloat_model.specs.rounding.Bounds.{IsWithin, unit_bound};
-ghost use Rattle.apfloat_model.specs.rounding.Flags.{Gives};
+ghost use Rattle.apfloat_model.specs.order.{Classes.is_finite, Classes.is_negative, Positive.IsPositive};
+ghost use Rattle.apfloat_model.specs.rounding.{Bounds.IsWithin, Bounds.unit_bound, Flags.Gives};
 ghost use Rattle.apfloat_model.specs.rounding.Standing.{StandsFor, up, down};
 ghost use Rattle.apfloat_ieee.specs.Types.{format_of};
-ghost use Rattle.apfloat_model.specs.order.Positive.{IsPositive};
-ghost use Rattle.small_formats.specs.Conversions.{IsSaturated};
-ghost use Rattle.small_formats.specs.Picks.{IsPickedAt};
-ghost use Rattle.small_formats.specs.Quotients.{IsRatioOf};
-ghost use Rattle.small_formats.specs.Storage.{format_with};
-ghost use Rattle.small_formats.specs.Types.{constants_of};
+ghost use Rattle.small_formats.specs.{Conversions.IsSaturated, Picks.IsPickedAt, Quotients.IsRatioOf};
+ghost use Rattle.small_formats.specs.{Storage.format_with, Types.constants_of};
 
 use crate::cuts::cut_number;
 use crate::format::StorageFormat;

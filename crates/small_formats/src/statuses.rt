@@ -1,10 +1,8 @@
 //! The flags of conversions into formats whose overflows and NaNs are their own.
 
 ghost use Rattle.std.specs.Prelude.{◌≡◌, ◌+◌, ◌-◌, ◌^◌, ◌<◌, ◌≤◌, ltb, if◌then◌else◌};
-ghost use Rattle.apfloat_model.specs.formats.Nan.{invalid_if, is_signaling_nan};
-ghost use Rattle.apfloat_model.specs.rounding.Flags.{bits_of};
-ghost use Rattle.apfloat_model.specs.rounding.Rounding.{leads_out, ok_bits};
-ghost use Rattle.apfloat_model.specs.rounding.Rounding.{overflow_bit, underflow_bit, inexact_bit};
+ghost use Rattle.apfloat_model.specs.{formats.Nan.invalid_if, formats.Nan.is_signaling_nan, rounding.Flags.bits_of};
+ghost use Rattle.apfloat_model.specs.rounding.Rounding.{leads_out, ok_bits, overflow_bit, underflow_bit, inexact_bit};
 ghost use Rattle.apfloat_ieee.specs.Types.{format_of};
 
 use crate::picks::Picked;

@@ -1,11 +1,9 @@
 //! A value of a storage format.
 
 ghost use Rattle.std.specs.Prelude.{◌≡◌, ◌-◌, ◌%◌, ◌^◌, ◌<◌, if◌then◌else◌};
-ghost use Rattle.apfloat_model.specs.arithmetic.Exact.{signed};
-ghost use Rattle.apfloat_model.specs.formats.Datum.{finite};
+ghost use Rattle.apfloat_model.specs.{arithmetic.Exact.signed, formats.Datum.finite};
 ghost use Rattle.small_formats.specs.Codes.{datum_of, is_negative_code, largest_index, magnitude_of, point};
-ghost use Rattle.small_formats.specs.Orders.{compared_codes};
-ghost use Rattle.small_formats.specs.Types.{constants_of};
+ghost use Rattle.small_formats.specs.{Orders.compared_codes, Types.constants_of};
 
 use crate::format::StorageFormat;
 use apfloat_words::{low_digits, power_of_two};

@@ -1,12 +1,9 @@
 //! Theorems about the definitions that the calls cite, as contracts of functions with empty bodies.
 
-ghost use Rattle.small_formats.specs.Arithmetic.{IsStoredOnce};
+ghost use Rattle.small_formats.specs.{Float8E3M4.IsE3M4Once, ModeLaws.ArePicksOfModel, ScaleModes.AreScalesOfModes};
+ghost use Rattle.small_formats.specs.{ScaleModes.IsScaleByOnce, Quotients.IsQuotientOnce, Arithmetic.IsStoredOnce};
 ghost use Rattle.small_formats.specs.Laws.{AreCodesInOrder, IsCodeOnce, IsIntoOnce, IsScaleOnce, IsUnsignedOnce};
-ghost use Rattle.small_formats.specs.Float8E3M4.{IsE3M4Once};
-ghost use Rattle.small_formats.specs.ModeLaws.{ArePicksOfModel, AreRandomNumbersCounted, IsIntoByOnce};
-ghost use Rattle.small_formats.specs.ModeLaws.{IsIntoOfModel, StaysExact};
-ghost use Rattle.small_formats.specs.ScaleModes.{AreScalesOfModes, IsScaleByOnce};
-ghost use Rattle.small_formats.specs.Quotients.{IsQuotientOnce};
+ghost use Rattle.small_formats.specs.ModeLaws.{AreRandomNumbersCounted, IsIntoByOnce, IsIntoOfModel, StaysExact};
 
 /// A conversion into a storage format has one answer.
 pub fn conversions_have_one_answer()

@@ -1,13 +1,9 @@
 //! Conversions of the values of a storage format to any format.
 
 ghost use Rattle.apfloat_model.specs.arithmetic.Conversions.{IsConversion, IsExactlyConverted, IsKept, loses_zero_sign};
-ghost use Rattle.apfloat_model.specs.formats.Datum.{finite};
-ghost use Rattle.apfloat_model.specs.rounding.Flags.{bits_of};
-ghost use Rattle.apfloat_model.specs.rounding.Rounding.{zero_sign};
+ghost use Rattle.apfloat_model.specs.{formats.Datum.finite, rounding.Flags.bits_of, rounding.Rounding.zero_sign};
 ghost use Rattle.apfloat_ieee.specs.FlaggedTypes.{format_of};
-ghost use Rattle.small_formats.specs.Codes.{datum_of};
-ghost use Rattle.small_formats.specs.Storage.{format_with};
-ghost use Rattle.small_formats.specs.Types.{constants_of};
+ghost use Rattle.small_formats.specs.{Codes.datum_of, Storage.format_with, Types.constants_of};
 
 use crate::format::StorageFormat;
 use crate::from_value::scale;

@@ -1,21 +1,17 @@
 -- Operands by their cases.
 use Rattle.std.proofs.Common.{◌≡◌, ◌⊎◌, ◌<◌, ◌≤◌, ◌^◌, ℕ, Bool, false, eqb, subst, sym, arith, inl, inr, if◌then◌else◌}
-use Rattle.std.specs.Prelude.{◌*◌}
 use Rattle.std.proofs.lemmas.Bool.{eq-eqb, ne_eqb}
-use Rattle.apfloat_model.specs.formats.Datum.{Datum, finite}
-use Rattle.apfloat_model.specs.rounding.Outcome.{Outcome, Yields}
+use Rattle.std.specs.Prelude.{◌*◌}
+use Rattle.apfloat_model.specs.formats.{Datum.Datum, Datum.finite, Format.Format}
+use Rattle.apfloat_model.specs.rounding.{Outcome.Outcome, Outcome.Yields, DeliveredRoots.IsDeliveredRoot}
+use Rattle.apfloat_model.specs.rounding.{Answer.IsAnswer, Rounding.ok_bits, Rounding.zero_sign}
+use Rattle.apfloat_model.specs.declared.kinds.Round.{Round}
 use Rattle.apfloat_model.proofs.general.Choices.{not_zero}
 use Rattle.apfloat_words.specs.declared.terms.Term.{Term}
 use Rattle.apfloat_rounding.specs.declared.shape.Shape.{Shape}
 use Rattle.apfloat_arithmetic.specs.declared.other_formats.operands.Operand.TheVariants.{Number, Infinity}
+use Rattle.apfloat_arithmetic.specs.other_formats.{Operands.StandsFor, Operands.IsAmount, RootsOf.IsRootOf}
 use Rattle.apfloat_arithmetic.specs.other_formats.Extended.{Extended, number, infinity, not_number}
-use Rattle.apfloat_model.specs.declared.kinds.Round.{Round}
-use Rattle.apfloat_model.specs.formats.Format.{Format}
-use Rattle.apfloat_arithmetic.specs.other_formats.Operands.{StandsFor, IsAmount}
-use Rattle.apfloat_model.specs.rounding.DeliveredRoots.{IsDeliveredRoot}
-use Rattle.apfloat_model.specs.rounding.Answer.{IsAnswer}
-use Rattle.apfloat_model.specs.rounding.Rounding.{ok_bits, zero_sign}
-use Rattle.apfloat_arithmetic.specs.other_formats.RootsOf.{IsRootOf}
 
 -- what holds of the infinity that an operand is holds of each value that it stands for
 pub of_infinity : (P : Extended → Type 0) (into : Shape) (negative : Bool) (left : Extended)

@@ -1,13 +1,10 @@
 -- Amounts and significands at exponents, counted from the places of an amount.
 use Rattle.std.proofs.Common.{◌≡◌, ℕ, ◌+◌, ◌-◌, ◌*◌, ◌%◌, ◌^◌, ◌<◌, ◌≤◌, sym, ap}
 use Rattle.std.proofs.Common.{◌∙◌, subst, arith, ℤ, pos, neg_ℤ, ◌+ℤ◌, ◌-ℤ◌}
-use Rattle.std.proofs.Math.Path.{subst₂}
-use Rattle.std.proofs.Math.Nat.{eq_of_mul-eq-mul_right, mul-pos, mod-eq_of_lt}
-use Rattle.std.proofs.lemmas.Int.{ints}
-use Rattle.std.proofs.lemmas.Nat.{pow_pos, pow-add}
+use Rattle.std.proofs.Math.{Path.subst₂, Nat.eq_of_mul-eq-mul_right, Nat.mul-pos, Nat.mod-eq_of_lt}
+use Rattle.std.proofs.lemmas.{Int.ints, Nat.pow_pos, Nat.pow-add}
 use Rattle.apfloat_model.specs.declared.loss.Loss.{Loss}
-use Rattle.apfloat_model.specs.rounding.Standing.{StandsFor, up, down}
-use Rattle.apfloat_model.specs.rounding.RoundingToOdd.{IsRoundedToOdd}
+use Rattle.apfloat_model.specs.rounding.{Standing.StandsFor, Standing.up, Standing.down, RoundingToOdd.IsRoundedToOdd}
 use Rattle.apfloat_model.proofs.arithmetic.Fractions.{product_stands, quotient_carries}
 use Rattle.apfloat_model.proofs.general.Powers.{pow3, left_factor}
 use Rattle.apfloat_model.proofs.rounding.KeptDigits.{stands_cancel, stands_times, fits_shifted, full_shifted}

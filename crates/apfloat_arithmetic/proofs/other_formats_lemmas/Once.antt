@@ -2,8 +2,8 @@
 use Rattle.apfloat_model.proofs.Outcomes.{yields_once}
 use Rattle.apfloat_arithmetic.specs.other_formats.Extended.{seen, opposite}
 use Rattle.apfloat_arithmetic.specs.other_formats.FormatOf.{sum_of, product_of, quotient_of, fused_sum_of}
-use Rattle.apfloat_arithmetic.specs.other_formats.RootsOf.{root_of}
-use Rattle.apfloat_arithmetic.specs.other_formats.Theorems.{HasOneSum, HasOneDifference, HasOneProduct, HasOneQuotient, HasOneFusedSum, HasOneRoot}
+use Rattle.apfloat_arithmetic.specs.other_formats.{RootsOf.root_of, Theorems.HasOneSum, Theorems.HasOneDifference}
+use Rattle.apfloat_arithmetic.specs.other_formats.Theorems.{HasOneProduct, HasOneQuotient, HasOneFusedSum, HasOneRoot}
 
 pub has_one_sum : HasOneSum
 has_one_sum f h g mode x y = yields_once g mode (sum_of g (seen f g x) (seen h g y))

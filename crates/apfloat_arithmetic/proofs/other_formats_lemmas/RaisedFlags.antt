@@ -3,7 +3,8 @@ use Rattle.apfloat_model.specs.formats.Format.{Format}
 use Rattle.apfloat_model.proofs.Outcomes.{yields_together}
 use Rattle.apfloat_arithmetic.specs.other_formats.Extended.{seen, opposite}
 use Rattle.apfloat_arithmetic.specs.other_formats.RaisedFlags.{FormatOfFlagsGoTogether}
-use Rattle.apfloat_arithmetic.proofs.other_formats_lemmas.SoundOutcomes.{sum_sound, product_sound, quotient_sound, fused_sum_sound, root_sound}
+use Rattle.apfloat_arithmetic.proofs.other_formats_lemmas.SoundOutcomes.{sum_sound, product_sound, quotient_sound}
+use Rattle.apfloat_arithmetic.proofs.other_formats_lemmas.SoundOutcomes.{fused_sum_sound, root_sound}
 
 pub raise_together : (g : Format) → FormatOfFlagsGoTogether g
 raise_together g =

@@ -1,7 +1,6 @@
 -- The unit of a root of another format's number.
 use Rattle.std.proofs.Common.{◌≡◌, ℕ, ◌+◌, ◌*◌, ◌^◌, sym, ap, ◌∙◌, arith, ℤ, pos, neg_ℤ, ◌+ℤ◌, ◌-ℤ◌}
-use Rattle.std.proofs.lemmas.Int.{ints}
-use Rattle.std.proofs.lemmas.Nat.{pow-add}
+use Rattle.std.proofs.lemmas.{Int.ints, Nat.pow-add}
 use Rattle.apfloat_model.specs.rounding.Standing.{up, down}
 use Rattle.apfloat_model.proofs.general.Powers.{pow3}
 use Rattle.apfloat_rounding.specs.Stored.{IsQuantaAt}

@@ -1,16 +1,14 @@
 -- Every outcome of an operation that delivers in another format is sound.
 use Rattle.std.proofs.Common.{ℕ, ◌||◌, ◌+◌, ◌*◌, Bool, false, eqb}
-use Rattle.std.proofs.Math.Nat.{mul-pos}
-use Rattle.std.proofs.lemmas.Nat.{pow_pos}
-use Rattle.apfloat_model.specs.formats.Format.{Format}
-use Rattle.apfloat_model.specs.rounding.Outcome.{IsSound}
-use Rattle.apfloat_model.specs.rounding.RaisedFlags.{FlagsGoTogether}
-use Rattle.apfloat_model.specs.arithmetic.Exact.{same_sign, product_sign}
-use Rattle.apfloat_model.specs.arithmetic.Conversions.{has_infinities}
+use Rattle.std.proofs.{Math.Nat.mul-pos, lemmas.Nat.pow_pos}
+use Rattle.apfloat_model.specs.{formats.Format.Format, rounding.Outcome.IsSound, rounding.RaisedFlags.FlagsGoTogether}
+use Rattle.apfloat_model.specs.arithmetic.{Exact.same_sign, Exact.product_sign, Conversions.has_infinities}
 use Rattle.apfloat_model.proofs.general.Choices.{if_case, above_zero}
-use Rattle.apfloat_model.proofs.rounding.StatusesTogether.{ok_together, invalid_together, invalid_if_together, div_by_zero_together, only_inexact_together}
+use Rattle.apfloat_model.proofs.rounding.StatusesTogether.{ok_together, invalid_together, invalid_if_together}
+use Rattle.apfloat_model.proofs.rounding.StatusesTogether.{div_by_zero_together, only_inexact_together}
 use Rattle.apfloat_arithmetic.specs.other_formats.Extended.{Extended, number, infinity, not_number, signals}
-use Rattle.apfloat_arithmetic.specs.other_formats.FormatOf.{infinity_to, sum_of, number_by_infinity, product_of, quotient_of, sum_with_infinity, fused_sum_of}
+use Rattle.apfloat_arithmetic.specs.other_formats.FormatOf.{infinity_to, sum_of, number_by_infinity, product_of}
+use Rattle.apfloat_arithmetic.specs.other_formats.FormatOf.{quotient_of, sum_with_infinity, fused_sum_of}
 use Rattle.apfloat_arithmetic.specs.other_formats.RootsOf.{root_of}
 
 infinity_sound : (g : Format) (negative : Bool) → IsSound (infinity_to g negative)

@@ -1,9 +1,7 @@
 -- A value without a format, as an operation that delivers in another format sees it.
 use Rattle.std.specs.Prelude.{ℕ, Bool, false, not}
-use Rattle.apfloat_model.specs.formats.Format.{Format}
-use Rattle.apfloat_model.specs.formats.Datum.{Datum, finite, infinite, nan}
-use Rattle.apfloat_model.specs.formats.Nan.{is_signaling}
-use Rattle.apfloat_model.specs.arithmetic.Conversions.{converted_nan}
+use Rattle.apfloat_model.specs.formats.{Format.Format, Datum.Datum, Datum.finite, Datum.infinite, Datum.nan}
+use Rattle.apfloat_model.specs.{formats.Nan.is_signaling, arithmetic.Conversions.converted_nan}
 
 pub data Extended : Type 0 where
   -- a sign, and the number amount * 2 ^ -places

@@ -1,18 +1,14 @@
 -- Operations that deliver in another format g (IEEE 754-2019 5.4.1, formatOf): the exact result of the operands is
 -- rounded once, in g.
 use Rattle.std.specs.Prelude.{ℕ, ◌+◌, ◌*◌, ◌^◌, Bool, ◌||◌, eqb, ℤ, pos, ◌+ℤ◌, ◌*ℤ◌, if◌then◌else◌}
+use Rattle.apfloat_model.specs.{rounding.Answer.IsAnswer, arithmetic.Exact.same_sign, arithmetic.Exact.product_sign}
 use Rattle.apfloat_model.specs.declared.kinds.Round.{Round}
-use Rattle.apfloat_model.specs.formats.Format.{Format}
-use Rattle.apfloat_model.specs.formats.Datum.{Datum}
-use Rattle.apfloat_model.specs.formats.Constants.{infinity_of}
-use Rattle.apfloat_model.specs.formats.Nan.{invalid_if}
+use Rattle.apfloat_model.specs.formats.{Format.Format, Datum.Datum, Constants.infinity_of, Nan.invalid_if}
 use Rattle.apfloat_model.specs.rounding.Outcome.{Outcome, settled, rounded, totalled, exactly, invalid, Yields}
 use Rattle.apfloat_model.specs.rounding.Rounding.{ok_bits, inexact_bit, signed_quanta}
-use Rattle.apfloat_model.specs.rounding.Answer.{IsAnswer}
-use Rattle.apfloat_model.specs.arithmetic.Exact.{same_sign, product_sign, signed}
-use Rattle.apfloat_model.specs.arithmetic.Quotients.{div_by_zero_bit}
-use Rattle.apfloat_model.specs.arithmetic.Conversions.{has_infinities}
-use Rattle.apfloat_arithmetic.specs.other_formats.Extended.{Extended, number, infinity, not_number, seen, signals, opposite}
+use Rattle.apfloat_model.specs.arithmetic.{Exact.signed, Quotients.div_by_zero_bit, Conversions.has_infinities}
+use Rattle.apfloat_arithmetic.specs.other_formats.Extended.{Extended, number, infinity, not_number, seen, signals}
+use Rattle.apfloat_arithmetic.specs.other_formats.Extended.{opposite}
 
 -- ---- results
 

@@ -1,15 +1,11 @@
 -- What an operand of the code stands for.
 use Rattle.std.specs.Prelude.{◌≡◌, ◌⊎◌, ⊤, ℕ, ◌*◌, ◌^◌, ◌<◌, ◌≤◌, Bool, ℤ, pos, neg_ℤ, ◌+ℤ◌}
 use Rattle.apfloat_model.specs.formats.Datum.{Datum}
-use Rattle.apfloat_model.specs.rounding.Bounds.{IsWithin, number_bound}
-use Rattle.apfloat_model.specs.rounding.RoundingToOdd.{IsRoundedToOdd}
+use Rattle.apfloat_model.specs.rounding.{Bounds.IsWithin, Bounds.number_bound, RoundingToOdd.IsRoundedToOdd}
 use Rattle.apfloat_model.specs.arithmetic.Exact.{up, down, signed, magnitude}
-use Rattle.apfloat_words.specs.declared.terms.Term.{Term}
-use Rattle.apfloat_words.specs.declared.u128_sum.U128Total.{U128Total}
-use Rattle.apfloat_rounding.specs.declared.shape.Shape.{Shape}
-use Rattle.apfloat_rounding.specs.Stored.{IsStored, IsQuantaAt, datum_at}
-use Rattle.apfloat_arithmetic.specs.declared.other_formats.operands.NanOperand.{NanOperand}
-use Rattle.apfloat_arithmetic.specs.declared.other_formats.operands.Operand.{Operand}
+use Rattle.apfloat_words.specs.declared.{terms.Term.Term, u128_sum.U128Total.U128Total}
+use Rattle.apfloat_rounding.specs.{declared.shape.Shape.Shape, Stored.IsStored, Stored.IsQuantaAt, Stored.datum_at}
+use Rattle.apfloat_arithmetic.specs.declared.other_formats.operands.{NanOperand.NanOperand, Operand.Operand}
 use Rattle.apfloat_arithmetic.specs.declared.other_formats.operands.Operand.TheVariants.{Number, Infinity, Nan}
 use Rattle.apfloat_arithmetic.specs.other_formats.Extended.{Extended, number, infinity, not_number}
 

@@ -1,11 +1,9 @@
 -- OVERFLOW and UNDERFLOW are raised only together with INEXACT, by each operation that delivers in another format.
 use Rattle.std.specs.Prelude.{ℕ}
-use Rattle.apfloat_model.specs.declared.kinds.Round.{Round}
-use Rattle.apfloat_model.specs.formats.Format.{Format}
-use Rattle.apfloat_model.specs.formats.Datum.{Datum}
+use Rattle.apfloat_model.specs.{declared.kinds.Round.Round, formats.Format.Format, formats.Datum.Datum}
 use Rattle.apfloat_model.specs.rounding.RaisedFlags.{FlagsGoTogether}
-use Rattle.apfloat_arithmetic.specs.other_formats.FormatOf.{IsSumTo, IsDifferenceTo, IsProductTo, IsQuotientTo, IsFusedSumTo}
-use Rattle.apfloat_arithmetic.specs.other_formats.RootsOf.{IsRootTo}
+use Rattle.apfloat_arithmetic.specs.other_formats.FormatOf.{IsSumTo, IsDifferenceTo, IsProductTo, IsQuotientTo}
+use Rattle.apfloat_arithmetic.specs.other_formats.{FormatOf.IsFusedSumTo, RootsOf.IsRootTo}
 
 abbrev pub RaisesTogether : (Datum → ℕ → Type 0) → Type 0
 RaisesTogether Says = (value : Datum) (status : ℕ) → Says value status → FlagsGoTogether status

@@ -3,11 +3,9 @@
 -- The root of a number of one format need not be the root of quanta of another, so it is that of an integer, divided by
 -- parts.
 use Rattle.std.specs.Prelude.{ℕ, ◌*◌, ◌^◌, false, eqb, if◌then◌else◌}
-use Rattle.apfloat_model.specs.declared.kinds.Round.{Round}
-use Rattle.apfloat_model.specs.formats.Format.{Format}
-use Rattle.apfloat_model.specs.formats.Datum.{Datum, finite}
-use Rattle.apfloat_model.specs.rounding.Outcome.{Outcome, rooted, exactly, invalid, Yields}
-use Rattle.apfloat_model.specs.rounding.Rounding.{zero_sign}
+use Rattle.apfloat_model.specs.{declared.kinds.Round.Round, formats.Format.Format, formats.Datum.Datum}
+use Rattle.apfloat_model.specs.{formats.Datum.finite, rounding.Outcome.Outcome, rounding.Outcome.rooted}
+use Rattle.apfloat_model.specs.rounding.{Outcome.exactly, Outcome.invalid, Outcome.Yields, Rounding.zero_sign}
 use Rattle.apfloat_arithmetic.specs.other_formats.Extended.{Extended, number, infinity, not_number, seen}
 use Rattle.apfloat_arithmetic.specs.other_formats.FormatOf.{nan_to, infinity_to}
 

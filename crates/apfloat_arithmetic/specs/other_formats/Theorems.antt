@@ -1,10 +1,8 @@
 -- Each operation has at most one value and one status.
-use Rattle.apfloat_model.specs.Determined.{DeterminesBoth}
-use Rattle.apfloat_model.specs.declared.kinds.Round.{Round}
-use Rattle.apfloat_model.specs.formats.Format.{Format}
-use Rattle.apfloat_model.specs.formats.Datum.{Datum}
-use Rattle.apfloat_arithmetic.specs.other_formats.FormatOf.{IsSumTo, IsDifferenceTo, IsProductTo, IsQuotientTo, IsFusedSumTo}
-use Rattle.apfloat_arithmetic.specs.other_formats.RootsOf.{IsRootTo}
+use Rattle.apfloat_model.specs.{Determined.DeterminesBoth, declared.kinds.Round.Round}
+use Rattle.apfloat_model.specs.formats.{Format.Format, Datum.Datum}
+use Rattle.apfloat_arithmetic.specs.other_formats.FormatOf.{IsSumTo, IsDifferenceTo, IsProductTo, IsQuotientTo}
+use Rattle.apfloat_arithmetic.specs.other_formats.{FormatOf.IsFusedSumTo, RootsOf.IsRootTo}
 
 abbrev pub HasOneSum : Type 0
 HasOneSum = (f h g : Format) (mode : Round) (x y : Datum) → DeterminesBoth (IsSumTo f h g mode x y)

@@ -1,10 +1,8 @@
 //! Fused sums: the product of two operands plus a third, rounded once.
 
 ghost use Rattle.std.specs.Prelude.{ℕ};
-ghost use Rattle.apfloat_model.specs.declared.kinds.Round.{Round};
-ghost use Rattle.apfloat_model.specs.rounding.Outcome.{Yields};
-ghost use Rattle.apfloat_rounding.specs.Shapes.{format_at};
-ghost use Rattle.apfloat_rounding.specs.Stored.{IsStored, GivesAt};
+ghost use Rattle.apfloat_model.specs.{declared.kinds.Round.Round, rounding.Outcome.Yields};
+ghost use Rattle.apfloat_rounding.specs.{Shapes.format_at, Stored.IsStored, Stored.GivesAt};
 ghost use Rattle.apfloat_arithmetic.specs.other_formats.Extended.{Extended, number};
 ghost use Rattle.apfloat_arithmetic.specs.other_formats.Operands.{IsOperand, IsTerm, IsAmount, StandsFor};
 ghost use Rattle.apfloat_arithmetic.specs.other_formats.FormatOf.{IsFusedSumOf, sum_with_infinity};

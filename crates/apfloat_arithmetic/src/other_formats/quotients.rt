@@ -1,10 +1,8 @@
 //! Quotients.
 
 ghost use Rattle.std.specs.Prelude.{ℕ, ◌<◌, ◌+◌, ◌*◌, ◌^◌};
-ghost use Rattle.apfloat_model.specs.arithmetic.Exact.{product_sign};
-ghost use Rattle.apfloat_model.specs.rounding.Rounding.{IsDelivered};
-ghost use Rattle.apfloat_rounding.specs.Shapes.{format_at};
-ghost use Rattle.apfloat_rounding.specs.Stored.{IsStored, GivesAt};
+ghost use Rattle.apfloat_model.specs.{arithmetic.Exact.product_sign, rounding.Rounding.IsDelivered};
+ghost use Rattle.apfloat_rounding.specs.{Shapes.format_at, Stored.IsStored, Stored.GivesAt};
 ghost use Rattle.apfloat_arithmetic.specs.other_formats.Extended.{Extended, number};
 ghost use Rattle.apfloat_arithmetic.specs.other_formats.Operands.{IsOperand, IsTerm, IsAmount, StandsFor};
 ghost use Rattle.apfloat_arithmetic.specs.other_formats.FormatOf.{IsQuotientOf};

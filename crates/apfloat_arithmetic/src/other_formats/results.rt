@@ -1,10 +1,8 @@
 //! Results in the format of the target.
 
 ghost use Rattle.std.specs.Prelude.{ℕ, ℤ};
-ghost use Rattle.apfloat_model.specs.rounding.Bounds.{IsWithin, exponent_bound};
-ghost use Rattle.apfloat_model.specs.rounding.Outcome.{Yields};
-ghost use Rattle.apfloat_rounding.specs.Shapes.{format_at};
-ghost use Rattle.apfloat_rounding.specs.Stored.{IsStored, datum_at, GivesAt};
+ghost use Rattle.apfloat_model.specs.rounding.{Bounds.IsWithin, Bounds.exponent_bound, Outcome.Yields};
+ghost use Rattle.apfloat_rounding.specs.{Shapes.format_at, Stored.IsStored, Stored.datum_at, Stored.GivesAt};
 ghost use Rattle.apfloat_arithmetic.specs.other_formats.Operands.{IsTotalOf};
 ghost use Rattle.apfloat_arithmetic.specs.other_formats.FormatOf.{IsNan, IsInfinity, total_to};
 

@@ -1,8 +1,7 @@
 //! Sums and differences.
 
 ghost use Rattle.std.specs.Prelude.{ℕ};
-ghost use Rattle.apfloat_rounding.specs.Shapes.{format_at};
-ghost use Rattle.apfloat_rounding.specs.Stored.{IsStored, GivesAt};
+ghost use Rattle.apfloat_rounding.specs.{Shapes.format_at, Stored.IsStored, Stored.GivesAt};
 ghost use Rattle.apfloat_arithmetic.specs.other_formats.Extended.{Extended, number, infinity, opposite};
 ghost use Rattle.apfloat_arithmetic.specs.other_formats.Operands.{IsOperand, IsTerm, IsAmount, StandsFor};
 ghost use Rattle.apfloat_arithmetic.specs.other_formats.FormatOf.{IsSumOf};

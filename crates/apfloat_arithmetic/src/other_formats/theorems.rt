@@ -2,8 +2,8 @@
 
 ghost use Rattle.apfloat_model.specs.formats.Format.{Format};
 ghost use Rattle.apfloat_arithmetic.specs.other_formats.RaisedFlags.{FormatOfFlagsGoTogether};
-ghost use Rattle.apfloat_arithmetic.specs.other_formats.Theorems.{HasOneSum, HasOneDifference, HasOneProduct, HasOneQuotient};
-ghost use Rattle.apfloat_arithmetic.specs.other_formats.Theorems.{HasOneFusedSum, HasOneRoot};
+ghost use Rattle.apfloat_arithmetic.specs.other_formats.Theorems.{HasOneSum, HasOneDifference, HasOneProduct};
+ghost use Rattle.apfloat_arithmetic.specs.other_formats.Theorems.{HasOneQuotient, HasOneFusedSum, HasOneRoot};
 
 /// Each operation has at most one value and one status, for all formats, modes and operands.
 pub fn operations_have_one_answer()

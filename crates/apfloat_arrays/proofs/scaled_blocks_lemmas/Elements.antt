@@ -1,21 +1,20 @@
 -- The codes of elements, from bits to bits.
+use Rattle.std.proofs.{Common.lit<, Common.lit≤, Math.Path.subst₂, Math.Nat.div-eq_of_lt, Math.Nat.mod-eq_of_lt}
 use Rattle.std.proofs.Common.{◌≡◌, ℕ, ◌+◌, ◌-◌, ◌*◌, ◌/◌, ◌%◌, ◌^◌, ◌<◌, ◌≤◌}
 use Rattle.std.proofs.Common.{Bool, true, false, cond, ◌&&◌, eqb, refl, sym, ap, ◌∙◌, subst, ⊎_elim, arith}
-use Rattle.std.proofs.{Common.lit<, Common.lit≤, Math.Path.subst₂, Math.Nat.div-eq_of_lt, Math.Nat.mod-eq_of_lt}
 use Rattle.std.proofs.lemmas.Bool.{cases_eq, cases_lt, eq-eqb, le-ltb, lt-ltb, ne_eqb}
 use Rattle.std.proofs.lemmas.Nat.{div-add-mod', mod_below, pow-add, pow_pos}
 use Rattle.std.specs.Prelude.{negsuc}
-use Rattle.apfloat_model.specs.bits.Interchange.{IsInterchange}
+use Rattle.apfloat_model.specs.{declared.kinds.Round.Round, formats.Datum.Datum, bits.Interchange.IsInterchange}
 use Rattle.apfloat_model.specs.bits.Layout.{datum_of as bits_datum, datum_of_fields, implied_number}
-use Rattle.apfloat_model.specs.{declared.kinds.Round.Round, formats.Datum.Datum}
 use Rattle.apfloat_model.specs.formats.{Datum.finite, Format.Format, Formats.e4m3fn_constants, Formats.e5m2_constants}
 use Rattle.apfloat_model.specs.formats.Lawful.{Constants, format_with, layout_with}
 use Rattle.apfloat_model.proofs.bits.EncodedOnce.{fields_with}
 use Rattle.formats_at_run_time.specs.ValueKinds.{value_of}
-use Rattle.small_formats.specs.{Codes.point, LawTest.lawful_from_test}
+use Rattle.small_formats.specs.{Codes.point, LawTest.lawful_from_test, blocks.Elements.format_of_element}
+use Rattle.small_formats.specs.{declared.blocks.ElementFormat.ElementFormat}
 use Rattle.small_formats.specs.Storage.{IsLawfulStorage, StorageConstants, constants_with, format_with as stored_format}
 use Rattle.small_formats.specs.blocks.Elements.{IsElement, IsQuotientBy, e2m1fn, e2m3fn, e3m2fn, element_datum}
-use Rattle.small_formats.specs.{blocks.Elements.format_of_element, declared.blocks.ElementFormat.ElementFormat}
 use Rattle.small_formats.specs.declared.blocks.ElementFormat.TheVariants.{E5M2, E4M3FN, E3M2FN, E2M3FN, E2M1FN}
 use Rattle.apfloat_arrays.specs.scaled_blocks.Elements.{IsCodedIn}
 use Rattle.apfloat_arrays.specs.stored.NumberCodes.{HasCodes, IsCodedNumber, is_minus, quanta_in}

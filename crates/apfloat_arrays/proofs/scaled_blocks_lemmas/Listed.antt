@@ -1,7 +1,6 @@
 -- Values in consecutive bytes, as a list.
-use Rattle.std.proofs.Common.{◌≡◌, ℕ, zero, suc, ◌+◌, ◌<◌, true, refl, ap, ◌∙◌, arith, List, []}
-use Rattle.std.proofs.Common.{◌∷◌, ◌++◌, length, Some}
-use Rattle.std.proofs.lemmas.Bool.{and_from, and_parts}
+use Rattle.std.proofs.Common.{◌≡◌, ℕ, zero, suc, ◌+◌, ◌<◌, true, refl, ap, ◌∙◌, arith, List, [], ◌∷◌, ◌++◌, length}
+use Rattle.std.proofs.{Common.Some, lemmas.Bool.and_from, lemmas.Bool.and_parts}
 use Rattle.std.specs.Prelude.{slice_get}
 use Rattle.rustc_apfloat.specs.{Datum.Datum, Lawful.Constants}
 use Rattle.apfloat_model.specs.order.Classes.{is_finite}

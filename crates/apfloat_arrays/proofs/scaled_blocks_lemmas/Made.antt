@@ -1,10 +1,9 @@
 -- Blocks that are made one after another.
-use Rattle.std.proofs.Common.{◌≡◌, ℕ, ◌+◌, ◌-◌, ◌*◌, ◌<◌, refl, sym, ap, ◌∙◌, arith, List}
-use Rattle.std.proofs.Common.{[], ◌∷◌, ◌++◌, length, take}
+use Rattle.std.proofs.Common.{◌≡◌, ℕ, ◌+◌, ◌-◌, ◌*◌, ◌<◌, refl, sym, ap, ◌∙◌, arith, List, [], ◌∷◌, ◌++◌, length, take}
 use Rattle.std.proofs.lemmas.List.{map-append, take_more_set}
 use Rattle.std.specs.Prelude.{map, slice_set}
-use Rattle.apfloat_arrays.specs.declared.{counts.Counts.Counts, scaled_blocks.quantizing.Quantization.Quantization}
 use Rattle.apfloat_arrays.specs.{Blocks.AreInPlaces, Outcomes.sum_of}
+use Rattle.apfloat_arrays.specs.declared.{counts.Counts.Counts, scaled_blocks.quantizing.Quantization.Quantization}
 use Rattle.apfloat_arrays.specs.scaled_blocks.Quantized.{IsBlockOf, counts_with, no_counts, total_of}
 use Rattle.apfloat_arrays.proofs.Places.{places_more, places_none}
 use Rattle.small_formats.specs.declared.blocks.mx.Block.{Block}

@@ -1,19 +1,18 @@
 -- The bits of numbers: without the sign, they number the magnitudes from zero up.
-use Rattle.std.proofs.Common.{◌≡◌, ℕ, ◌+◌, ◌-◌, ◌*◌, ◌/◌, ◌%◌, ◌^◌, ◌<◌, ◌≤◌}
-use Rattle.std.proofs.Common.{min, Bool, true, false, cond, eqb, refl, sym, ap, ◌∙◌, ⊎_elim, arith, max}
-use Rattle.std.proofs.Common.{◌&&◌, List, [], ◌∷◌, ◌++◌, subst}
-use Rattle.std.proofs.Math.{Arith.mod-mul, Nat.add-mul-mod_self_right, Nat.min-eq_right, Nat.mod-eq_of_lt}
 use Rattle.std.proofs.{Math.Nat.mul-le-mul_right, Math.Nat.mul-pos, lemmas.Bool.cases_lt, lemmas.Bool.cond-false}
+use Rattle.std.proofs.Common.{◌≡◌, ℕ, ◌+◌, ◌-◌, ◌*◌, ◌/◌, ◌%◌, ◌^◌, ◌<◌, ◌≤◌, min, Bool, true, false, cond, eqb, refl}
+use Rattle.std.proofs.Common.{sym, ap, ◌∙◌, ⊎_elim, arith, max, ◌&&◌, List, [], ◌∷◌, ◌++◌, subst}
+use Rattle.std.proofs.Math.{Arith.mod-mul, Nat.add-mul-mod_self_right, Nat.min-eq_right, Nat.mod-eq_of_lt}
 use Rattle.std.proofs.lemmas.{Bool.eq-eqb, Bool.true≢false, Nat.div-mul-add, Nat.mod_below, Nat.pow-add, Nat.pow_pos}
 use Rattle.apfloat_model.proofs.{general.Powers.twice_half, formats.Ranges.ieee_within}
 use Rattle.apfloat_model.proofs.bits.{Encodings.has_bits, EncodedOnce.fields_with}
+use Rattle.apfloat_model.specs.{order.Classes.is_finite, order.Classes.quanta_of, rounding.Grid.IsOnGrid}
 use Rattle.apfloat_model.specs.bits.{Interchange.IsInterchange, Layout.IsEncodedBy}
 use Rattle.apfloat_model.specs.bits.Layout.{Layout, all_ones, datum_of_fields, implied_datum, trailing_bits}
 use Rattle.apfloat_model.specs.declared.kinds.NonfiniteBehavior.{NonfiniteBehavior, TheVariants.IEEE754}
 use Rattle.apfloat_model.specs.formats.Datum.{Datum, finite, infinite, nan}
 use Rattle.apfloat_model.specs.formats.Format.{Format, largest}
 use Rattle.apfloat_model.specs.formats.Lawful.{Constants, IsLawful, format_with, layout_with}
-use Rattle.apfloat_model.specs.{order.Classes.is_finite, order.Classes.quanta_of, rounding.Grid.IsOnGrid}
 use Rattle.formats_at_run_time.specs.ValueKinds.{value_of}
 use Rattle.small_formats.specs.{Codes.index_of, Codes.point, blocks.Magnitudes.are_finite}
 use Rattle.small_formats.proofs.{Points.at_index, Points.low_point, Points.point_on_grid, StoredPicks.not_greater}

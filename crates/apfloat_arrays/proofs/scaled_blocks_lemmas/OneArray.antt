@@ -7,19 +7,18 @@ use Rattle.rustc_apfloat.specs.{Lawful.format_with, Lawful.layout_with, Layout.I
 use Rattle.apfloat_model.proofs.bits.{EncodedOnce.encoded_once, Encodings.lawful_interchange}
 use Rattle.formats_at_run_time.specs.{BuiltIns.constants_in, FlaggedKinds.flagged_constants}
 use Rattle.formats_at_run_time.proofs.FormatLaws.{HasLaw, format_law}
+use Rattle.apfloat_arrays.specs.{declared.scaled_blocks.quantizing.Quantization.Quantization, Bytes.number_of}
 use Rattle.apfloat_arrays.specs.declared.counts.{Counts.Counts, Outcome.Outcome}
 use Rattle.apfloat_arrays.specs.declared.scaled_blocks.dequantizing.Dequantization.{Dequantization}
 use Rattle.apfloat_arrays.specs.declared.scaled_blocks.errors.ArrayError.{ArrayError}
 use Rattle.apfloat_arrays.specs.declared.scaled_blocks.errors.ArrayError.TheVariants.{EmptyBlock, Uneven, Lengths}
 use Rattle.apfloat_arrays.specs.declared.scaled_blocks.errors.ArrayError.TheVariants.{TensorScale, CodeTooWide}
-use Rattle.apfloat_arrays.specs.declared.scaled_blocks.formats.BlockFormat.{BlockFormat}
-use Rattle.apfloat_arrays.specs.{declared.scaled_blocks.quantizing.Quantization.Quantization, Bytes.number_of}
-use Rattle.apfloat_arrays.specs.Outcomes.{counts_of}
+use Rattle.apfloat_arrays.specs.{declared.scaled_blocks.formats.BlockFormat.BlockFormat, Outcomes.counts_of}
+use Rattle.apfloat_arrays.specs.scaled_blocks.{Dequantized.width_out, Lengths.blocks_in, Quantized.width_in}
+use Rattle.apfloat_arrays.specs.scaled_blocks.{Values.values_in}
 use Rattle.apfloat_arrays.specs.scaled_blocks.Dequantized.{AreDequantized, IsDequantizedArray, IsScaledAt, IsScaledCode}
-use Rattle.apfloat_arrays.specs.scaled_blocks.{Dequantized.width_out, Lengths.blocks_in}
 use Rattle.apfloat_arrays.specs.scaled_blocks.OneArray.{AreLeftIn, IsDequantizedArrayOnce, IsQuantizedArrayOnce}
 use Rattle.apfloat_arrays.specs.scaled_blocks.Quantized.{AreQuantized, IsBlockOf, IsQuantizedArray, no_counts, total_of}
-use Rattle.apfloat_arrays.specs.scaled_blocks.{Quantized.width_in, Values.values_in}
 use Rattle.apfloat_arrays.proofs.{OneBlock.same_outcome, PlacesOnce.FixesPlaces, PlacesOnce.places_once}
 use Rattle.apfloat_arrays.proofs.scaled_blocks_lemmas.Fitting.{fitting}
 use Rattle.apfloat_arrays.proofs.scaled_blocks_lemmas.Formats.{block_in_once, not_both_in, scaled_in_once}

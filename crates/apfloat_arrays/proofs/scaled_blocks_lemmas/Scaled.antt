@@ -1,16 +1,15 @@
 -- Elements that are multiplied one after another.
-use Rattle.std.proofs.Common.{◌≡◌, ℕ, ◌+◌, ◌-◌, ◌*◌, ◌^◌, ◌<◌, refl, ap, ◌∙◌, List}
-use Rattle.std.proofs.Common.{Bool, [], ◌∷◌, ◌++◌, length, arith}
+use Rattle.std.proofs.Common.{◌≡◌, ℕ, ◌+◌, ◌-◌, ◌*◌, ◌^◌, ◌<◌, refl, ap, ◌∙◌, List, Bool, [], ◌∷◌, ◌++◌, length, arith}
 use Rattle.std.proofs.lemmas.List.Sums.{count_by-le-length}
 use Rattle.std.specs.Prelude.{count_by}
 use Rattle.rustc_apfloat.specs.Lawful.{Constants}
-use Rattle.apfloat_arrays.specs.declared.counts.{Counts.Counts, Outcome.Outcome}
 use Rattle.apfloat_arrays.specs.{declared.scaled_blocks.dequantizing.Dequantization.Dequantization, Blocks.AreInPlaces}
+use Rattle.apfloat_arrays.specs.declared.counts.{Counts.Counts, Outcome.Outcome}
 use Rattle.apfloat_arrays.specs.Outcomes.{HaveRoom, became_nan, counts_of, raised, with_outcome}
 use Rattle.apfloat_arrays.specs.scaled_blocks.Dequantized.{IsScaledAt}
 use Rattle.apfloat_arrays.proofs.Places.{counts_push, places_more, places_none}
-use Rattle.formats_at_run_time.specs.FlaggedKinds.{flagged_constants, format_without_rule}
 use Rattle.formats_at_run_time.specs.{BuiltIns.constants_in, declared.flagged.FlaggedFormat.FlaggedFormat}
+use Rattle.formats_at_run_time.specs.FlaggedKinds.{flagged_constants, format_without_rule}
 use Rattle.formats_at_run_time.specs.declared.flagged.FlaggedFormat.TheVariants.{BuiltIn, AfterRounding, BeforeRounding}
 use borrow.Rule.Slice.PartMut.{put_mid}
 

@@ -1,13 +1,12 @@
 -- One more value that is stored by a mode of conversions.
-use Rattle.std.proofs.Common.{◌≡◌, ℕ, ◌+◌, ◌-◌, ◌*◌, ◌<◌, ◌≤◌, List, [], ◌∷◌}
-use Rattle.std.proofs.Common.{◌++◌, length, sym, subst, ap, ◌∙◌, lit≤}
+use Rattle.std.proofs.Common.{◌≡◌, ℕ, ◌+◌, ◌-◌, ◌*◌, ◌<◌, ◌≤◌, List, [], ◌∷◌, ◌++◌, length, sym, subst, ap, ◌∙◌, lit≤}
+use Rattle.apfloat_arrays.specs.{declared.stored.by_mode.ModeConversion.ModeConversion, Blocks.value_at}
+use Rattle.apfloat_arrays.specs.{Bytes.number_of, Outcomes.with_outcome, stored.ByMode.AreStoredWith}
 use Rattle.apfloat_arrays.specs.declared.counts.{Counts.Counts, Outcome.Outcome}
 use Rattle.apfloat_arrays.specs.declared.stored.formats.StoredFormat.{StoredFormat, TheVariants.E2M1FN}
 use Rattle.apfloat_arrays.specs.declared.stored.formats.StoredFormat.TheVariants.{E2M3FN, E3M2FN, E3M4, E8M0FNU, UE4M3}
 use Rattle.apfloat_arrays.specs.declared.stored.by_mode.EachRound.{EachRound}
 use Rattle.apfloat_arrays.specs.declared.stored.by_mode.EachRound.TheVariants.{Ieee, ToOdd, Stochastic}
-use Rattle.apfloat_arrays.specs.{declared.stored.by_mode.ModeConversion.ModeConversion, Blocks.value_at}
-use Rattle.apfloat_arrays.specs.{Bytes.number_of, Outcomes.with_outcome, stored.ByMode.AreStoredWith}
 use Rattle.apfloat_arrays.specs.stored.ByMode.{HasRandomAt, HasRandoms, IsStoredAt, IsStoredWith, mode_width, random_of}
 use Rattle.apfloat_arrays.specs.stored.Formats.{bits_in}
 use Rattle.apfloat_arrays.proofs.Places.{counts_push, place_below, places_more}

@@ -1,14 +1,13 @@
 -- Codes that a table copies.
-use Rattle.std.proofs.Common.{◌≡◌, ℕ, ◌+◌, ◌-◌, ◌*◌, ◌%◌, ◌^◌, ◌<◌, ◌≤◌, List, []}
-use Rattle.std.proofs.Common.{◌∷◌, ◌++◌, length, sym, ap, ◌∙◌, subst, arith}
-use Rattle.std.proofs.lemmas.Nat.{pow_pos}
+use Rattle.std.proofs.Common.{◌≡◌, ℕ, ◌+◌, ◌-◌, ◌*◌, ◌%◌, ◌^◌, ◌<◌, ◌≤◌, List, [], ◌∷◌, ◌++◌, length, sym, ap, ◌∙◌}
+use Rattle.std.proofs.{Common.subst, Common.arith, lemmas.Nat.pow_pos}
 use Rattle.rustc_apfloat.specs.{declared.Round.Round, Datum.Datum, Flags.bits_of, Lawful.Constants, Lawful.format_with}
 use Rattle.small_formats.specs.{Codes.datum_of, Unsigned.unsigned_datum, declared.saturation.Overflow.Overflow}
 use Rattle.small_formats.specs.saturation.Saturation.{IsConversionBy}
-use Rattle.apfloat_arrays.specs.declared.{counts.Outcome.Outcome, stored.formats.StoredFormat.StoredFormat}
-use Rattle.apfloat_arrays.specs.declared.stored.formats.StoredFormat.TheVariants.{E2M1FN, E2M3FN, E3M2FN, E3M4, E8M0FNU}
 use Rattle.apfloat_arrays.specs.{declared.stored.formats.StoredFormat.TheVariants.UE4M3, Blocks.value_at}
 use Rattle.apfloat_arrays.specs.{Bytes.number_of, Entries.HasEntry, Entries.IsEntry, Tables.outcome_tally}
+use Rattle.apfloat_arrays.specs.declared.{counts.Outcome.Outcome, stored.formats.StoredFormat.StoredFormat}
+use Rattle.apfloat_arrays.specs.declared.stored.formats.StoredFormat.TheVariants.{E2M1FN, E2M3FN, E3M2FN, E3M4, E8M0FNU}
 use Rattle.apfloat_arrays.specs.stored.{Arrays.IsLoaded, CodeTables.AreCodeEntries, Formats.bits_in, Formats.datum_in}
 use Rattle.apfloat_arrays.specs.stored.Formats.{e2m1fn_constants, e2m3fn_constants, e3m2fn_constants, format_in}
 use Rattle.apfloat_arrays.proofs.{Places.places_more, TalliedResults.found}

@@ -1,11 +1,10 @@
 -- Numbers that become codes: a significand that is moved up, cut and rounded.
-use Rattle.std.proofs.Common.{◌≡◌, ℕ, ◌+◌, ◌-◌, ◌*◌, ◌/◌, ◌%◌, ◌^◌, ◌<◌, ◌≤◌}
-use Rattle.std.proofs.Common.{◌⊎◌, min, Bool, true, false, cond, not, eqb, leb, ltb, refl, sym, ap, ◌∙◌}
-use Rattle.std.proofs.Common.{subst, inl, inr, ⊎_elim, arith}
+use Rattle.std.proofs.Common.{◌≡◌, ℕ, ◌+◌, ◌-◌, ◌*◌, ◌/◌, ◌%◌, ◌^◌, ◌<◌, ◌≤◌, ◌⊎◌, min, Bool, true, false, cond, not}
+use Rattle.std.proofs.Common.{eqb, leb, ltb, refl, sym, ap, ◌∙◌, subst, inl, inr, ⊎_elim, arith}
 use Rattle.std.proofs.Math.Nat.{add-mul-mod_self_right, div-eq_of_lt, min-eq_left, min-eq_right, min-le_right}
 use Rattle.std.proofs.Math.Nat.{mod-eq_of_lt, mul-le-mul_right, mul-lt-mul_of_pos_right, pow-le-pow_right}
-use Rattle.std.proofs.lemmas.Bool.{cases_eq, cases_lt, cond-false, eq-eqb, eqb-true, le-leb, le-ltb, lt-leb, lt-ltb}
 use Rattle.std.proofs.lemmas.{Bool.eqb-false, Bool.ne_eqb, Nat.div-add-mod', Nat.mod_below, Nat.pow-add, Nat.pow_pos}
+use Rattle.std.proofs.lemmas.Bool.{cases_eq, cases_lt, cond-false, eq-eqb, eqb-true, le-leb, le-ltb, lt-leb, lt-ltb}
 use Rattle.std.specs.{Bool.MatchBool, Int.RustNames.bit_and}
 use Rattle.apfloat_model.specs.bits.Layout.{datum_of, datum_of_fields, trailing_bits}
 use Rattle.apfloat_model.specs.declared.kinds.{NonfiniteBehavior.TheVariants.IEEE754, Round.Round}
@@ -20,9 +19,9 @@ use Rattle.apfloat_rounding.specs.Cuts.{loss_at}
 use Rattle.apfloat_rounding.proofs.CutRests.{loss_zero, rest_stands, loss_some}
 use Rattle.fast_bits.specs.Addends.{rounded_by}
 use Rattle.fast_bits.proofs.lanes_lemmas.{Cuts.far_below, Cuts.in_quanta, Singles.fields_number}
+use Rattle.small_formats.specs.{Picks.IsPickedAt, blocks.Elements.IsSaturatedIn}
 use Rattle.small_formats.specs.Codes.{datum_of as number_of_code, largest_index, magnitude_of, point}
 use Rattle.small_formats.specs.Conversions.{IsGiven, IsInto, IsStoredNumber, saturated_value}
-use Rattle.small_formats.specs.{Picks.IsPickedAt, blocks.Elements.IsSaturatedIn}
 use Rattle.small_formats.specs.Storage.{IsLawfulStorage, StorageConstants, format_with}
 use Rattle.small_formats.proofs.Points.{points_in_order}
 use Rattle.small_formats.proofs.StoredPicks.{largest_point, not_greater, picked_at, tiny_is}

@@ -1,6 +1,5 @@
 -- The conversion of a value into a storage format or out of it is unique.
-use Rattle.std.proofs.Common.{◌≡◌, ℕ, ◌^◌, ◌<◌, Bool, true, false, List, sym, refl, ap, ◌∙◌}
-use Rattle.std.proofs.Common.{subst}
+use Rattle.std.proofs.Common.{◌≡◌, ℕ, ◌^◌, ◌<◌, Bool, true, false, List, sym, refl, ap, ◌∙◌, subst}
 use Rattle.std.specs.{Bool.MatchBool, Prelude.⊤}
 use Rattle.rustc_apfloat.specs.{declared.Round.Round, Classes.is_nan, Classes.is_negative, Datum.Datum, Datum.finite}
 use Rattle.rustc_apfloat.specs.{Datum.infinite, Datum.nan, Flags.bits_of, Format.Format}
@@ -15,14 +14,13 @@ use Rattle.small_formats.specs.declared.saturation.Overflow.TheVariants.{Rounded
 use Rattle.small_formats.proofs.{OneAnswer.into_once, OneAnswer.unsigned_once, ScaleModes.scale_once}
 use Rattle.small_formats.proofs.NarrowCodes.{e3m4_encoded, e3m4_interchange}
 use Rattle.formats_at_run_time.specs.{BuiltIns.constants_in, FlaggedKinds.flagged_constants}
+use Rattle.apfloat_arrays.specs.{Bytes.number_of, stored.Formats.format_in, stored.Formats.keeps_infinity}
 use Rattle.apfloat_arrays.specs.declared.counts.Outcome.{Outcome}
 use Rattle.apfloat_arrays.specs.declared.stored.formats.StoredFormat.{StoredFormat, TheVariants.E2M1FN}
 use Rattle.apfloat_arrays.specs.declared.stored.formats.StoredFormat.TheVariants.{E2M3FN, E3M2FN, E3M4, E8M0FNU, UE4M3}
 use Rattle.apfloat_arrays.specs.declared.stored.array.Ends.{Ends, TheVariants.Into, TheVariants.OutOf}
-use Rattle.apfloat_arrays.specs.Bytes.{number_of}
-use Rattle.apfloat_arrays.specs.stored.Arrays.{IsConvertedAt, IsLoaded, IsStoredAs}
+use Rattle.apfloat_arrays.specs.stored.{Stored.IsFiniteCode, Arrays.IsConvertedAt, Arrays.IsLoaded, Arrays.IsStoredAs}
 use Rattle.apfloat_arrays.specs.stored.Formats.{bits_in, datum_in, e2m1fn_constants, e2m3fn_constants, e3m2fn_constants}
-use Rattle.apfloat_arrays.specs.stored.{Formats.format_in, Formats.keeps_infinity, Stored.IsFiniteCode}
 use Rattle.apfloat_arrays.specs.stored.Stored.{IsLargest, IsOwn, IsSaturatedCode, IsStoredBy, saturated_code}
 use Rattle.apfloat_arrays.proofs.OneBlock.{conversion_by_once, same_outcome}
 

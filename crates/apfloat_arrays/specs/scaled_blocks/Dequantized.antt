@@ -3,12 +3,11 @@ use Rattle.std.specs.Prelude.{◌≡◌, ℕ, ◌/◌, get_or, List, length, Res
 use Rattle.rustc_apfloat.specs.{declared.Round.Round, Classes.is_nan, Datum.Datum, Flags.bits_of, Lawful.Constants}
 use Rattle.rustc_apfloat.specs.{Lawful.format_with, Lawful.layout_with, Layout.IsEncodedBy}
 use Rattle.formats_at_run_time.specs.FlaggedKinds.{flagged_constants, format_without_rule}
-use Rattle.apfloat_arrays.specs.declared.counts.{Counts.Counts, Outcome.Outcome}
-use Rattle.apfloat_arrays.specs.declared.widths.Extended.TheVariants.{Packed}
+use Rattle.apfloat_arrays.specs.{declared.scaled_blocks.formats.BlockFormat.BlockFormat, Blocks.AreInPlaces}
+use Rattle.apfloat_arrays.specs.{Bytes.number_of, Outcomes.counts_of, Widths.width_of, declared.counts.Counts.Counts}
+use Rattle.apfloat_arrays.specs.declared.{counts.Outcome.Outcome, widths.Extended.TheVariants.Packed}
 use Rattle.apfloat_arrays.specs.declared.scaled_blocks.errors.ArrayError.{ArrayError, TheVariants.CodeTooWide}
 use Rattle.apfloat_arrays.specs.declared.scaled_blocks.dequantizing.Dequantization.{Dequantization}
-use Rattle.apfloat_arrays.specs.{declared.scaled_blocks.formats.BlockFormat.BlockFormat, Blocks.AreInPlaces}
-use Rattle.apfloat_arrays.specs.{Bytes.number_of, Outcomes.counts_of, Widths.width_of}
 use Rattle.apfloat_arrays.specs.scaled_blocks.Formats.{AreNarrow, AreWide, IsScaledIn}
 
 -- how many bytes a value takes

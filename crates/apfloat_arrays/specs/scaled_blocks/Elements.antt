@@ -1,11 +1,10 @@
 -- The elements of a block, from bits to bits.
-use Rattle.std.specs.Prelude.{◌≡◌, ℕ, ◌+◌, ◌-◌, ◌*◌, ◌^◌, ◌<◌, ◌≤◌, true, List}
-use Rattle.std.specs.Prelude.{length}
+use Rattle.std.specs.Prelude.{◌≡◌, ℕ, ◌+◌, ◌-◌, ◌*◌, ◌^◌, ◌<◌, ◌≤◌, true, List, length}
 use Rattle.rustc_apfloat.specs.Lawful.{Constants, format_with}
 use Rattle.small_formats.specs.Scales.{largest_code}
 use Rattle.small_formats.specs.Storage.{StorageConstants, format_with as stored_format}
-use Rattle.small_formats.specs.blocks.Elements.{IsQuotientBy, element_datum, format_of_element, width}
 use Rattle.small_formats.specs.blocks.{Magnitudes.are_finite, Places.AreCounted}
+use Rattle.small_formats.specs.blocks.Elements.{IsQuotientBy, element_datum, format_of_element, width}
 use Rattle.small_formats.specs.declared.blocks.{Counts.Counts, ElementFormat.ElementFormat}
 use Rattle.apfloat_arrays.specs.{declared.scaled_blocks.elements.Quotients.Quotients, scaled_blocks.Values.values_in}
 use Rattle.apfloat_arrays.specs.stored.NumberCodes.{HasCodes}

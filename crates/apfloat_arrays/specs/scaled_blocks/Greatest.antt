@@ -1,6 +1,5 @@
 -- The greatest magnitude of values, by their bits.
-use Rattle.std.specs.Prelude.{◌≡◌, ℕ, ◌-◌, ◌*◌, ◌^◌, ◌<◌, ◌≤◌, true, false, List}
-use Rattle.std.specs.Prelude.{MatchOption, Option}
+use Rattle.std.specs.Prelude.{◌≡◌, ℕ, ◌-◌, ◌*◌, ◌^◌, ◌<◌, ◌≤◌, true, false, List, MatchOption, Option}
 use Rattle.rustc_apfloat.specs.{Datum.Datum, Datum.finite, Format.Format, Lawful.Constants}
 use Rattle.apfloat_model.specs.formats.Members.{IsMember}
 use Rattle.small_formats.specs.{Codes.point, blocks.Magnitudes.are_finite, blocks.Magnitudes.greatest_magnitude}

@@ -1,7 +1,7 @@
 -- The lengths of arrays.
 use Rattle.std.specs.Prelude.{ℕ, ◌/◌, ◌%◌, ◌==◌, ◌&&◌, if◌then◌else◌, Result, Ok, Err}
-use Rattle.apfloat_arrays.specs.declared.scaled_blocks.errors.ArrayError.{ArrayError}
-use Rattle.apfloat_arrays.specs.declared.scaled_blocks.errors.ArrayError.TheVariants.{EmptyBlock, Uneven, Lengths, TensorScale}
+use Rattle.apfloat_arrays.specs.declared.scaled_blocks.errors.ArrayError.{ArrayError, TheVariants.EmptyBlock}
+use Rattle.apfloat_arrays.specs.declared.scaled_blocks.errors.ArrayError.TheVariants.{Uneven, Lengths, TensorScale}
 use Rattle.apfloat_arrays.specs.declared.scaled_blocks.formats.BlockFormat.{BlockFormat}
 use Rattle.apfloat_arrays.specs.scaled_blocks.Formats.{has_scale}
 

@@ -1,10 +1,9 @@
 -- Conversions into storage formats with any treatment of overflow.
-use Rattle.std.specs.Prelude.{◌≡◌, ℕ, ◌^◌, ◌<◌, bit_and, Bool, false, not, ◌==◌}
-use Rattle.std.specs.Prelude.{if◌then◌else◌}
+use Rattle.std.specs.Prelude.{◌≡◌, ℕ, ◌^◌, ◌<◌, bit_and, Bool, false, not, ◌==◌, if◌then◌else◌}
 use Rattle.std.specs.Bool.{MatchBool}
-use Rattle.rustc_apfloat.specs.{declared.Round.Round, Classes.is_negative, Conversions.IsConversion}
+use Rattle.rustc_apfloat.specs.{declared.Round.Round, Classes.is_negative, Conversions.IsConversion, Format.Format}
+use Rattle.rustc_apfloat.specs.{Nan.invalid_bit, Rounding.inexact_bit, Rounding.overflow_bit}
 use Rattle.rustc_apfloat.specs.Datum.{Datum, finite, infinite, nan}
-use Rattle.rustc_apfloat.specs.{Format.Format, Nan.invalid_bit, Rounding.inexact_bit, Rounding.overflow_bit}
 use Rattle.small_formats.specs.{Conversions.IsInto, Float8E3M4.e3m4_datum, Float8E3M4.e3m4_format, Scales.IsScale}
 use Rattle.small_formats.specs.Unsigned.{IsUnsigned}
 use Rattle.small_formats.specs.declared.saturation.FiniteNan.{FiniteNan, TheVariants.Kept, TheVariants.Largest}

@@ -2,8 +2,8 @@
 
 ghost use Rattle.std.specs.Prelude.{◌≡◌, ◌*◌, ◌<◌, ◌≤◌, Ok, length};
 ghost use Rattle.rustc_apfloat.specs.FlaggedTypes.{constants_of};
-ghost use Rattle.apfloat_arrays.specs.Calls.{at_format};
-ghost use Rattle.apfloat_arrays.specs.scaled_blocks.Dequantized.{AreDequantized, IsDequantizedArray, IsScaledCode, width_out};
+ghost use Rattle.apfloat_arrays.specs.{Calls.at_format, scaled_blocks.Dequantized.AreDequantized};
+ghost use Rattle.apfloat_arrays.specs.scaled_blocks.Dequantized.{IsDequantizedArray, IsScaledCode, width_out};
 ghost use Rattle.apfloat_arrays.specs.scaled_blocks.Formats.{AreNarrow, HasScale, IsNarrow};
 ghost use Rattle.apfloat_arrays.specs.scaled_blocks.Lengths.{blocks_in};
 

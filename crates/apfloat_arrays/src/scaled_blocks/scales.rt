@@ -1,13 +1,12 @@
 //! The greatest magnitude of a block, and its elements by a scale.
 
-ghost use Rattle.std.specs.Prelude.{◌≡◌, ℕ, ◌+◌, ◌*◌, ◌/◌, ◌%◌, ◌^◌, ◌<◌, ◌≤◌};
-ghost use Rattle.std.specs.Prelude.{true, length};
+ghost use Rattle.std.specs.Prelude.{◌≡◌, ℕ, ◌+◌, ◌*◌, ◌/◌, ◌%◌, ◌^◌, ◌<◌, ◌≤◌, true, length};
 ghost use Rattle.rustc_apfloat.specs.{Flags.bits_of, Types.constants_of, Types.format_of};
 ghost use Rattle.apfloat_model.specs.order.{Classes.is_finite, Classes.quanta_of, Positive.IsPositive};
 ghost use Rattle.formats_at_run_time.specs.ValueKinds.{value_of};
 ghost use Rattle.small_formats.specs.blocks.Elements.{IsQuotientBy};
-ghost use Rattle.apfloat_arrays.specs.scaled_blocks.Greatest.{AreAtMost, IsGreatest, special_bits};
 ghost use Rattle.apfloat_arrays.specs.{scaled_blocks.Values.values_in, stored.NumberCodes.IsWordFormat};
+ghost use Rattle.apfloat_arrays.specs.scaled_blocks.Greatest.{AreAtMost, IsGreatest, special_bits};
 
 use crate::bytes::{bits_in, has_width};
 use crate::scaled_blocks::values::bits_at;

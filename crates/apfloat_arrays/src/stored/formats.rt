@@ -1,7 +1,8 @@
 //! The storage formats, by their words and codes.
 
 ghost use Rattle.std.specs.Prelude.{◌≡◌, if◌then◌else◌};
-ghost use Rattle.apfloat_arrays.specs.stored.Formats.{keeps_infinity, largest_code, stored_format_coded, stored_format_named};
+ghost use Rattle.apfloat_arrays.specs.stored.Formats.{keeps_infinity, largest_code, stored_format_coded};
+ghost use Rattle.apfloat_arrays.specs.stored.Formats.{stored_format_named};
 
 /// The storage formats that a word and a code name.
 #[derive(Clone, Copy, PartialEq, Eq, Debug)]

@@ -5,8 +5,7 @@ ghost use Rattle.std.specs.Prelude.{◌≡◌, ◌⊎◌, ◌+◌, ◌-◌, ◌*
 ghost use Rattle.std.specs.Prelude.{false, not, eqb, ltb, if◌then◌else◌, IsTrue};
 ghost use Rattle.std.specs.Int.RustNames.{bit_and};
 ghost use Rattle.apfloat_model.specs.declared.kinds.NonfiniteBehavior.TheVariants.{IEEE754};
-ghost use Rattle.rustc_apfloat.specs.Flags.{bits_of};
-ghost use Rattle.rustc_apfloat.specs.Layout.{datum_of};
+ghost use Rattle.rustc_apfloat.specs.{Flags.bits_of, Layout.datum_of};
 ghost use Rattle.rustc_apfloat.specs.Types.{constants_of, format_of, layout_of};
 ghost use Rattle.small_formats.specs.Conversions.{IsInto};
 ghost use Rattle.small_formats.specs.Types.{constants_of as storage_constants_of};

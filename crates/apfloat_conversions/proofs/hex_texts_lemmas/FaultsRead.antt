@@ -1,22 +1,15 @@
 -- The results of reading a text agree with the model.
-use Rattle.std.proofs.Common.{◌≡◌, ℕ, ◌*◌, Bool, true, false, refl, sym, List, [], ◌∷◌, length, drop, ◌==◌, None, ℤ, pos, negsuc, ◌+ℤ◌, ◌-ℤ◌, ◌^◌, ◌<◌, ◌≤◌, arith, FitsSigned}
-use Rattle.std.proofs.lemmas.Bool.{eqb-true}
-use Rattle.std.proofs.lemmas.Int.{ints}
+use Rattle.std.proofs.Common.{◌≡◌, ℕ, ◌*◌, Bool, true, false, refl, sym, List, [], ◌∷◌, length, drop}
+use Rattle.std.proofs.Common.{◌==◌, None, ℤ, pos, negsuc, ◌+ℤ◌, ◌-ℤ◌, ◌^◌, ◌<◌, ◌≤◌}
+use Rattle.std.proofs.{Common.arith, Common.FitsSigned, lemmas.Bool.eqb-true, lemmas.Int.ints}
 use Rattle.std.specs.Int.{w128}
-use Rattle.apfloat_model.specs.declared.kinds.Round.{Round}
-use Rattle.apfloat_model.specs.declared.status.StatusAnd.{StatusAnd}
-use Rattle.apfloat_model.specs.rounding.Bounds.{IsWithin}
-use Rattle.apfloat_model.specs.rounding.Flags.{bits_of}
-use Rattle.apfloat_model.specs.texts.Digits.{is_empty}
-use Rattle.apfloat_model.specs.texts.Faults.{after_prefix_fault}
-use Rattle.apfloat_model.specs.texts.Literals.{digits_number, exponent_number}
-use Rattle.apfloat_model.specs.texts.Readings.{IsScaledDelivery}
-use Rattle.apfloat_rounding.specs.declared.shape.Shape.{Shape}
-use Rattle.apfloat_rounding.specs.declared.unpacked.Unpacked.{Unpacked}
-use Rattle.apfloat_rounding.specs.Shapes.{format_at}
-use Rattle.apfloat_rounding.specs.Stored.{IsStored, datum_at}
-use Rattle.apfloat_conversions.specs.declared.hex_texts.significand.Scan.{Scan}
-use Rattle.apfloat_conversions.specs.hex_texts.Scans.{IsScanned}
+use Rattle.apfloat_model.specs.declared.{kinds.Round.Round, status.StatusAnd.StatusAnd}
+use Rattle.apfloat_model.specs.rounding.{Bounds.IsWithin, Flags.bits_of}
+use Rattle.apfloat_model.specs.texts.{Digits.is_empty, Faults.after_prefix_fault, Literals.digits_number}
+use Rattle.apfloat_model.specs.texts.{Literals.exponent_number, Readings.IsScaledDelivery}
+use Rattle.apfloat_rounding.specs.declared.{shape.Shape.Shape, unpacked.Unpacked.Unpacked}
+use Rattle.apfloat_rounding.specs.{Shapes.format_at, Stored.IsStored, Stored.datum_at}
+use Rattle.apfloat_conversions.specs.{declared.hex_texts.significand.Scan.Scan, hex_texts.Scans.IsScanned}
 use Rattle.apfloat_conversions.specs.hex_texts.Saturation.{count_bound, fault_after}
 use Rattle.apfloat_conversions.specs.hex_texts.LiteralParts.{IsLiteralRead}
 

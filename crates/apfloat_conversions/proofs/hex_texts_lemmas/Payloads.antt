@@ -1,10 +1,9 @@
 -- The digits of a payload are read one by one.
-use Rattle.std.proofs.Common.{◌≡◌, ℕ, ◌^◌, ◌<◌, ◌≤◌, Bool, true, false, ◌&&◌, ltb, if◌then◌else◌, List, [], ◌∷◌, fold, Some, None, refl, ap, ◌∙◌, arith}
+use Rattle.std.proofs.Common.{◌≡◌, ℕ, ◌^◌, ◌<◌, ◌≤◌, Bool, true, false, ◌&&◌, ltb}
+use Rattle.std.proofs.Common.{if◌then◌else◌, List, [], ◌∷◌, fold, Some, None, refl, ap, ◌∙◌, arith}
 use Rattle.std.proofs.lemmas.Bool.{le-ltb, ltb-false, ltb-true}
-use Rattle.apfloat_model.specs.declared.marks.Radix.{Radix}
-use Rattle.apfloat_model.specs.declared.marks.Radix.TheVariants.{Sixteen, Eight, Ten}
-use Rattle.apfloat_model.specs.texts.Digits.{every}
-use Rattle.apfloat_model.specs.texts.Specials.{is_digit_of, number_of_digits}
+use Rattle.apfloat_model.specs.declared.marks.Radix.{Radix, TheVariants.Sixteen, TheVariants.Eight, TheVariants.Ten}
+use Rattle.apfloat_model.specs.texts.{Digits.every, Specials.is_digit_of, Specials.number_of_digits}
 use Rattle.apfloat_model.proofs.general.Choices.{first_holds, first_fails, last_fails}
 use Rattle.apfloat_conversions.specs.hex_texts.Payloads.{longer, next, read_on, IsPayloadRead}
 

@@ -1,28 +1,20 @@
 -- The number that a text spells, from its kept digits and a clamped exponent.
 use mathlib.Core.Bool.{Bool}
-use Rattle.std.proofs.Common.{◌≡◌, ◌⊎◌, ℕ, ◌+◌, ◌-◌, ◌*◌, ◌^◌, ◌<◌, ◌≤◌, refl, sym, ap, ◌∙◌, subst, inl, inr, arith, ⊎_elim, ℤ, pos, neg_ℤ, ◌+ℤ◌, ◌-ℤ◌, ◌≤ℤ◌}
-use Rattle.std.proofs.lemmas.Int.{ints}
-use Rattle.std.proofs.lemmas.Nat.{pow-add, pow_pos}
+use Rattle.std.proofs.Common.{◌≡◌, ◌⊎◌, ℕ, ◌+◌, ◌-◌, ◌*◌, ◌^◌, ◌<◌, ◌≤◌, refl, sym, ap, ◌∙◌, subst, inl, inr, arith}
+use Rattle.std.proofs.Common.{⊎_elim, ℤ, pos, neg_ℤ, ◌+ℤ◌, ◌-ℤ◌, ◌≤ℤ◌}
+use Rattle.std.proofs.lemmas.{Int.ints, Nat.pow-add, Nat.pow_pos}
 use Rattle.std.proofs.Math.Nat.{mul-le-mul_right, mul-lt-mul_of_pos_right, pow-le-pow_right, mul-pos}
-use Rattle.apfloat_model.specs.rounding.Bounds.{text_bound}
-use Rattle.apfloat_model.specs.declared.kinds.Round.{Round}
-use Rattle.apfloat_model.specs.declared.loss.Loss.{Loss}
-use Rattle.apfloat_model.specs.declared.loss.Loss.TheVariants.{ExactlyZero}
-use Rattle.apfloat_model.specs.formats.Format.{Format}
-use Rattle.apfloat_model.specs.formats.Datum.{Datum, finite}
-use Rattle.apfloat_model.specs.arithmetic.Exact.{up, down}
-use Rattle.apfloat_model.specs.rounding.Standing.{StandsFor}
+use Rattle.apfloat_model.specs.{arithmetic.Exact.up, arithmetic.Exact.down, texts.Readings.IsScaledDelivery}
+use Rattle.apfloat_model.specs.rounding.{Bounds.text_bound, Standing.StandsFor}
 use Rattle.apfloat_model.specs.rounding.Rounding.{IsDelivered, zero_sign}
-use Rattle.apfloat_model.specs.texts.Readings.{IsScaledDelivery}
+use Rattle.apfloat_model.specs.declared.{kinds.Round.Round, loss.Loss.Loss, loss.Loss.TheVariants.ExactlyZero}
+use Rattle.apfloat_model.specs.formats.{Format.Format, Datum.Datum, Datum.finite}
 use Rattle.apfloat_model.proofs.general.Powers.{two_pos}
-use Rattle.apfloat_model.proofs.rounding.Losses.{stands_from, stands_to}
-use Rattle.apfloat_model.proofs.rounding.KeptDigits.{stands_times}
+use Rattle.apfloat_model.proofs.rounding.{Losses.stands_from, Losses.stands_to, KeptDigits.stands_times}
 use Rattle.apfloat_model.proofs.rounding.FarMagnitudes.{IsFarAbove, IsFarBelow, far_above, far_below}
 use Rattle.apfloat_model.proofs.texts.ZeroTexts.{zero_text}
-use Rattle.apfloat_rounding.specs.declared.shape.Shape.{Shape}
-use Rattle.apfloat_rounding.specs.Shapes.{format_at}
-use Rattle.apfloat_conversions.specs.hex_texts.Scans.{IsKeptAt}
-use Rattle.apfloat_conversions.specs.hex_texts.Saturation.{IsNear}
+use Rattle.apfloat_rounding.specs.{declared.shape.Shape.Shape, Shapes.format_at}
+use Rattle.apfloat_conversions.specs.hex_texts.{Scans.IsKeptAt, Saturation.IsNear}
 
 -- ---- far magnitudes, by the place z of the lowest digit that is kept
 

@@ -1,8 +1,7 @@
 -- Saturating counts: from some bound on, the exact count makes no difference.
 use Rattle.std.proofs.Common.{◌≡◌, ℕ, ◌+◌, ◌*◌, ◌^◌, ◌<◌, true, inl, inr, arith, List, ◌∷◌, ℤ, pos, ◌+ℤ◌, ◌-ℤ◌}
 use Rattle.std.proofs.lemmas.Int.{ints}
-use Rattle.apfloat_model.specs.rounding.Bounds.{text_bound}
-use Rattle.apfloat_model.specs.texts.Digits.{is_decimal, digit_value}
+use Rattle.apfloat_model.specs.{rounding.Bounds.text_bound, texts.Digits.is_decimal, texts.Digits.digit_value}
 use Rattle.apfloat_conversions.specs.hex_texts.Saturation.{IsSaturated, IsNear, IsCounted}
 
 -- one more decimal digit is added to a saturating count

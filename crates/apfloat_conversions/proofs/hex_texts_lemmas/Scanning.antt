@@ -1,10 +1,8 @@
 -- A significand is read to its end.
 use Rattle.std.proofs.Common.{◌≡◌, ℕ, false, refl, sym, subst, List, [], ◌∷◌}
 use Rattle.std.specs.Prelude.{Result, Ok, Err, IsErrAnd, MatchResult}
-use Rattle.apfloat_model.specs.texts.Digits.{begins}
-use Rattle.apfloat_model.specs.texts.Faults.{is_digit_or_dot, significand_of}
-use Rattle.apfloat_conversions.specs.declared.hex_texts.significand.Scan.{Scan}
-use Rattle.apfloat_conversions.specs.hex_texts.Scans.{IsScan}
+use Rattle.apfloat_model.specs.texts.{Digits.begins, Faults.is_digit_or_dot, Faults.significand_of}
+use Rattle.apfloat_conversions.specs.{declared.hex_texts.significand.Scan.Scan, hex_texts.Scans.IsScan}
 
 -- ---- results
 

@@ -1,29 +1,20 @@
 -- The reading of a text, as an infinity or a NaN, or as a literal.
-use Rattle.std.proofs.Common.{◌≡◌, ℕ, Bool, true, false, refl, sym, ap, ◌∙◌, ⊎_elim, subst, List, ◌++◌, drop, codes, Some, None}
+use Rattle.std.proofs.Common.{◌≡◌, ℕ, Bool, true, false, refl, sym, ap, ◌∙◌, ⊎_elim, subst, List}
+use Rattle.std.proofs.Common.{◌++◌, drop, codes, Some, None}
 use Rattle.std.specs.Prelude.{Result, Ok, Err, MatchResult}
-use Rattle.apfloat_model.specs.declared.parse_error.Fault.{Fault}
-use Rattle.apfloat_model.specs.declared.marks.Mark.{Mark}
-use Rattle.apfloat_model.specs.declared.marks.Mark.TheVariants.{Unmarked, Plus, Minus}
-use Rattle.apfloat_model.specs.declared.kinds.Round.{Round}
-use Rattle.apfloat_model.specs.declared.status.StatusAnd.{StatusAnd}
-use Rattle.apfloat_model.specs.rounding.Flags.{bits_of}
-use Rattle.apfloat_model.specs.texts.Digits.{is_empty}
+use Rattle.apfloat_model.specs.declared.{parse_error.Fault.Fault, marks.Mark.Mark, marks.Mark.TheVariants.Unmarked}
+use Rattle.apfloat_model.specs.declared.{marks.Mark.TheVariants.Plus, marks.Mark.TheVariants.Minus, kinds.Round.Round}
+use Rattle.apfloat_model.specs.{declared.status.StatusAnd.StatusAnd, rounding.Flags.bits_of, texts.Digits.is_empty}
 use Rattle.apfloat_model.specs.texts.Specials.{hexadecimal, mark_of, after_mark, is_minus, special_meaning, special_of}
-use Rattle.apfloat_model.specs.texts.Texts.{Means}
-use Rattle.apfloat_model.specs.texts.Faults.{begins_literal, after_prefix_fault, fault_of}
+use Rattle.apfloat_model.specs.texts.{Texts.Means, Faults.begins_literal, Faults.after_prefix_fault, Faults.fault_of}
 use Rattle.apfloat_model.specs.texts.Literals.{digits_number, places_after_dot, exponent_text, exponent_number}
 use Rattle.apfloat_model.specs.texts.Readings.{IsMeant}
-use Rattle.apfloat_model.proofs.texts.EachText.{begun_of}
-use Rattle.apfloat_model.proofs.texts.LiteralMeanings.{literal_meaning}
-use Rattle.apfloat_rounding.specs.declared.shape.Shape.{Shape}
-use Rattle.apfloat_rounding.specs.declared.unpacked.Unpacked.{Unpacked}
-use Rattle.apfloat_rounding.specs.Shapes.{format_at}
-use Rattle.apfloat_rounding.specs.Stored.{IsStored, datum_at}
+use Rattle.apfloat_model.proofs.texts.{EachText.begun_of, LiteralMeanings.literal_meaning}
+use Rattle.apfloat_rounding.specs.declared.{shape.Shape.Shape, unpacked.Unpacked.Unpacked}
+use Rattle.apfloat_rounding.specs.{Shapes.format_at, Stored.IsStored, Stored.datum_at}
 use Rattle.apfloat_conversions.specs.declared.hex_texts.special.Special.{Special}
 use Rattle.apfloat_conversions.specs.declared.hex_texts.special.Special.TheVariants.{Infinity, Quiet, Signaling}
-use Rattle.apfloat_conversions.specs.hex_texts.LiteralParts.{IsLiteralRead}
-use Rattle.apfloat_conversions.specs.hex_texts.Payloads.{meaning_of}
-use Rattle.apfloat_conversions.specs.hex_texts.TextsRead.{IsTextRead}
+use Rattle.apfloat_conversions.specs.hex_texts.{LiteralParts.IsLiteralRead, Payloads.meaning_of, TextsRead.IsTextRead}
 
 -- a text of a special value means that value
 means_special : (text : List ℕ) (negative : Bool) (special : Special)

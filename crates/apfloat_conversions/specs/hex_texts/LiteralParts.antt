@@ -1,14 +1,10 @@
 -- The number in a hexadecimal text, after its prefix.
 use Rattle.std.specs.Prelude.{◌≡◌, ◌*◌, pos, ◌+ℤ◌, ◌-ℤ◌, ℕ, Bool, List, None}
-use Rattle.apfloat_model.specs.declared.kinds.Round.{Round}
-use Rattle.apfloat_model.specs.declared.status.StatusAnd.{StatusAnd}
-use Rattle.apfloat_model.specs.texts.Faults.{after_prefix_fault}
-use Rattle.apfloat_model.specs.texts.Literals.{digits_number, places_after_dot, exponent_text, exponent_number}
-use Rattle.apfloat_model.specs.texts.Readings.{IsScaledDelivery}
-use Rattle.apfloat_rounding.specs.declared.shape.Shape.{Shape}
-use Rattle.apfloat_rounding.specs.declared.unpacked.Unpacked.{Unpacked}
-use Rattle.apfloat_rounding.specs.Shapes.{format_at}
-use Rattle.apfloat_rounding.specs.Stored.{IsStored, GivesAt}
+use Rattle.apfloat_model.specs.declared.{kinds.Round.Round, status.StatusAnd.StatusAnd}
+use Rattle.apfloat_model.specs.texts.{Faults.after_prefix_fault, Literals.digits_number, Literals.places_after_dot}
+use Rattle.apfloat_model.specs.texts.{Literals.exponent_text, Literals.exponent_number, Readings.IsScaledDelivery}
+use Rattle.apfloat_rounding.specs.declared.{shape.Shape.Shape, unpacked.Unpacked.Unpacked}
+use Rattle.apfloat_rounding.specs.{Shapes.format_at, Stored.IsStored, Stored.GivesAt}
 
 -- the literal has no fault, and its number is rounded once
 pub record IsLiteralRead (shape : Shape) (mode : Round) (negative : Bool) (rest : List ℕ)

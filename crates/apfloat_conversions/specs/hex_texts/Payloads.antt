@@ -1,7 +1,7 @@
 -- Payloads while they are read, and the special values of the code as those of the model.
-use Rattle.std.specs.Prelude.{◌≡◌, ℕ, ◌+◌, ◌*◌, ◌^◌, ◌<◌, Bool, false, true, ◌&&◌, ltb, if◌then◌else◌, List, take, drop, fold, Option, Some, None}
-use Rattle.apfloat_model.specs.declared.marks.Radix.{Radix}
-use Rattle.apfloat_model.specs.texts.Digits.{every, digit_value}
+use Rattle.std.specs.Prelude.{◌≡◌, ℕ, ◌+◌, ◌*◌, ◌^◌, ◌<◌, Bool, false, true, ◌&&◌, ltb, if◌then◌else◌, List, take, drop}
+use Rattle.std.specs.Prelude.{fold, Option, Some, None}
+use Rattle.apfloat_model.specs.{declared.marks.Radix.Radix, texts.Digits.every, texts.Digits.digit_value}
 use Rattle.apfloat_model.specs.texts.Specials as model
 use Rattle.apfloat_conversions.specs.declared.hex_texts.special.Special.{Special}
 use Rattle.apfloat_conversions.specs.declared.hex_texts.special.Special.TheVariants.{Infinity, Quiet, Signaling}

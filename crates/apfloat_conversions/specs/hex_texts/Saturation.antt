@@ -1,7 +1,7 @@
 -- Counts that saturate where larger ones make no difference, and the faults of the texts that they count.
-use Rattle.std.specs.Prelude.{◌≡◌, ◌⊎◌, ℕ, ◌+◌, ◌*◌, ◌^◌, ◌<◌, ◌≤◌, ℤ, pos, neg_ℤ, ◌≤ℤ◌, Bool, not, ◌&&◌, if◌then◌else◌, List, fold, Option, Some}
-use Rattle.apfloat_model.specs.declared.parse_error.Fault.{Fault}
-use Rattle.apfloat_model.specs.declared.parse_error.Fault.TheVariants.{WrongInSignificand, NoDigits}
+use Rattle.std.specs.Prelude.{◌≡◌, ◌⊎◌, ℕ, ◌+◌, ◌*◌, ◌^◌, ◌<◌, ◌≤◌, ℤ, pos, neg_ℤ, ◌≤ℤ◌, Bool, not, ◌&&◌, if◌then◌else◌}
+use Rattle.std.specs.Prelude.{List, fold, Option, Some}
+use Rattle.apfloat_model.specs.declared.parse_error.Fault.{Fault, TheVariants.WrongInSignificand, TheVariants.NoDigits}
 use Rattle.apfloat_model.specs.texts.Digits.{every, begins, is_empty, is_decimal, digit_value, number}
 use Rattle.apfloat_model.specs.texts.Faults.{is_p, tail_fault}
 

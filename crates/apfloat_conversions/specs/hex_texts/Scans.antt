@@ -1,13 +1,11 @@
 -- Significands while they are read from the left.
-use Rattle.std.specs.Prelude.{◌≡◌, ◌⊎◌, ℕ, ◌+◌, ◌*◌, ◌^◌, ◌≤◌, false, not, ltb, ◌&&◌, if◌then◌else◌, List, length, filter, fold}
-use Rattle.apfloat_model.specs.declared.loss.Loss.{Loss}
-use Rattle.apfloat_model.specs.declared.loss.Loss.TheVariants.{ExactlyZero}
-use Rattle.apfloat_model.specs.texts.Digits.{is_empty, is_hexadecimal, digit_value}
-use Rattle.apfloat_model.specs.texts.Faults.{is_dot, significand_of, after_significand}
-use Rattle.apfloat_model.specs.texts.Literals.{digits_number, places_after_dot}
-use Rattle.apfloat_model.specs.rounding.Standing.{StandsFor}
-use Rattle.apfloat_conversions.specs.declared.hex_texts.significand.Digits.{Digits}
-use Rattle.apfloat_conversions.specs.declared.hex_texts.significand.Scan.{Scan}
+use Rattle.std.specs.Prelude.{◌≡◌, ◌⊎◌, ℕ, ◌+◌, ◌*◌, ◌^◌, ◌≤◌, false, not, ltb}
+use Rattle.std.specs.Prelude.{◌&&◌, if◌then◌else◌, List, length, filter, fold}
+use Rattle.apfloat_model.specs.declared.loss.Loss.{Loss, TheVariants.ExactlyZero}
+use Rattle.apfloat_model.specs.texts.{Digits.is_empty, Digits.is_hexadecimal, Digits.digit_value, Faults.is_dot}
+use Rattle.apfloat_model.specs.texts.{Faults.significand_of, Faults.after_significand, Literals.digits_number}
+use Rattle.apfloat_model.specs.{texts.Literals.places_after_dot, rounding.Standing.StandsFor}
+use Rattle.apfloat_conversions.specs.declared.hex_texts.significand.{Digits.Digits, Scan.Scan}
 
 -- what is kept of an integer after `cut` hexadecimal digits are cut off: all of it, or at least 125 bits and a loss
 pub record IsKeptAt (number significand : ℕ) (loss : Loss) (cut : ℕ) : Type 0 where

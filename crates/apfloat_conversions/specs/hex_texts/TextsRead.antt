@@ -1,12 +1,9 @@
 -- The result of reading a text.
 use Rattle.std.specs.Prelude.{List, ℕ}
-use Rattle.apfloat_model.specs.declared.kinds.Round.{Round}
-use Rattle.apfloat_model.specs.declared.status.StatusAnd.{StatusAnd}
+use Rattle.apfloat_model.specs.declared.{kinds.Round.Round, status.StatusAnd.StatusAnd}
 use Rattle.apfloat_model.specs.texts.Readings.{IsReading}
-use Rattle.apfloat_rounding.specs.declared.shape.Shape.{Shape}
-use Rattle.apfloat_rounding.specs.declared.unpacked.Unpacked.{Unpacked}
-use Rattle.apfloat_rounding.specs.Shapes.{format_at}
-use Rattle.apfloat_rounding.specs.Stored.{IsStored, GivesAt}
+use Rattle.apfloat_rounding.specs.declared.{shape.Shape.Shape, unpacked.Unpacked.Unpacked}
+use Rattle.apfloat_rounding.specs.{Shapes.format_at, Stored.IsStored, Stored.GivesAt}
 
 pub record IsTextRead (shape : Shape) (mode : Round) (text : List ℕ) (answer : StatusAnd Unpacked) : Type 0 where
   pub stored : IsStored shape answer.value

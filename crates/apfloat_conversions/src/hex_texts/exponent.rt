@@ -1,12 +1,10 @@
 //! The exponent of a hexadecimal text: the written one counts from the dot, the returned one from the last digit.
 
 ghost use Rattle.std.specs.Prelude.{◌≡◌, ℕ, ◌+◌, ◌*◌, ◌<◌, ℤ, pos, ◌+ℤ◌, ◌-ℤ◌, ◌≤ℤ◌, drop, Some, None, MatchResult};
-ghost use Rattle.apfloat_model.specs.rounding.Bounds.{IsWithin, text_bound};
-ghost use Rattle.apfloat_model.specs.texts.Digits.{number};
-ghost use Rattle.apfloat_model.specs.texts.Specials.{after_mark};
-ghost use Rattle.apfloat_model.specs.texts.Faults.{exponent_fault};
-ghost use Rattle.apfloat_model.specs.texts.Literals.{exponent_number};
-ghost use Rattle.apfloat_conversions.specs.hex_texts.Saturation.{IsSaturated, IsNear, count_bound, far_bound, fault_after};
+ghost use Rattle.apfloat_model.specs.{rounding.Bounds.IsWithin, rounding.Bounds.text_bound, texts.Digits.number};
+ghost use Rattle.apfloat_model.specs.texts.{Specials.after_mark, Faults.exponent_fault, Literals.exponent_number};
+ghost use Rattle.apfloat_conversions.specs.hex_texts.Saturation.{IsSaturated, IsNear, count_bound, far_bound};
+ghost use Rattle.apfloat_conversions.specs.hex_texts.Saturation.{fault_after};
 
 use crate::hex_texts::characters::{digit_value, is_decimal};
 use crate::hex_texts::mark::split_mark;

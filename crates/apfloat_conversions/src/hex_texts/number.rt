@@ -1,10 +1,8 @@
 //! The number that a significand and an exponent spell.
 
 ghost use Rattle.std.specs.Prelude.{ℕ, ◌*◌, ◌^◌, ℤ, pos, ◌-ℤ◌, ◌+ℤ◌};
-ghost use Rattle.apfloat_model.specs.rounding.Bounds.{IsWithin};
-ghost use Rattle.apfloat_model.specs.texts.Readings.{IsScaledDelivery};
-ghost use Rattle.apfloat_rounding.specs.Shapes.{format_at};
-ghost use Rattle.apfloat_rounding.specs.Stored.{IsStored, GivesAt};
+ghost use Rattle.apfloat_model.specs.{rounding.Bounds.IsWithin, texts.Readings.IsScaledDelivery};
+ghost use Rattle.apfloat_rounding.specs.{Shapes.format_at, Stored.IsStored, Stored.GivesAt};
 ghost use Rattle.apfloat_conversions.specs.hex_texts.Scans.{IsKept};
 ghost use Rattle.apfloat_conversions.specs.hex_texts.Saturation.{IsNear, count_bound, far_bound};
 

@@ -1,14 +1,11 @@
 //! Reading any text.
 
 ghost use Rattle.std.specs.Prelude.{◌≡◌, Some, true, false, drop, MatchOption, MatchResult};
-ghost use Rattle.apfloat_model.specs.declared.kinds.Round.{Round};
-ghost use Rattle.apfloat_model.specs.rounding.Rounding.{ok_bits};
+ghost use Rattle.apfloat_model.specs.{declared.kinds.Round.Round, rounding.Rounding.ok_bits};
 ghost use Rattle.apfloat_model.specs.texts.Faults.{begins_literal, fault_of};
 ghost use Rattle.apfloat_model.specs.texts.Readings.{IsMeant, IsRefusal};
-ghost use Rattle.apfloat_rounding.specs.Shapes.{format_at};
-ghost use Rattle.apfloat_rounding.specs.Stored.{IsStored, datum_at};
-ghost use Rattle.apfloat_conversions.specs.hex_texts.Payloads.{meaning_of};
-ghost use Rattle.apfloat_conversions.specs.hex_texts.TextsRead.{IsTextRead};
+ghost use Rattle.apfloat_rounding.specs.{Shapes.format_at, Stored.IsStored, Stored.datum_at};
+ghost use Rattle.apfloat_conversions.specs.hex_texts.{Payloads.meaning_of, TextsRead.IsTextRead};
 
 use crate::hex_texts::literal::read_literal;
 use crate::hex_texts::mark::split_mark;

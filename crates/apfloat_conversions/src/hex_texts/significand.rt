@@ -1,13 +1,14 @@
 //! The significand of a hexadecimal text: its leading bits, and how the remaining digits compare with half of the last
 //! one.
 
-ghost use Rattle.std.specs.Prelude.{◌≡◌, ℕ, ◌+◌, ◌*◌, ◌^◌, ◌<◌, ◌≤◌, true, false, ltb, length, filter, MatchResult, IsTrue};
+ghost use Rattle.std.specs.Prelude.{◌≡◌, ℕ, ◌+◌, ◌*◌, ◌^◌, ◌<◌, ◌≤◌, true, false, ltb, length, filter, MatchResult};
+ghost use Rattle.std.specs.Prelude.{IsTrue};
 ghost use Rattle.apfloat_model.specs.rounding.Standing.{StandsFor};
 ghost use Rattle.apfloat_model.specs.texts.Digits.{is_hexadecimal, digit_value};
 ghost use Rattle.apfloat_model.specs.texts.Faults.{is_dot, is_digit_or_dot, significand_of, after_significand};
 ghost use Rattle.apfloat_model.specs.texts.Literals.{digits_number, places_after_dot};
-ghost use Rattle.apfloat_conversions.specs.hex_texts.Scans.{IsKept, IsScan, IsScanned};
 ghost use Rattle.apfloat_model.specs.declared.parse_error.Fault.TheVariants.{SecondDot};
+ghost use Rattle.apfloat_conversions.specs.hex_texts.Scans.{IsKept, IsScan, IsScanned};
 
 use crate::hex_texts::characters::{digit_value, is_digit_or_dot, is_hexadecimal};
 use apfloat_model::Loss;

@@ -1,19 +1,15 @@
 -- Digits that are written several at a time.
-use Rattle.std.proofs.Common.{◌≡◌, ℕ, zero, suc, ◌+◌, ◌*◌, ◌/◌, ◌%◌, ◌^◌, ◌<◌, ◌≤◌, List, [], ◌∷◌, ◌++◌, length}
-use Rattle.std.proofs.Common.{sym, ap, ◌∙◌, ◌-◌, replicate, take, drop}
-use Rattle.std.proofs.Common.{Bool, true, false, eqb, arith, lit<, refl}
-use Rattle.std.specs.Prelude.{◌&&◌}
-use Rattle.std.proofs.lemmas.Bool.{and_parts, eqb-true}
-use Rattle.std.proofs.Math.Nat.{div-add-mod, div-div-eq-div-mul, div-eq_of_lt, div-lt_iff_lt-mul, mod-lt}
-use Rattle.std.proofs.Math.Nat.{mul-div_cancel, mul-lt-mul_of_pos_right, mul-mod_left}
-use Rattle.std.proofs.lemmas.Fmt.{decimal_by_steps_wide, decimal_step_wide}
+use Rattle.std.proofs.Common.{◌≡◌, ℕ, zero, suc, ◌+◌, ◌*◌, ◌/◌, ◌%◌, ◌^◌, ◌<◌, ◌≤◌, List, [], ◌∷◌, ◌++◌, length, sym}
+use Rattle.std.proofs.Common.{ap, ◌∙◌, ◌-◌, replicate, take, drop, Bool, true, false, eqb, arith, lit<, refl}
+use Rattle.std.proofs.lemmas.{Bool.and_parts, Bool.eqb-true, Fmt.decimal_by_steps_wide, Fmt.decimal_step_wide}
 use Rattle.std.proofs.lemmas.List.{append_assoc, length-append, length-take-le, replicate_more, take_at, take-take}
 use Rattle.std.proofs.lemmas.Nat.{mod-mul-add, pow-add}
+use Rattle.std.proofs.Math.Nat.{div-add-mod, div-div-eq-div-mul, div-eq_of_lt, div-lt_iff_lt-mul, mod-lt}
+use Rattle.std.proofs.Math.Nat.{mul-div_cancel, mul-lt-mul_of_pos_right, mul-mod_left}
+use Rattle.std.specs.Prelude.{◌&&◌}
 use Rattle.std.specs.Fmt.{decimal}
-use Rattle.apfloat_decimals.specs.Buffers.{IsPut, IsStored}
-use Rattle.apfloat_decimals.specs.Texts.{last_digits, padded, AreZerosFrom}
-use Rattle.apfloat_decimals.proofs.numbers.Values.{power_pos}
-use Rattle.apfloat_decimals.proofs.spelled.PutTexts.{put_same, put_then}
+use Rattle.apfloat_decimals.specs.{Buffers.IsPut, Buffers.IsStored, Texts.last_digits, Texts.padded, Texts.AreZerosFrom}
+use Rattle.apfloat_decimals.proofs.{numbers.Values.power_pos, spelled.PutTexts.put_same, spelled.PutTexts.put_then}
 use Rattle.apfloat_decimals.proofs.spelled.WrittenNumbers.{below_power, length_more, single}
 
 append_none : (text : List ℕ) → text ++ [] ≡ text

@@ -1,23 +1,21 @@
 -- Lines of text: digits one by one, and the lengths of texts.
-use Rattle.std.proofs.Common.{◌≡◌, ℕ, suc, eqb, leb, FitsSigned, w32, w64, ◌+◌, ◌-◌, ◌*◌, ◌/◌, ◌%◌, ◌^◌, ◌<◌, ◌≤◌, List, []}
-use Rattle.std.proofs.Common.{◌∷◌, ◌++◌, length, refl, sym, ap, ◌∙◌, replicate, arith, ⊎_elim, lit<, lit≤, false, true}
-use Rattle.std.proofs.Common.{Bool, if◌then◌else◌, codes, drop, take, slice_index}
-use Rattle.std.specs.Prelude.{ℤ, pos, negsuc, ◌+ℤ◌}
+use Rattle.std.proofs.Common.{◌≡◌, ℕ, suc, eqb, leb, FitsSigned, w32, w64, ◌+◌, ◌-◌, ◌*◌, ◌/◌, ◌%◌, ◌^◌, ◌<◌, ◌≤◌, List}
+use Rattle.std.proofs.Common.{[], ◌∷◌, ◌++◌, length, refl, sym, ap, ◌∙◌, replicate, arith, ⊎_elim, lit<, lit≤, false}
+use Rattle.std.proofs.Common.{true, Bool, if◌then◌else◌, codes, drop, take, slice_index}
+use Rattle.std.proofs.lemmas.{Nat.pow-add, Fmt.decimal_nonempty, Fmt.decimal_step_wide, Fmt.decimal_digit}
+use Rattle.std.proofs.lemmas.{Fmt.length-decimal-le_wide, Fmt.length_signed_le, List.append_assoc, List.get_or-drop}
 use Rattle.std.proofs.lemmas.Int.{ints}
-use Rattle.apfloat_model.specs.arithmetic.Exact.{up, down}
-use lib.Signed.{mag}
-use Rattle.std.proofs.Math.Nat.{div-eq_of_lt, div-lt_iff_lt-mul, mod-eq_of_lt, mod-le, mod-lt, pow-le-pow_right}
 use Rattle.std.proofs.lemmas.Bool.{and_parts, cases_lt, eqb-false, eqb-true, false≢true, leb-true, ne_eqb}
-use Rattle.std.proofs.lemmas.Nat.{pow-add}
-use Rattle.std.proofs.lemmas.Fmt.{decimal_nonempty, decimal_step_wide, decimal_digit, length-decimal-le_wide}
-use Rattle.std.proofs.lemmas.Fmt.{length_signed_le}
-use Rattle.std.proofs.lemmas.List.{append_assoc, get_or-drop, length-append, length-drop, length-replicate}
-use Rattle.std.proofs.lemmas.List.{length-take-le, take-append-drop}
+use Rattle.std.proofs.lemmas.List.{length-append, length-drop, length-replicate, length-take-le, take-append-drop}
+use Rattle.std.proofs.Math.Nat.{div-eq_of_lt, div-lt_iff_lt-mul, mod-eq_of_lt, mod-le, mod-lt, pow-le-pow_right}
+use Rattle.std.specs.Prelude.{ℤ, pos, negsuc, ◌+ℤ◌}
 use Rattle.std.specs.Fmt.{decimal, signed_decimal}
-use Rattle.apfloat_decimals.proofs.numbers.Values.{power_pos}
-use Rattle.apfloat_decimals.proofs.spelled.WrittenNumbers.{below_power, few_digits, shorter, single, ten_great, times_ten_small}
+use Rattle.apfloat_model.specs.arithmetic.Exact.{up, down}
+use Rattle.apfloat_decimals.proofs.{numbers.Values.power_pos, spelled.WrittenNumbers.below_power}
+use Rattle.apfloat_decimals.proofs.spelled.WrittenNumbers.{few_digits, shorter, single, ten_great, times_ten_small}
 use Rattle.apfloat_decimals.specs.Texts.{is_plain, padded, pointed, some_pointed, scientific_text, plain_text}
 use Rattle.apfloat_decimals.specs.Texts.{magnitude_text, sign_text, AreZerosFrom}
+use lib.Signed.{mag}
 
 -- ---- digits one by one
 

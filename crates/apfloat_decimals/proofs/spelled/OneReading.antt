@@ -1,31 +1,23 @@
 -- A text is read in one way, as a value and as a decimal.
-use Rattle.std.proofs.Common.{◌≡◌, ℕ, ◌*◌, ◌^◌, Bool, true, false, not, refl, sym, ap, ◌∙◌, subst, inl, inr, List}
-use Rattle.std.proofs.Common.{Option, Some, None, Result, Ok, Err, arith}
+use Rattle.std.proofs.Common.{◌≡◌, ℕ, ◌*◌, ◌^◌, Bool, true, false, not, refl, sym, ap, ◌∙◌, subst}
+use Rattle.std.proofs.Common.{inl, inr, List, Option, Some, None, Result, Ok, Err, arith}
+use Rattle.std.proofs.lemmas.Option.{none-some}
 use Rattle.std.specs.Prelude.{if◌then◌else◌, is_some}
 use Rattle.std.specs.Option.{unwrap_or}
-use Rattle.std.proofs.lemmas.Option.{none-some}
-use Rattle.apfloat_model.specs.declared.kinds.Round.{Round}
-use Rattle.apfloat_model.specs.declared.parse_error.Fault.{Fault}
+use Rattle.apfloat_model.specs.declared.{kinds.Round.Round, parse_error.Fault.Fault}
 use Rattle.apfloat_model.specs.declared.parse_error.Fault.TheVariants.{EmptyText, LoneMark, NoLiteral}
-use Rattle.apfloat_model.specs.arithmetic.Exact.{up, down}
-use Rattle.apfloat_model.specs.formats.Datum.{Datum}
-use Rattle.apfloat_model.specs.formats.Format.{Format}
-use Rattle.apfloat_model.specs.rounding.Flags.{bits_of}
-use Rattle.apfloat_model.specs.texts.Digits.{is_empty}
-use Rattle.apfloat_model.specs.texts.Faults.{words, begins_literal}
-use Rattle.apfloat_model.specs.texts.Specials.{TextMeaning, mark_of, after_mark, is_minus, special_of}
-use Rattle.apfloat_model.specs.texts.Texts.{Means}
+use Rattle.apfloat_model.specs.{arithmetic.Exact.up, arithmetic.Exact.down, formats.Datum.Datum, formats.Format.Format}
+use Rattle.apfloat_model.specs.{rounding.Flags.bits_of, texts.Digits.is_empty}
+use Rattle.apfloat_model.specs.texts.{Faults.words, Faults.begins_literal, Specials.TextMeaning, Specials.mark_of}
+use Rattle.apfloat_model.specs.texts.{Specials.after_mark, Specials.is_minus, Specials.special_of, Texts.Means}
 use Rattle.apfloat_model.proofs.Determined.{gives_once, reading_once}
-use Rattle.apfloat_model.proofs.Once.{Once}
-use Rattle.apfloat_model.proofs.rounding.Laws.{delivered_once}
-use Rattle.apfloat_model.proofs.texts.OneMeaning.{meaning_no_fault}
+use Rattle.apfloat_model.proofs.{Once.Once, rounding.Laws.delivered_once, texts.OneMeaning.meaning_no_fault}
 use Rattle.apfloat_decimals.specs.DecimalTexts.{IsDecimalReading, IsDecimalRefusal, body_fault, decimal_fault_of}
 use Rattle.apfloat_decimals.specs.OneReading.{IsReadOnce, IsParsedOnce, AreOneParsing}
 use Rattle.apfloat_decimals.specs.Parsing.{Spells, IsRefusedFor, plain_fault_of}
 use Rattle.apfloat_decimals.specs.declared.decimal.Decimal.{Decimal}
-use Rattle.apfloat_decimals.specs.declared.parsing.DecimalError.{DecimalError}
-use Rattle.apfloat_decimals.specs.declared.parsing.DecimalError.TheVariants.{NoDecimal, TooManyDigits}
-use Rattle.apfloat_decimals.specs.declared.parsing.DecimalError.TheVariants.{ExponentOutOfRange}
+use Rattle.apfloat_decimals.specs.declared.parsing.DecimalError.{DecimalError, TheVariants.NoDecimal}
+use Rattle.apfloat_decimals.specs.declared.parsing.DecimalError.TheVariants.{TooManyDigits, ExponentOutOfRange}
 use Rattle.apfloat_decimals.proofs.spelled.TextParts.{no_fault_of, no_plain_fault}
 use Rattle.apfloat_decimals.proofs.spelled.TextReadings.{text_once, text_parsed, reading_is}
 

@@ -1,8 +1,7 @@
 -- Texts that are put into a buffer, one after the other.
 use Rattle.std.proofs.Common.{◌≡◌, ℕ, List, [], ◌++◌, take, ap, sym, ◌∙◌, subst, arith}
 use Rattle.std.proofs.lemmas.List.{append_assoc, append-nil, length-append}
-use Rattle.apfloat_decimals.specs.Buffers.{IsPut}
-use Rattle.apfloat_decimals.specs.Texts.{AreZerosFrom}
+use Rattle.apfloat_decimals.specs.{Buffers.IsPut, Texts.AreZerosFrom}
 
 pub put_nothing : (bytes : List ℕ) (at : ℕ) → AreZerosFrom at bytes → IsPut bytes at [] bytes at
 put_nothing bytes at zeros = record { taken = sym (append-nil (take at bytes)); moved = omega arith; zeros = zeros }

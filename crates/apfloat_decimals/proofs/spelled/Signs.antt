@@ -1,6 +1,5 @@
 -- The sign of a text.
-use Rattle.std.proofs.Common.{◌≡◌, ℕ, ◌≤◌, Bool, true, false, cond, refl, List, [], ◌∷◌}
-use Rattle.std.proofs.Common.{arith, drop, get_or, length}
+use Rattle.std.proofs.Common.{◌≡◌, ℕ, ◌≤◌, Bool, true, false, cond, refl, List, [], ◌∷◌, arith, drop, get_or, length}
 use Rattle.std.specs.Prelude.{◌||◌, eqb}
 use Rattle.apfloat_model.specs.texts.Specials.{after_mark}
 

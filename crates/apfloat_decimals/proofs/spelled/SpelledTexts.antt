@@ -1,27 +1,23 @@
 -- The number that a decimal text spells, by its parts, and the fault of a text that spells none.
-use Rattle.std.proofs.Common.{◌≡◌, ◌⊎◌, ℕ, Bool, true, false, not, ◌&&◌, cond, refl, sym, ap, ◌∙◌, subst, inl, inr}
-use Rattle.std.proofs.Common.{arith, List, [], ◌∷◌, ◌++◌, length, drop, codes, Option, Some, None, is_some, pos, ◌-ℤ◌}
-use Rattle.std.proofs.Common.{◌==◌}
+use Rattle.std.proofs.Common.{◌≡◌, ◌⊎◌, ℕ, Bool, true, false, not, ◌&&◌, cond, refl, sym, ap}
+use Rattle.std.proofs.Common.{◌∙◌, subst, inl, inr, arith, List, [], ◌∷◌, ◌++◌, length, drop, codes}
+use Rattle.std.proofs.Common.{Option, Some, None, is_some, pos, ◌-ℤ◌, ◌==◌}
 use Rattle.std.proofs.lemmas.Bool.{cases_Bool, ne_eqb, eqb-true, false≢true, not-false}
 use Rattle.std.proofs.lemmas.Option.{none-some}
 use Rattle.apfloat_model.specs.declared.kinds.Round.{Round}
-use Rattle.apfloat_model.specs.declared.parse_error.Fault.{Fault}
-use Rattle.apfloat_model.specs.declared.parse_error.Fault.TheVariants.{LoneMark, NoLiteral, SecondDot}
-use Rattle.apfloat_model.specs.declared.parse_error.Fault.TheVariants.{WrongInSignificand, NoDigits, WrongInExponent}
-use Rattle.apfloat_model.specs.declared.parse_error.Fault.TheVariants.{NoExponentDigits}
-use Rattle.apfloat_model.specs.formats.Format.{Format}
-use Rattle.apfloat_model.specs.formats.Datum.{Datum}
+use Rattle.apfloat_model.specs.declared.parse_error.Fault.{Fault, TheVariants.LoneMark}
+use Rattle.apfloat_model.specs.declared.parse_error.Fault.TheVariants.{NoLiteral, SecondDot, WrongInSignificand}
+use Rattle.apfloat_model.specs.declared.parse_error.Fault.TheVariants.{NoDigits, WrongInExponent, NoExponentDigits}
+use Rattle.apfloat_model.specs.formats.{Format.Format, Datum.Datum}
 use Rattle.apfloat_model.specs.texts.Digits.{every, begins, is_empty, run, after_run, is_decimal, number}
 use Rattle.apfloat_model.specs.texts.Faults.{is_dot, begins_literal, after_prefix_fault, fault_of}
-use Rattle.apfloat_model.specs.texts.Literals.{exponent_number}
-use Rattle.apfloat_model.specs.texts.Specials.{after_mark, special_of}
+use Rattle.apfloat_model.specs.texts.{Literals.exponent_number, Specials.after_mark, Specials.special_of}
 use Rattle.apfloat_model.proofs.general.Choices.{left_none}
 use Rattle.apfloat_model.proofs.general.ListLaws.{append-every, split_run, run_passes, some_length}
 use Rattle.apfloat_decimals.specs.Decimals.{IsDecimalDelivery}
-use Rattle.apfloat_conversions.specs.DecimalTails.{is_e, written_fault, fault_after}
 use Rattle.apfloat_decimals.specs.DecimalTexts.{IsWrittenExponent, IsDecimalText, IsSpelled, fraction_in}
-use Rattle.apfloat_decimals.specs.DecimalTexts.{after_fraction, body_fault}
-use Rattle.apfloat_decimals.specs.DecimalTexts.{decimal_fault_of}
+use Rattle.apfloat_decimals.specs.DecimalTexts.{after_fraction, body_fault, decimal_fault_of}
+use Rattle.apfloat_conversions.specs.DecimalTails.{is_e, written_fault, fault_after}
 
 -- ---- the parts of a text
 

@@ -2,19 +2,15 @@
 use Rattle.std.proofs.Common.{◌≡◌, ◌⊎◌, ℕ, ◌≤◌, ◌<◌, Bool, true, false, not, ◌&&◌, ◌||◌, cond, refl, sym, ap, ◌∙◌}
 use Rattle.std.proofs.Common.{subst, inl, inr, ⊎_elim, arith, List, [], ◌∷◌, ◌++◌, length, take, drop, codes, Option}
 use Rattle.std.proofs.Common.{Some, None, is_some, ℤ, pos, ◌-ℤ◌, eqb, leb}
+use Rattle.std.proofs.lemmas.{Bool.or_cases, Bool.cond-false, Option.none-some}
 use Rattle.std.proofs.lemmas.Bool.{cases_Bool, ne_eqb, eqb-true, false≢true, leb-true, and_parts, and_left, or_from}
-use Rattle.std.proofs.lemmas.Bool.{or_cases, cond-false}
-use Rattle.std.proofs.lemmas.Option.{none-some}
-use Rattle.apfloat_model.specs.declared.marks.Mark.{Mark}
-use Rattle.apfloat_model.specs.declared.marks.Mark.TheVariants.{Unmarked, Plus, Minus}
-use Rattle.apfloat_model.specs.declared.parse_error.Fault.{Fault}
-use Rattle.apfloat_model.specs.declared.parse_error.Fault.TheVariants.{NoLiteral, WrongInSignificand}
+use Rattle.apfloat_model.specs.declared.marks.Mark.{Mark, TheVariants.Unmarked, TheVariants.Plus, TheVariants.Minus}
+use Rattle.apfloat_model.specs.declared.parse_error.Fault.{Fault, TheVariants.NoLiteral, TheVariants.WrongInSignificand}
+use Rattle.apfloat_model.specs.texts.{Literals.exponent_number, Specials.infinity, Specials.mark_of}
 use Rattle.apfloat_model.specs.texts.Digits.{same, every, begins, is_empty, run, after_run, is_decimal, number}
 use Rattle.apfloat_model.specs.texts.Faults.{is_dot, begins_literal, fault_of}
-use Rattle.apfloat_model.specs.texts.Literals.{exponent_number}
-use Rattle.apfloat_model.specs.texts.Specials.{infinity, mark_of, after_mark, is_minus, is_infinity, is_s, is_nan_name}
-use Rattle.apfloat_model.specs.texts.Specials.{with_payload, payload_of, named_nan, nan_meaning, special_of}
-use Rattle.apfloat_model.specs.texts.Specials.{special_meaning}
+use Rattle.apfloat_model.specs.texts.Specials.{after_mark, is_minus, is_infinity, is_s, is_nan_name, with_payload}
+use Rattle.apfloat_model.specs.texts.Specials.{payload_of, named_nan, nan_meaning, special_of, special_meaning}
 use Rattle.apfloat_model.proofs.general.ListLaws.{every-append, run_through, after_run_through, not_empty}
 use Rattle.apfloat_conversions.specs.DecimalTails.{is_e, written_fault}
 use Rattle.apfloat_decimals.specs.DecimalTexts.{IsWrittenExponent, IsDecimalText, fraction_in, after_fraction}

@@ -1,26 +1,17 @@
 -- A decimal text is read as its number.
 use Rattle.std.proofs.Common.{◌≡◌, ℕ, Bool, sym, ◌∙◌, inl, inr, List, Result, Ok, Err, ℤ, pos, neg_ℤ, ◌≤ℤ◌, ◌+◌, ◌^◌}
-use Rattle.std.proofs.Common.{ap, ⊎_elim, arith}
-use Rattle.std.proofs.lemmas.Int.{ints}
-use Rattle.std.proofs.lemmas.Option.{none-some}
+use Rattle.std.proofs.{Common.ap, Common.⊎_elim, Common.arith, lemmas.Int.ints, lemmas.Option.none-some}
 use Rattle.std.specs.Result.{IsOkAnd}
-use Rattle.apfloat_model.specs.declared.kinds.Round.{Round}
-use Rattle.apfloat_model.specs.declared.parse_error.Fault.TheVariants.{NoLiteral}
-use Rattle.apfloat_model.specs.declared.parse_error.ParseError.{ParseError}
-use Rattle.apfloat_model.specs.declared.status.StatusAnd.{StatusAnd}
-use Rattle.apfloat_model.specs.formats.Datum.{Datum}
-use Rattle.apfloat_model.specs.formats.Format.{Format}
-use Rattle.apfloat_model.specs.rounding.Flags.{Gives, bits_of}
-use Rattle.apfloat_model.specs.texts.Specials.{after_mark}
+use Rattle.apfloat_model.specs.{rounding.Flags.Gives, rounding.Flags.bits_of, texts.Specials.after_mark}
+use Rattle.apfloat_model.specs.declared.{kinds.Round.Round, parse_error.Fault.TheVariants.NoLiteral}
+use Rattle.apfloat_model.specs.declared.{parse_error.ParseError.ParseError, status.StatusAnd.StatusAnd}
+use Rattle.apfloat_model.specs.formats.{Datum.Datum, Format.Format}
 use Rattle.apfloat_model.proofs.texts.OneMeaning.{meaning_no_fault}
-use Rattle.apfloat_decimals.specs.Decimals.{IsDecimalDelivery}
-use Rattle.apfloat_decimals.specs.DecimalTexts.{IsDecimalText, IsDecimalRead, IsDecimalReading}
-use Rattle.apfloat_decimals.specs.Parsing.{Spells, IsParsed}
-use Rattle.apfloat_decimals.specs.ReadBack.{IsStoredDecimal}
-use Rattle.apfloat_decimals.specs.declared.decimal.Decimal.{Decimal}
-use Rattle.apfloat_decimals.specs.declared.parsing.DecimalError.{DecimalError}
-use Rattle.apfloat_decimals.specs.declared.parsing.DecimalError.TheVariants.{NoDecimal, TooManyDigits}
-use Rattle.apfloat_decimals.specs.declared.parsing.DecimalError.TheVariants.{ExponentOutOfRange}
+use Rattle.apfloat_decimals.specs.{Decimals.IsDecimalDelivery, DecimalTexts.IsDecimalText, DecimalTexts.IsDecimalRead}
+use Rattle.apfloat_decimals.specs.{DecimalTexts.IsDecimalReading, Parsing.Spells, Parsing.IsParsed}
+use Rattle.apfloat_decimals.specs.{ReadBack.IsStoredDecimal, declared.decimal.Decimal.Decimal}
+use Rattle.apfloat_decimals.specs.declared.parsing.DecimalError.{DecimalError, TheVariants.NoDecimal}
+use Rattle.apfloat_decimals.specs.declared.parsing.DecimalError.TheVariants.{TooManyDigits, ExponentOutOfRange}
 use Rattle.apfloat_decimals.proofs.spelled.TextParts.{only_text, no_other_meaning, no_fault_of, no_plain_fault}
 
 -- a decimal text spells one number

@@ -1,8 +1,7 @@
 -- Decimal digits of numbers: their number, and how a number is divided by a power of ten.
 use Rattle.std.proofs.Common.{◌≡◌, ℕ, ◌+◌, ◌*◌, ◌/◌, ◌%◌, ◌^◌, ◌<◌, ◌≤◌, List, [], ◌∷◌, ◌++◌, length, ap, ◌∙◌, arith}
-use Rattle.std.proofs.Math.Nat.{pow-le-pow_right, mul-lt-mul_of_pos_right}
-use Rattle.std.proofs.lemmas.Fmt.{decimal_by_steps_wide, decimal_step_wide, decimal_digit, length-decimal-le_wide}
-use Rattle.std.proofs.lemmas.Nat.{pow-add}
+use Rattle.std.proofs.{Math.Nat.pow-le-pow_right, Math.Nat.mul-lt-mul_of_pos_right, lemmas.Fmt.decimal_by_steps_wide}
+use Rattle.std.proofs.lemmas.{Fmt.decimal_step_wide, Fmt.decimal_digit, Fmt.length-decimal-le_wide, Nat.pow-add}
 use Rattle.std.specs.Fmt.{decimal}
 use Rattle.apfloat_decimals.proofs.numbers.Values.{power_pos}
 

@@ -2,25 +2,19 @@
 use Rattle.std.proofs.Common.{◌≡◌, ◌⊎◌, ℕ, ◌+◌, ◌-◌, ◌*◌, ◌/◌, ◌%◌, ◌^◌, ◌<◌, ◌≤◌, Bool, true, false, refl, sym, ap}
 use Rattle.std.proofs.Common.{◌∙◌, inl, inr, ⊎_elim, arith, lit<, zero, suc, add-one, List, [], ◌∷◌, ◌++◌, length}
 use Rattle.std.proofs.Common.{replicate, codes, append_assoc, length-append, ℤ, pos, negsuc, neg_ℤ, ◌+ℤ◌, ◌-ℤ◌, ◌≤ℤ◌}
-use Rattle.std.proofs.Common.{eqb, leb, subst}
+use Rattle.std.proofs.{Common.eqb, Common.leb, Common.subst, lemmas.Int.ints, lemmas.Nat.pow-add}
 use Rattle.std.proofs.lemmas.Bool.{cases_Bool, eqb-true, eqb-false, ne_eqb, le-leb, leb-true, and_parts, and_from}
 use Rattle.std.proofs.lemmas.Fmt.{decimal_by_steps_wide, decimal_digit, length-decimal-le_wide}
-use Rattle.std.proofs.lemmas.Int.{ints}
-use Rattle.std.proofs.lemmas.Nat.{pow-add}
 use Rattle.std.specs.Fmt.{decimal, signed_decimal}
-use Rattle.apfloat_model.specs.declared.marks.Mark.TheVariants.{Unmarked}
-use Rattle.apfloat_model.specs.arithmetic.Exact.{up, down}
+use Rattle.apfloat_model.specs.{declared.marks.Mark.TheVariants.Unmarked, arithmetic.Exact.up, arithmetic.Exact.down}
 use Rattle.apfloat_model.specs.texts.Digits.{every, is_decimal, digit_value, number}
 use Rattle.apfloat_model.specs.texts.Specials.{mark_of, after_mark}
 use Rattle.apfloat_model.proofs.general.ListLaws.{append-every}
-use Rattle.apfloat_decimals.specs.declared.decimal.Decimal.{Decimal}
-use Rattle.apfloat_decimals.specs.DecimalTexts.{IsWrittenExponent, IsDecimalText}
-use Rattle.apfloat_decimals.specs.LeadingDigits.{number_from}
-use Rattle.apfloat_decimals.specs.Parsing.{Spells}
+use Rattle.apfloat_decimals.specs.{declared.decimal.Decimal.Decimal, DecimalTexts.IsWrittenExponent}
+use Rattle.apfloat_decimals.specs.{DecimalTexts.IsDecimalText, LeadingDigits.number_from, Parsing.Spells}
+use Rattle.apfloat_decimals.specs.{Shortest.IsSameNumber, Texts.padded, Texts.pointed, Texts.is_plain}
 use Rattle.apfloat_decimals.specs.ReadBack.{IsStoredDecimal, is_written_whole, written}
-use Rattle.apfloat_decimals.specs.Shortest.{IsSameNumber}
-use Rattle.apfloat_decimals.specs.Texts.{padded, pointed, is_plain, some_pointed, scientific_text, magnitude_text}
-use Rattle.apfloat_decimals.specs.Texts.{sign_text, decimal_text}
+use Rattle.apfloat_decimals.specs.Texts.{some_pointed, scientific_text, magnitude_text, sign_text, decimal_text}
 use Rattle.apfloat_decimals.proofs.numbers.LeadingNumbers.{value_of_digit, number_joined}
 use Rattle.apfloat_decimals.proofs.numbers.Values.{power_pos}
 use Rattle.apfloat_decimals.proofs.spelled.WrittenNumbers.{length_more, few_digits, times_ten_small}

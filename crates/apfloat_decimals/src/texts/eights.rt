@@ -2,8 +2,7 @@
 
 ghost use Rattle.std.specs.Prelude.{◌≡◌, ℕ, ◌+◌, ◌*◌, ◌%◌, ◌^◌, ◌<◌, ◌≤◌, IfSome, IsTrue, length, take, drop, ◌&&◌};
 ghost use Rattle.apfloat_model.specs.texts.Digits.{every, is_decimal, number};
-ghost use Rattle.apfloat_decimals.specs.LeadingDigits.{number_from};
-ghost use Rattle.apfloat_decimals.specs.Eights.{IsInBytes};
+ghost use Rattle.apfloat_decimals.specs.{LeadingDigits.number_from, Eights.IsInBytes};
 
 use apfloat_conversions::hex_texts::is_decimal;
 

@@ -3,8 +3,7 @@
 ghost use Rattle.std.specs.Prelude.{◌≡◌, ℤ, pos, ◌-ℤ◌, MatchOption};
 ghost use Rattle.apfloat_model.specs.rounding.Bounds.{IsWithin};
 ghost use Rattle.apfloat_conversions.specs.hex_texts.Saturation.{IsNear, count_bound, far_bound};
-ghost use Rattle.apfloat_decimals.specs.DecimalTexts.{IsDecimalText};
-ghost use Rattle.apfloat_decimals.specs.Parsing.{Spells};
+ghost use Rattle.apfloat_decimals.specs.{DecimalTexts.IsDecimalText, Parsing.Spells};
 
 use super::parts::{has_some, split_fraction_number, split_number};
 use super::signs::split_sign;

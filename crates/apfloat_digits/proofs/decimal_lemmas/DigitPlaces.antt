@@ -1,14 +1,11 @@
 -- The number of digits of a value, from the places of its first and its last one.
-use Rattle.std.proofs.Common.{◌≡◌, ℕ, ◌+◌, ◌-◌, ◌*◌, ◌/◌, ◌%◌, ◌^◌, ◌<◌, ◌≤◌, Bool, true, eqb, sym}
-use Rattle.std.proofs.Common.{ap, ◌∙◌, subst, ⊎_elim, arith, zero, suc, ℤ}
+use Rattle.std.proofs.Common.{◌≡◌, ℕ, ◌+◌, ◌-◌, ◌*◌, ◌/◌, ◌%◌, ◌^◌, ◌<◌, ◌≤◌}
+use Rattle.std.proofs.Common.{Bool, true, eqb, sym, ap, ◌∙◌, subst, ⊎_elim, arith, zero, suc, ℤ}
 use Rattle.std.proofs.Math.Nat.{le_of_mul-le-mul_right, lt_of_mul-lt-mul_right, mul-le-mul_right}
 use Rattle.std.proofs.Math.Nat.{mul-lt-mul_of_pos_right, mul-pos, mul-mod_left, mul-div_cancel}
-use Rattle.std.proofs.lemmas.Bool.{cases_lt}
-use Rattle.std.proofs.lemmas.Nat.{pow-add, pow_pos}
-use Rattle.apfloat_model.specs.arithmetic.Exact.{up, down}
-use Rattle.apfloat_model.specs.declared.kinds.Round.{Round}
-use Rattle.apfloat_model.specs.formats.Format.{Format}
-use Rattle.apfloat_model.specs.whole_numbers.WholeNumbers.{whole_pick}
+use Rattle.std.proofs.lemmas.{Bool.cases_lt, Nat.pow-add, Nat.pow_pos}
+use Rattle.apfloat_model.specs.{arithmetic.Exact.up, arithmetic.Exact.down, declared.kinds.Round.Round}
+use Rattle.apfloat_model.specs.{formats.Format.Format, whole_numbers.WholeNumbers.whole_pick}
 use Rattle.apfloat_model.proofs.general.Choices.{eqb_self}
 use Rattle.apfloat_decimals.specs.ExactDecimals.{IsNumberOf}
 use Rattle.apfloat_decimals.specs.RoundedDecimals.{IsRoundedNumber, unit, units}

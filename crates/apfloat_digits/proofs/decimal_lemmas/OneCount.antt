@@ -1,17 +1,12 @@
 -- A value has one number of digits.
-use Rattle.std.proofs.Common.{◌≡◌, ℕ, ◌+◌, ◌-◌, ◌*◌, ◌^◌, ◌<◌, ◌≤◌, zero, suc, false, refl, sym, ap, ◌∙◌, arith, Option}
-use Rattle.std.proofs.Common.{Some, None}
-use Rattle.std.proofs.Math.Nat.{mul-pos}
-use Rattle.std.proofs.lemmas.Bool.{false≢true}
-use Rattle.std.proofs.lemmas.Nat.{pow-add, pow_pos}
-use Rattle.apfloat_model.specs.arithmetic.Exact.{up, down}
-use Rattle.apfloat_model.specs.formats.Datum.{Datum}
-use Rattle.apfloat_model.specs.formats.Format.{Format}
+use Rattle.std.proofs.Common.{◌≡◌, ℕ, ◌+◌, ◌-◌, ◌*◌, ◌^◌, ◌<◌, ◌≤◌, zero, suc, false}
+use Rattle.std.proofs.Common.{refl, sym, ap, ◌∙◌, arith, Option, Some, None}
+use Rattle.std.proofs.{Math.Nat.mul-pos, lemmas.Bool.false≢true, lemmas.Nat.pow-add, lemmas.Nat.pow_pos}
+use Rattle.apfloat_model.specs.{arithmetic.Exact.up, arithmetic.Exact.down, formats.Datum.Datum, formats.Format.Format}
 use Rattle.apfloat_model.specs.order.Classes.{is_finite_non_zero_category, quanta_of}
 use Rattle.apfloat_decimals.specs.ExactDecimals.{IsExactOf}
 use Rattle.apfloat_decimals.proofs.digits.ExactDecimals.{one_exact}
-use Rattle.apfloat_decimals.proofs.shortest_decimals.DecimalPlaces.{ten_pos}
-use Rattle.apfloat_decimals.proofs.shortest_decimals.OneShortest.{same_count}
+use Rattle.apfloat_decimals.proofs.shortest_decimals.{DecimalPlaces.ten_pos, OneShortest.same_count}
 use Rattle.apfloat_digits.specs.decimal.DigitCounts.{GivesDigitCount, IsDigitCount}
 
 -- the digits that are counted are those of the exact decimal

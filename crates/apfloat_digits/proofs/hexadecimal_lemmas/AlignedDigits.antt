@@ -1,11 +1,8 @@
 -- The digits of a value with the first one at a given place.
-use Rattle.std.proofs.Common.{◌≡◌, ◌⊎◌, ℕ, ◌+◌, ◌-◌, ◌*◌, ◌/◌, ◌%◌, ◌^◌, ◌<◌, ◌≤◌, refl, sym, ap, ◌∙◌, subst}
-use Rattle.std.proofs.Common.{arith, ℤ, pos, ◌+ℤ◌}
-use Rattle.std.proofs.Math.Nat.{lt_of_mul-lt-mul_right}
-use Rattle.std.proofs.lemmas.Int.{ints}
-use Rattle.std.proofs.lemmas.Nat.{pow-add}
-use Rattle.apfloat_model.specs.arithmetic.Exact.{up, down}
-use Rattle.apfloat_model.specs.formats.Format.{Format}
+use Rattle.std.proofs.Common.{◌≡◌, ◌⊎◌, ℕ, ◌+◌, ◌-◌, ◌*◌, ◌/◌, ◌%◌, ◌^◌, ◌<◌}
+use Rattle.std.proofs.Common.{◌≤◌, refl, sym, ap, ◌∙◌, subst, arith, ℤ, pos, ◌+ℤ◌}
+use Rattle.std.proofs.{Math.Nat.lt_of_mul-lt-mul_right, lemmas.Int.ints, lemmas.Nat.pow-add}
+use Rattle.apfloat_model.specs.{arithmetic.Exact.up, arithmetic.Exact.down, formats.Format.Format}
 use Rattle.apfloat_model.proofs.arithmetic.Significands.{lengthened_fits, lengthened_full, significand_lengthened}
 use Rattle.apfloat_digits.specs.hexadecimal.HexTexts.{last_place, IsNumberOf, IsShortestNumber}
 use Rattle.apfloat_digits.proofs.hexadecimal_lemmas.Numbers.{moved, sixteens}

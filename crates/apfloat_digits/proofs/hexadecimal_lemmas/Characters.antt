@@ -1,18 +1,15 @@
 -- Digits and exponents as characters: what they are read as, and how many there are.
-use Rattle.std.proofs.Common.{◌≡◌, ℕ, zero, suc, ◌+◌, ◌-◌, ◌*◌, ◌/◌, ◌%◌}
-use Rattle.std.proofs.Common.{◌^◌, ◌<◌, ◌≤◌, true, false, refl, sym, ap, ◌∙◌, ⊎_elim, arith, add-one, List, [], ◌∷◌}
-use Rattle.std.proofs.Common.{◌++◌, length, length-append, append_assoc, eqb, leb, ℤ, pos, negsuc, neg_ℤ, ◌≤ℤ◌}
+use Rattle.std.proofs.Common.{◌≡◌, ℕ, zero, suc, ◌+◌, ◌-◌, ◌*◌, ◌/◌, ◌%◌, ◌^◌, ◌<◌, ◌≤◌, true, false, refl, sym, ap}
+use Rattle.std.proofs.Common.{◌∙◌, ⊎_elim, arith, add-one, List, [], ◌∷◌, ◌++◌, length, length-append, append_assoc}
+use Rattle.std.proofs.Common.{eqb, leb, ℤ, pos, negsuc, neg_ℤ, ◌≤ℤ◌}
+use Rattle.std.proofs.lemmas.{Int.ints, Nat.pow-add}
 use Rattle.std.proofs.lemmas.Bool.{and_from, and_parts, cases_lt, leb-true, le-leb, lt-leb, le-ltb, lt-ltb, ne_eqb}
-use Rattle.std.proofs.lemmas.Int.{ints}
-use Rattle.std.proofs.lemmas.Nat.{pow-add}
 use Rattle.std.specs.Fmt.{decimal, signed_decimal}
 use Rattle.apfloat_model.specs.declared.marks.Mark.TheVariants.{Unmarked}
+use Rattle.apfloat_model.specs.texts.{Literals.exponent_number, Specials.mark_of, Specials.after_mark}
 use Rattle.apfloat_model.specs.texts.Digits.{every, is_decimal, is_hexadecimal, digit_value}
-use Rattle.apfloat_model.specs.texts.Literals.{exponent_number}
-use Rattle.apfloat_model.specs.texts.Specials.{mark_of, after_mark}
 use Rattle.apfloat_model.proofs.general.ListLaws.{append-every}
-use Rattle.apfloat_decimals.proofs.spelled.WrittenNumbers.{length_more}
-use Rattle.apfloat_decimals.proofs.spelled.WrittenTexts.{number_of_decimal}
+use Rattle.apfloat_decimals.proofs.spelled.{WrittenNumbers.length_more, WrittenTexts.number_of_decimal}
 use Rattle.apfloat_conversions.specs.hex_texts.Scans.{number_from}
 use Rattle.apfloat_digits.specs.hexadecimal.HexTexts.{character, digits_text}
 

@@ -1,15 +1,11 @@
 -- How long texts are.
-use Rattle.std.proofs.Common.{◌≡◌, ℕ, zero, suc, ◌+◌, ◌^◌, ◌<◌, ◌≤◌, Bool}
-use Rattle.std.proofs.Common.{false, cond, sym, subst, arith, lit≤, eqb, length, length-append}
-use Rattle.std.proofs.Common.{◌++◌, ◌∷◌, List, [], codes, ℤ, pos, negsuc}
-use Rattle.std.proofs.lemmas.Bool.{ne_eqb}
-use Rattle.std.proofs.lemmas.Fmt.{length_signed_le}
-use Rattle.std.proofs.lemmas.Int.{ints}
+use Rattle.std.proofs.Common.{◌≡◌, ℕ, zero, suc, ◌+◌, ◌^◌, ◌<◌, ◌≤◌, Bool, false, cond, sym, subst, arith, lit≤, eqb}
+use Rattle.std.proofs.Common.{length, length-append, ◌++◌, ◌∷◌, List, [], codes, ℤ, pos, negsuc}
+use Rattle.std.proofs.lemmas.{Bool.ne_eqb, Fmt.length_signed_le, Int.ints}
 use Rattle.std.specs.Fmt.{signed_decimal}
 use Rattle.apfloat_model.specs.rounding.Bounds.{IsWithin}
 use Rattle.apfloat_decimals.specs.Texts.{sign_text}
-use Rattle.apfloat_decimals.proofs.spelled.WrittenNumbers.{length_more}
-use Rattle.apfloat_decimals.proofs.spelled.Lines.{sign_length}
+use Rattle.apfloat_decimals.proofs.spelled.{WrittenNumbers.length_more, Lines.sign_length}
 use Rattle.apfloat_digits.specs.hexadecimal.HexTexts.{character, digits_text, dotted, magnitude_text, number_text}
 use Rattle.apfloat_digits.proofs.hexadecimal_lemmas.Characters.{digits_length}
 

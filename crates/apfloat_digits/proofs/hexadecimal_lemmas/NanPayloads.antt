@@ -1,38 +1,27 @@
 -- Payloads in bits and in texts, and that a NaN is read back.
+use Rattle.std.proofs.{Math.Nat.pow-le-pow_right, Math.Pow.mod-mod-pow, lemmas.Bool.cases_Bool}
 use Rattle.std.proofs.Common.{◌≡◌, ◌⊎◌, ℕ, zero, suc, ◌+◌, ◌-◌, ◌*◌, ◌/◌, ◌%◌, ◌^◌, ◌<◌, ◌≤◌, Bool, true, false, not}
 use Rattle.std.proofs.Common.{cond, refl, sym, ap, ◌∙◌, subst, inl, inr, ⊎_elim, arith, List, [], ◌∷◌, ◌++◌, length}
 use Rattle.std.proofs.Common.{append_assoc, codes, eqb, leb, ltb, Option, Some}
-use Rattle.std.specs.Bool.{⊤}
-use Rattle.std.specs.Int.Bits.{or_zero_l}
-use Rattle.std.specs.Prelude.{bit_and, bit_or, Result}
-use Rattle.std.proofs.Math.Nat.{div-eq_of_lt, div-eq_of_lt-le, div-lt_iff_lt-mul}
-use Rattle.std.proofs.Math.Nat.{mod-eq_of_lt, mod-lt, pow-le-pow_right}
-use Rattle.std.proofs.Math.Pow.{mod-mod-pow}
-use Rattle.std.proofs.lemmas.Bool.{cases_Bool, cases_lt, cond_both, eqb-true, eqb-false, false≢true, lt-ltb, ne_eqb}
-use Rattle.std.proofs.lemmas.Bool.{and_parts}
-use Rattle.std.proofs.lemmas.Nat.{and_comm, and_mask, div-add-mod', or_disjoint, pow_pos}
-use Rattle.std.proofs.lemmas.Nat.Bits.{and_pow}
+use Rattle.std.proofs.Math.Nat.{div-eq_of_lt, div-eq_of_lt-le, div-lt_iff_lt-mul, mod-eq_of_lt, mod-lt}
+use Rattle.std.proofs.lemmas.Bool.{cases_lt, cond_both, eqb-true, eqb-false, false≢true, lt-ltb, ne_eqb, and_parts}
+use Rattle.std.proofs.lemmas.Nat.{and_comm, and_mask, div-add-mod', or_disjoint, pow_pos, Bits.and_pow}
 use Rattle.std.proofs.lemmas.List.{append-nil}
+use Rattle.std.specs.{Bool.⊤, Int.Bits.or_zero_l, Prelude.bit_and, Prelude.bit_or, Prelude.Result}
 use Rattle.apfloat_model.specs.bits.Layout.{Layout, Fields, trailing_bits, fields_of, has_all_ones, implied_number}
 use Rattle.apfloat_model.specs.bits.Layout.{implied_datum, written_number, written_datum, datum_of}
-use Rattle.apfloat_model.specs.declared.kinds.Category.{Category}
-use Rattle.apfloat_model.specs.declared.kinds.Category.TheVariants.{NaN}
-use Rattle.apfloat_model.specs.declared.kinds.NonfiniteBehavior.{NonfiniteBehavior}
-use Rattle.apfloat_model.specs.declared.kinds.NonfiniteBehavior.TheVariants.{IEEE754}
-use Rattle.apfloat_model.specs.declared.kinds.Round.{Round}
-use Rattle.apfloat_model.specs.declared.marks.Radix.TheVariants.{Sixteen}
-use Rattle.apfloat_model.specs.declared.parse_error.ParseError.{ParseError}
-use Rattle.apfloat_model.specs.declared.status.StatusAnd.{StatusAnd}
+use Rattle.apfloat_model.specs.declared.{kinds.Round.Round, marks.Radix.TheVariants.Sixteen}
+use Rattle.apfloat_model.specs.declared.{parse_error.ParseError.ParseError, status.StatusAnd.StatusAnd}
+use Rattle.apfloat_model.specs.declared.kinds.Category.{Category, TheVariants.NaN}
+use Rattle.apfloat_model.specs.declared.kinds.NonfiniteBehavior.{NonfiniteBehavior, TheVariants.IEEE754}
+use Rattle.apfloat_model.specs.formats.{Members.IsMember, Members.IsNanSignificand, Nan.is_signaling}
 use Rattle.apfloat_model.specs.formats.Datum.{Datum, finite, infinite, nan}
 use Rattle.apfloat_model.specs.formats.Format.{Format, smallest_normalized, nan_base_of, payload_mask_of, quiet_bits_of}
-use Rattle.apfloat_model.specs.formats.Members.{IsMember, IsNanSignificand}
-use Rattle.apfloat_model.specs.formats.Nan.{is_signaling, nan_sign}
-use Rattle.apfloat_model.specs.formats.Nan.{quiet_bit_of, quiet_significand, signaling_significand}
+use Rattle.apfloat_model.specs.formats.Nan.{nan_sign, quiet_bit_of, quiet_significand, signaling_significand}
 use Rattle.apfloat_model.specs.order.Classes.{category_of, is_nan_category}
+use Rattle.apfloat_model.specs.texts.{Parsing.IsRead, Specials.not_a_number, Specials.number_of_digits}
 use Rattle.apfloat_model.specs.texts.Digits.{every, is_hexadecimal, number}
-use Rattle.apfloat_model.specs.texts.Parsing.{IsRead}
-use Rattle.apfloat_model.specs.texts.Specials.{not_a_number, number_of_digits, after_plus, special_of, with_payload}
-use Rattle.apfloat_model.specs.texts.Specials.{payload_of as payload_read}
+use Rattle.apfloat_model.specs.texts.Specials.{after_plus, special_of, with_payload, payload_of as payload_read}
 use Rattle.apfloat_model.specs.texts.Texts.{Means}
 use Rattle.apfloat_model.proofs.general.Powers.{exponent_below, twice_power, two_pos}
 use Rattle.apfloat_model.proofs.formats.LawfulRanges.{HasRanges}

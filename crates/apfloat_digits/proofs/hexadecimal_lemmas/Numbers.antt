@@ -1,15 +1,11 @@
 -- Numbers of hexadecimal digits: where their first digit is, and that the shortest is the only one.
-use Rattle.std.proofs.Common.{◌≡◌, ◌⊎◌, ℕ, zero, suc, ◌+◌, ◌-◌, ◌*◌, ◌%◌}
-use Rattle.std.proofs.Common.{◌^◌, ◌<◌, ◌≤◌, refl, sym, ap, ◌∙◌, subst, inl, inr, ⊎_elim, arith, add-one, ℤ}
+use Rattle.std.proofs.Common.{◌≡◌, ◌⊎◌, ℕ, zero, suc, ◌+◌, ◌-◌, ◌*◌, ◌%◌, ◌^◌, ◌<◌, ◌≤◌, refl, sym, ap, ◌∙◌, subst, inl}
+use Rattle.std.proofs.Common.{inr, ⊎_elim, arith, add-one, ℤ}
 use Rattle.std.proofs.Math.Nat.{eq_of_mul-eq-mul_right, mul-le-mul_right, mul-lt-mul_of_pos_right, mul-mod_left}
-use Rattle.std.proofs.lemmas.Bool.{cases_lt}
-use Rattle.std.proofs.lemmas.Int.{ints}
-use Rattle.std.proofs.lemmas.Nat.{pow-add, pow_pos}
+use Rattle.std.proofs.lemmas.{Bool.cases_lt, Int.ints, Nat.pow-add, Nat.pow_pos}
+use Rattle.apfloat_model.specs.{formats.Format.Format, formats.Format.largest, rounding.Bounds.IsWithin}
 use Rattle.apfloat_model.specs.arithmetic.Exact.{up, down}
-use Rattle.apfloat_model.specs.formats.Format.{Format, largest}
-use Rattle.apfloat_model.specs.rounding.Bounds.{IsWithin}
-use Rattle.apfloat_model.proofs.general.Powers.{exponent_below}
-use Rattle.apfloat_model.proofs.rounding.FarMagnitudes.{largest_below}
+use Rattle.apfloat_model.proofs.{general.Powers.exponent_below, rounding.FarMagnitudes.largest_below}
 use Rattle.apfloat_model.proofs.formats.LawfulRanges.{HasRanges}
 use Rattle.apfloat_digits.specs.hexadecimal.HexTexts.{last_place, IsNumberOf, IsShortestNumber}
 

@@ -1,40 +1,28 @@
 -- The text of a value is read as that value, and is the only one.
-use Rattle.std.proofs.Common.{◌≡◌, ◌⊎◌, ℕ, zero, suc, ◌+◌, ◌*◌, ◌^◌, ◌<◌, Bool, true, false, cond, refl, sym, ap}
-use Rattle.std.proofs.Common.{◌∙◌, subst, inl, inr, arith, lit<, List, [], ◌∷◌, ◌++◌, codes, eqb}
-use Rattle.std.proofs.Common.{ℤ, pos, neg_ℤ, ◌+ℤ◌, ◌-ℤ◌, ◌≤ℤ◌}
-use Rattle.std.specs.Prelude.{Result, Ok, Err}
+use Rattle.std.proofs.Common.{◌≡◌, ◌⊎◌, ℕ, zero, suc, ◌+◌, ◌*◌, ◌^◌, ◌<◌, Bool, true, false, cond, refl, sym, ap, ◌∙◌}
+use Rattle.std.proofs.Common.{subst, inl, inr, arith, lit<, List, [], ◌∷◌, ◌++◌, codes, eqb, ℤ, pos, neg_ℤ, ◌+ℤ◌, ◌-ℤ◌}
+use Rattle.std.proofs.Common.{◌≤ℤ◌}
+use Rattle.std.proofs.lemmas.{Int.ints, Nat.pow_pos, Option.none-some}
 use Rattle.std.proofs.lemmas.Bool.{MatchBool-at_false, and_from, ne_eqb}
-use Rattle.std.proofs.lemmas.Int.{ints}
-use Rattle.std.proofs.lemmas.Nat.{pow_pos}
-use Rattle.std.proofs.lemmas.Option.{none-some}
-use Rattle.std.specs.Fmt.{signed_decimal}
-use Rattle.apfloat_model.specs.arithmetic.Exact.{up, down}
-use Rattle.apfloat_model.specs.declared.kinds.NonfiniteBehavior.{NonfiniteBehavior}
-use Rattle.apfloat_model.specs.declared.kinds.Round.{Round}
-use Rattle.apfloat_model.specs.declared.parse_error.ParseError.{ParseError}
-use Rattle.apfloat_model.specs.declared.status.StatusAnd.{StatusAnd}
-use Rattle.apfloat_model.specs.formats.Datum.{Datum, finite, infinite, nan}
-use Rattle.apfloat_model.specs.formats.Format.{Format, nan_base}
-use Rattle.apfloat_model.specs.formats.Members.{IsMember}
-use Rattle.apfloat_model.specs.formats.Nan.{is_signaling}
-use Rattle.apfloat_model.specs.rounding.Flags.{bits_of}
-use Rattle.apfloat_model.specs.rounding.Rounding.{past_largest}
-use Rattle.apfloat_model.specs.texts.Digits.{every, is_hexadecimal}
-use Rattle.apfloat_model.specs.texts.Parsing.{IsRead}
-use Rattle.apfloat_model.specs.texts.Readings.{IsMeant}
+use Rattle.std.specs.{Prelude.Result, Prelude.Ok, Prelude.Err, Fmt.signed_decimal}
+use Rattle.apfloat_model.specs.{arithmetic.Exact.up, arithmetic.Exact.down, declared.parse_error.ParseError.ParseError}
+use Rattle.apfloat_model.specs.declared.{status.StatusAnd.StatusAnd, kinds.NonfiniteBehavior.NonfiniteBehavior}
+use Rattle.apfloat_model.specs.{declared.kinds.Round.Round, formats.Format.Format, formats.Format.nan_base}
+use Rattle.apfloat_model.specs.formats.{Members.IsMember, Nan.is_signaling, Datum.Datum, Datum.finite, Datum.infinite}
+use Rattle.apfloat_model.specs.{formats.Datum.nan, rounding.Flags.bits_of, rounding.Rounding.past_largest}
+use Rattle.apfloat_model.specs.texts.{Digits.every, Digits.is_hexadecimal, Parsing.IsRead, Readings.IsMeant}
 use Rattle.apfloat_model.specs.texts.Specials.{TextMeaning, infinity, not_a_number, hexadecimal}
 use Rattle.apfloat_model.specs.texts.Texts.{Means, IsHexadecimal}
-use Rattle.apfloat_model.proofs.rounding.Deliveries.{signed_some}
-use Rattle.apfloat_model.proofs.rounding.Laws.{delivered_once, exact_delivered, zero_delivered}
-use Rattle.apfloat_model.proofs.texts.OneMeaning.{meaning_no_fault, one_meaning}
+use Rattle.apfloat_model.proofs.{rounding.Laws.zero_delivered, texts.OneMeaning.meaning_no_fault}
+use Rattle.apfloat_model.proofs.{texts.OneMeaning.one_meaning, formats.LawfulRanges.HasRanges}
+use Rattle.apfloat_model.proofs.rounding.{Deliveries.signed_some, Laws.delivered_once, Laws.exact_delivered}
 use Rattle.apfloat_decimals.specs.Texts.{sign_text}
-use Rattle.apfloat_model.proofs.formats.LawfulRanges.{HasRanges}
 use Rattle.apfloat_conversions.specs.hex_texts.Scans.{number_from}
-use Rattle.apfloat_digits.specs.hexadecimal.HexTexts.{character, digits_text, dotted, magnitude_text, number_text, last_place}
-use Rattle.apfloat_digits.specs.hexadecimal.HexTexts.{IsShortestText, IsHexText}
+use Rattle.apfloat_digits.specs.hexadecimal.HexTexts.{character, digits_text, dotted, magnitude_text, number_text}
+use Rattle.apfloat_digits.specs.hexadecimal.HexTexts.{last_place, IsShortestText, IsHexText}
 use Rattle.apfloat_digits.specs.hexadecimal.ReadBack.{back, IsReadExactly, IsReadBack}
-use Rattle.apfloat_digits.proofs.hexadecimal_lemmas.Characters.{digit_of, digits_number, digits_length, digits_hexadecimal}
-use Rattle.apfloat_digits.proofs.hexadecimal_lemmas.Characters.{exponent_written}
+use Rattle.apfloat_digits.proofs.hexadecimal_lemmas.Characters.{digit_of, digits_number, digits_length}
+use Rattle.apfloat_digits.proofs.hexadecimal_lemmas.Characters.{digits_hexadecimal, exponent_written}
 use Rattle.apfloat_digits.proofs.hexadecimal_lemmas.Numbers.{exponent_within, one_number}
 
 -- ---- the text of a number

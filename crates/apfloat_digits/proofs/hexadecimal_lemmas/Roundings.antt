@@ -1,29 +1,21 @@
 -- A value rounded to a number of digits, and that the result is the only one.
-use Rattle.std.proofs.Common.{◌≡◌, ℕ, zero, suc, ◌+◌, ◌-◌, ◌*◌, ◌%◌, ◌^◌, ◌<◌, ◌≤◌, Bool, true, false, cond, eqb}
-use Rattle.std.proofs.Common.{refl, sym, ap, ◌∙◌, subst, ⊎_elim, arith, List, ℤ, pos, ◌+ℤ◌}
+use Rattle.std.proofs.Common.{◌≡◌, ℕ, zero, suc, ◌+◌, ◌-◌, ◌*◌, ◌%◌, ◌^◌, ◌<◌, ◌≤◌, Bool, true, false, cond, eqb, refl}
+use Rattle.std.proofs.Common.{sym, ap, ◌∙◌, subst, ⊎_elim, arith, List, ℤ, pos, ◌+ℤ◌}
 use Rattle.std.proofs.Math.Nat.{lt_of_mul-lt-mul_right, pow-le-pow_right}
-use Rattle.std.proofs.lemmas.Bool.{MatchBool-at_false, cases_lt, ne_eqb}
-use Rattle.std.proofs.lemmas.Int.{ints}
-use Rattle.std.proofs.lemmas.Nat.{pow-add, pow_pos}
-use Rattle.apfloat_model.specs.arithmetic.Exact.{up, down}
-use Rattle.apfloat_model.specs.arithmetic.Exponents.{IsLogarithm}
-use Rattle.apfloat_model.specs.declared.kinds.Round.{Round}
-use Rattle.apfloat_model.specs.declared.loss.Loss.{Loss}
-use Rattle.apfloat_model.specs.declared.loss.Loss.TheVariants.{ExactlyZero}
+use Rattle.std.proofs.lemmas.{Bool.MatchBool-at_false, Bool.cases_lt, Bool.ne_eqb, Int.ints, Nat.pow-add, Nat.pow_pos}
+use Rattle.apfloat_model.specs.{formats.Format.Format, rounding.Enclosure.rounds_up, rounding.Standing.StandsFor}
+use Rattle.apfloat_model.specs.arithmetic.{Exact.up, Exact.down, Exponents.IsLogarithm}
+use Rattle.apfloat_model.specs.declared.{kinds.Round.Round, loss.Loss.Loss, loss.Loss.TheVariants.ExactlyZero}
 use Rattle.apfloat_model.specs.formats.Datum.{Datum, finite, infinite, nan}
-use Rattle.apfloat_model.specs.formats.Format.{Format}
-use Rattle.apfloat_model.specs.rounding.Enclosure.{rounds_up}
-use Rattle.apfloat_model.specs.rounding.Standing.{StandsFor}
 use Rattle.apfloat_model.specs.whole_numbers.WholeNumbers.{whole_pick}
-use Rattle.apfloat_model.proofs.general.Powers.{two_pos}
-use Rattle.apfloat_model.proofs.rounding.Losses.{stands_from, stands_to}
+use Rattle.apfloat_model.proofs.{general.Powers.two_pos, rounding.Losses.stands_from, rounding.Losses.stands_to}
 use Rattle.apfloat_model.proofs.arithmetic.Inverses.{logarithm_once}
 use Rattle.apfloat_conversions.proofs.Wholes.{whole_at, exact_at}
 use Rattle.apfloat_decimals.proofs.numbers.DecimalPowers.{stands_moved}
 use Rattle.apfloat_digits.specs.hexadecimal.HexTexts.{last_place, number_text}
-use Rattle.apfloat_digits.specs.hexadecimal.RoundedTexts.{units, unit, IsHexCarried, IsHexRoundedNumber, IsRoundedText, IsRoundedHexText}
-use Rattle.apfloat_digits.proofs.hexadecimal_lemmas.Numbers.{sixteens}
-use Rattle.apfloat_digits.proofs.hexadecimal_lemmas.AlignedDigits.{IsWide}
+use Rattle.apfloat_digits.specs.hexadecimal.RoundedTexts.{units, unit, IsHexCarried, IsHexRoundedNumber, IsRoundedText}
+use Rattle.apfloat_digits.specs.hexadecimal.RoundedTexts.{IsRoundedHexText}
+use Rattle.apfloat_digits.proofs.hexadecimal_lemmas.{Numbers.sixteens, AlignedDigits.IsWide}
 
 -- ---- the digits that are kept
 

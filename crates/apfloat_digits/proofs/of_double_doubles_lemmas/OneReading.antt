@@ -1,17 +1,13 @@
 -- A text is read as one pair.
 use Rattle.std.proofs.Common.{ℕ, sym, ◌∙◌, List, Ok, Err}
 use Rattle.std.proofs.lemmas.Option.{none-some}
-use Rattle.apfloat_model.specs.declared.kinds.Round.{Round}
-use Rattle.apfloat_model.specs.rounding.Flags.{bits_of}
+use Rattle.apfloat_model.specs.{declared.kinds.Round.Round, rounding.Flags.bits_of}
 use Rattle.apfloat_model.proofs.Determined.{same_answer}
-use Rattle.apfloat_pair_theory.specs.PairFormats.{wide}
-use Rattle.apfloat_pair_theory.specs.PairAnswers.{OncePair}
-use Rattle.apfloat_pair_theory.specs.Pairs.{Pair}
+use Rattle.apfloat_pair_theory.specs.{PairFormats.wide, PairAnswers.OncePair, Pairs.Pair}
 use Rattle.apfloat_pair_theory.proofs.calls.PairsOnce.{split_answer_once}
 use Rattle.apfloat_decimals.specs.DecimalTexts.{IsDecimalReading, IsDecimalRefusal}
 use Rattle.apfloat_decimals.proofs.spelled.OneReading.{decimal_reading_once, decimal_refusal_once, reading_no_fault}
-use Rattle.apfloat_digits.specs.of_double_doubles.OneReading.{IsPairReadOnce}
-use Rattle.apfloat_digits.specs.of_double_doubles.PairReadings.{IsPairDecimalReading}
+use Rattle.apfloat_digits.specs.of_double_doubles.{OneReading.IsPairReadOnce, PairReadings.IsPairDecimalReading}
 
 -- a text has one pair and one status
 pub pair_decimal_reading_once : (mode : Round) (text : List ℕ) → OncePair (IsPairDecimalReading mode text)

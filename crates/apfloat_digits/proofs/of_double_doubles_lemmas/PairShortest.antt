@@ -1,42 +1,28 @@
 -- A pair has at most one shortest decimal, and the pair is read back from it.
-use Rattle.std.proofs.Common.{◌≡◌, ◌<◌, ◌≤◌, ◌*◌, ◌^◌, ℕ, zero, suc, ℤ, ◌∙◌, Bool, true, false, refl, sym, ap, subst, List}
-use Rattle.std.proofs.Common.{Option, Some, None, Result, Ok, Err, arith, lit<}
+use Rattle.std.proofs.Common.{◌≡◌, ◌<◌, ◌≤◌, ◌*◌, ◌^◌, ℕ, zero, suc, ℤ, ◌∙◌, Bool}
+use Rattle.std.proofs.Common.{true, false, refl, sym, ap, subst, List, Option, Some, None, Result, Ok, Err, arith, lit<}
 use Rattle.std.proofs.lemmas.Bool.{and_parts}
-use Rattle.std.specs.Bool.{MatchBool}
-use Rattle.std.specs.Result.{IsOkAnd}
+use Rattle.std.specs.{Bool.MatchBool, Result.IsOkAnd}
 use Rattle.apfloat_model.specs.Determined.{Determines}
-use Rattle.apfloat_model.specs.declared.kinds.Round.TheVariants.{NearestTiesToEven}
-use Rattle.apfloat_model.specs.declared.kinds.NonfiniteBehavior.{NonfiniteBehavior}
+use Rattle.apfloat_model.specs.declared.kinds.{Round.TheVariants.NearestTiesToEven, NonfiniteBehavior.NonfiniteBehavior}
 use Rattle.apfloat_model.specs.declared.kinds.NonfiniteBehavior.TheVariants.{IEEE754, NanOnly, NanNegativeZero}
-use Rattle.apfloat_model.specs.declared.parse_error.ParseError.{ParseError}
-use Rattle.apfloat_model.specs.declared.status.StatusAnd.{StatusAnd}
-use Rattle.apfloat_model.specs.formats.Datum.{Datum, finite, infinite, nan}
-use Rattle.apfloat_model.specs.formats.Format.{Format, largest}
-use Rattle.apfloat_model.specs.formats.Members.{IsMember}
-use Rattle.apfloat_model.specs.rounding.Flags.{bits_of}
-use Rattle.apfloat_model.specs.rounding.Rounding.{zero_sign}
-use Rattle.apfloat_model.specs.arithmetic.Exact.{up, down}
+use Rattle.apfloat_model.specs.declared.{parse_error.ParseError.ParseError, status.StatusAnd.StatusAnd}
+use Rattle.apfloat_model.specs.formats.{Datum.Datum, Datum.finite, Datum.infinite, Datum.nan, Format.Format}
+use Rattle.apfloat_model.specs.{formats.Format.largest, formats.Members.IsMember, rounding.Flags.bits_of}
+use Rattle.apfloat_model.specs.{rounding.Rounding.zero_sign, arithmetic.Exact.up, arithmetic.Exact.down}
 use Rattle.apfloat_model.proofs.general.Choices.{match_false, match_true}
-use Rattle.apfloat_model.proofs.order.Categories.{same_is}
-use Rattle.apfloat_model.proofs.rounding.Laws.{zero_on_grid}
-use Rattle.apfloat_pair_theory.specs.PairFormats.{wide}
-use Rattle.apfloat_pair_theory.specs.PairParts.{same_pair}
-use Rattle.apfloat_pair_theory.specs.Pairs.{Pair, IsJoined, IsSplit}
+use Rattle.apfloat_model.proofs.{order.Categories.same_is, rounding.Laws.zero_on_grid}
+use Rattle.apfloat_pair_theory.specs.{PairFormats.wide, PairParts.same_pair, Pairs.Pair, Pairs.IsJoined, Pairs.IsSplit}
 use Rattle.apfloat_pair_theory.proofs.calls.PairsOnce.{joined_once, parts_same, split_once}
 use Rattle.apfloat_pair_theory.proofs.numbers.Roundings.{pick_on_grid}
-use Rattle.apfloat_decimals.specs.declared.decimal.Decimal.{Decimal}
-use Rattle.apfloat_decimals.specs.Parsing.{Spells}
-use Rattle.apfloat_decimals.specs.ReadBack.{IsStoredDecimal, written}
-use Rattle.apfloat_decimals.specs.Shortest.{IsSameNumber}
-use Rattle.apfloat_decimals.specs.ShortestSearch.{GivesShortest, IsShortestOf}
-use Rattle.apfloat_decimals.specs.Texts.{decimal_text}
-use Rattle.apfloat_decimals.proofs.shortest_decimals.OneShortest.{one_shortest}
-use Rattle.apfloat_decimals.proofs.shortest_decimals.PickedFractions.{delivered_pick}
+use Rattle.apfloat_decimals.specs.{declared.decimal.Decimal.Decimal, Parsing.Spells, ReadBack.IsStoredDecimal}
+use Rattle.apfloat_decimals.specs.{ReadBack.written, Shortest.IsSameNumber, ShortestSearch.GivesShortest}
+use Rattle.apfloat_decimals.specs.{ShortestSearch.IsShortestOf, Texts.decimal_text}
+use Rattle.apfloat_decimals.proofs.shortest_decimals.{OneShortest.one_shortest, PickedFractions.delivered_pick}
 use Rattle.apfloat_decimals.proofs.shortest_decimals.ReadBacks.{read_back}
 use Rattle.apfloat_decimals.proofs.spelled.TextReadings.{reading_is, text_read}
 use Rattle.apfloat_decimals.proofs.spelled.WrittenTexts.{text_spelled, written_same}
-use Rattle.apfloat_digits.specs.of_double_doubles.PairReadings.{IsPairDecimalRead}
-use Rattle.apfloat_digits.specs.of_double_doubles.PairShortest.{GivesPairShortest}
+use Rattle.apfloat_digits.specs.of_double_doubles.{PairReadings.IsPairDecimalRead, PairShortest.GivesPairShortest}
 
 -- ---- pairs with the same parts
 

@@ -1,27 +1,20 @@
 -- A pair that a text is read as has a shortest decimal, if its high part is finite.
-use Rattle.std.proofs.Common.{◌≡◌, ◌≤◌, ℕ, zero, suc, ◌∙◌, Bool, true, false, eqb, ltb, refl, sym, ap, subst, List, inl, inr}
-use Rattle.std.proofs.Common.{Option, arith}
+use Rattle.std.proofs.Common.{◌≡◌, ◌≤◌, ℕ, zero, suc, ◌∙◌, Bool, true, false, eqb, ltb, refl, sym, ap, subst, List, inl}
+use Rattle.std.proofs.{Common.inr, Common.Option, Common.arith, lemmas.Bool.false≢true, lemmas.Bool.ltb-false}
 use Rattle.std.specs.Prelude.{IsSome, if◌then◌else◌}
 use Rattle.std.specs.Bool.{MatchBool}
-use Rattle.std.proofs.lemmas.Bool.{false≢true, ltb-false}
-use Rattle.apfloat_model.specs.declared.kinds.Round.{Round}
-use Rattle.apfloat_model.specs.formats.Datum.{Datum, finite, infinite, nan}
-use Rattle.apfloat_model.specs.formats.Format.{largest, nan_base}
-use Rattle.apfloat_model.specs.formats.Members.{IsMember}
-use Rattle.apfloat_model.specs.order.Classes.{is_finite, is_finite_non_zero}
-use Rattle.apfloat_model.specs.rounding.Grid.{IsOnGrid}
+use Rattle.apfloat_model.specs.{declared.kinds.Round.Round, formats.Datum.Datum, formats.Datum.finite}
+use Rattle.apfloat_model.specs.{order.Classes.is_finite, order.Classes.is_finite_non_zero, rounding.Grid.IsOnGrid}
+use Rattle.apfloat_model.specs.formats.{Datum.infinite, Datum.nan, Format.largest, Format.nan_base, Members.IsMember}
 use Rattle.apfloat_model.specs.rounding.Rounding.{IsDelivered, leads_out, past_largest, signed_quanta, zero_sign}
 use Rattle.apfloat_model.specs.texts.Specials.{TextMeaning, infinity, not_a_number, hexadecimal}
 use Rattle.apfloat_model.specs.texts.Readings.{IsMeant}
-use Rattle.apfloat_model.proofs.rounding.Laws.{zero_on_grid}
-use Rattle.apfloat_model.proofs.rounding.ModesAgree.{pick_on_grid}
+use Rattle.apfloat_model.proofs.rounding.{Laws.zero_on_grid, ModesAgree.pick_on_grid}
 use Rattle.apfloat_pair_theory.specs.PairFormats.{wide}
 use Rattle.apfloat_pair_theory.specs.Pairs.{Pair, IsJoined, IsSplit, IsSumOfParts, IsWidened}
 use Rattle.apfloat_pair_theory.proofs.numbers.Roundings.{largest_on_grid}
-use Rattle.apfloat_decimals.specs.declared.decimal.Decimal.{Decimal}
-use Rattle.apfloat_decimals.specs.DecimalTexts.{IsDecimalReading}
-use Rattle.apfloat_digits.specs.of_double_doubles.PairReadings.{IsPairDecimalReading}
-use Rattle.apfloat_digits.specs.of_double_doubles.PairShortest.{GivesPairShortest}
+use Rattle.apfloat_decimals.specs.{declared.decimal.Decimal.Decimal, DecimalTexts.IsDecimalReading}
+use Rattle.apfloat_digits.specs.of_double_doubles.{PairReadings.IsPairDecimalReading, PairShortest.GivesPairShortest}
 use Rattle.apfloat_digits.proofs.of_double_doubles_lemmas.SplitsJoined.{joined_has_decimal, split_has_decimal}
 
 -- ---- what is delivered in the wide format belongs to it

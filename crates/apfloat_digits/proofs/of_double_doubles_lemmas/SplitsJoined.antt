@@ -1,38 +1,28 @@
 -- A pair that a wide number is split into is joined to that number again, so it has a shortest decimal.
-use Rattle.std.proofs.Common.{◌≡◌, ◌<◌, ◌≤◌, ◌*◌, ℕ, zero, suc, ◌∙◌, Bool, true, false, refl, sym, ap, subst, ⊎_elim}
-use Rattle.std.proofs.Common.{Option, Some, None, arith, lit≤, ℤ, pos, ◌+ℤ◌}
-use Rattle.std.specs.Prelude.{◌-ℤ◌, IsSome}
+use Rattle.std.proofs.Common.{◌≡◌, ◌<◌, ◌≤◌, ◌*◌, ℕ, zero, suc, ◌∙◌, Bool, true, false}
+use Rattle.std.proofs.Common.{refl, sym, ap, subst, ⊎_elim, Option, Some, None, arith, lit≤, ℤ, pos, ◌+ℤ◌}
 use Rattle.std.proofs.Math.Path.{subst₂}
-use Rattle.std.proofs.lemmas.Bool.{cases_lt, false≢true, lt-ltb}
-use Rattle.std.proofs.lemmas.Int.{ints}
-use Rattle.apfloat_model.specs.declared.kinds.Round.TheVariants.{NearestTiesToEven}
-use Rattle.apfloat_model.specs.formats.Datum.{Datum, finite, infinite, nan}
-use Rattle.apfloat_model.specs.formats.Format.{largest}
-use Rattle.apfloat_model.specs.formats.Members.{IsMember, IsFiniteOf}
-use Rattle.apfloat_model.specs.order.Classes.{is_finite, is_finite_non_zero}
-use Rattle.apfloat_model.specs.order.Order.{number}
-use Rattle.apfloat_model.specs.arithmetic.Exact.{signed, sign_of, magnitude, IsRounded}
-use Rattle.apfloat_model.specs.arithmetic.Sums.{IsSum, zero_sum_sign}
-use Rattle.apfloat_model.specs.rounding.Grid.{IsOnGrid}
-use Rattle.apfloat_model.specs.rounding.Rounding.{ok_bits, delivered_value}
-use Rattle.apfloat_model.proofs.arithmetic.Signs.{magnitude_signed}
-use Rattle.apfloat_model.proofs.order.Categories.{same_of}
-use Rattle.apfloat_model.proofs.rounding.Laws.{delivered_once}
-use Rattle.apfloat_model.proofs.general.Choices.{chosen}
+use Rattle.std.proofs.lemmas.{Bool.cases_lt, Bool.false≢true, Bool.lt-ltb, Int.ints}
+use Rattle.std.specs.Prelude.{◌-ℤ◌, IsSome}
+use Rattle.apfloat_model.specs.{declared.kinds.Round.TheVariants.NearestTiesToEven, formats.Datum.Datum}
+use Rattle.apfloat_model.specs.formats.{Datum.finite, Datum.infinite, Datum.nan, Format.largest, Members.IsMember}
+use Rattle.apfloat_model.specs.{formats.Members.IsFiniteOf, order.Classes.is_finite, order.Classes.is_finite_non_zero}
+use Rattle.apfloat_model.specs.{order.Order.number, arithmetic.Exact.signed, arithmetic.Exact.sign_of}
+use Rattle.apfloat_model.specs.arithmetic.{Exact.magnitude, Exact.IsRounded, Sums.IsSum, Sums.zero_sum_sign}
+use Rattle.apfloat_model.specs.rounding.{Grid.IsOnGrid, Rounding.ok_bits, Rounding.delivered_value}
+use Rattle.apfloat_model.proofs.{arithmetic.Signs.magnitude_signed, order.Categories.same_of}
+use Rattle.apfloat_model.proofs.{rounding.Laws.delivered_once, general.Choices.chosen}
 use Rattle.apfloat_pair_theory.specs.PairFormats.{double, wide}
-use Rattle.apfloat_pair_theory.specs.PairParts.{same_pair}
-use Rattle.apfloat_pair_theory.specs.Pairs.{Pair, pair_number, positive_zero, low_part, IsJoined, IsSplit, IsSumOfParts, IsWidened}
+use Rattle.apfloat_pair_theory.specs.{PairParts.same_pair, Pairs.Pair, Pairs.pair_number}
+use Rattle.apfloat_pair_theory.specs.Pairs.{positive_zero, low_part, IsJoined, IsSplit, IsSumOfParts, IsWidened}
 use Rattle.apfloat_pair_theory.proofs.calls.PairsOnce.{split_once}
 use Rattle.apfloat_pair_theory.proofs.numbers.Roundings.{beyond_is, finite_is}
 use Rattle.apfloat_pair_theory.proofs.numbers.Signed.{magnitude-sub, on_grid_as, IsGridNumber}
-use Rattle.apfloat_pair_theory.proofs.numbers.WholeProducts.{product_error_on_grid}
-use Rattle.apfloat_pair_theory.proofs.pairs.Normalised.{rounded_exactly}
-use Rattle.apfloat_pair_theory.proofs.pairs.SplitLaws.{exact_split, number_converted, split_exactly, wide_number, member_of}
-use Rattle.apfloat_pair_theory.proofs.pairs.SplitSteps.{widened_same, eighth_within}
-use Rattle.apfloat_pair_theory.proofs.sums.ClosingSums.{wide_enough}
-use Rattle.apfloat_pair_theory.proofs.sums.PairRoundings.{error_eighth}
-use Rattle.apfloat_decimals.specs.declared.decimal.Decimal.{Decimal}
-use Rattle.apfloat_decimals.specs.ShortestSearch.{GivesShortest}
+use Rattle.apfloat_pair_theory.proofs.{numbers.WholeProducts.product_error_on_grid, pairs.Normalised.rounded_exactly}
+use Rattle.apfloat_pair_theory.proofs.pairs.SplitLaws.{exact_split, number_converted, split_exactly, wide_number}
+use Rattle.apfloat_pair_theory.proofs.pairs.{SplitLaws.member_of, SplitSteps.widened_same, SplitSteps.eighth_within}
+use Rattle.apfloat_pair_theory.proofs.sums.{ClosingSums.wide_enough, PairRoundings.error_eighth}
+use Rattle.apfloat_decimals.specs.{declared.decimal.Decimal.Decimal, ShortestSearch.GivesShortest}
 use Rattle.apfloat_digits.specs.of_double_doubles.PairShortest.{GivesPairShortest}
 
 -- ---- the parts are doubles

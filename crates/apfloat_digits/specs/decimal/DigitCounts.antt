@@ -1,9 +1,7 @@
 -- How many decimal digits a value has.
-use Rattle.std.specs.Prelude.{◌≡◌, ◌≢◌, ℕ, ◌-◌, ◌%◌, ◌^◌, ◌<◌, ◌≤◌, ℤ, false, Option}
-use Rattle.std.specs.Option.{MatchOption}
-use Rattle.apfloat_model.specs.declared.kinds.Category.TheVariants.{Normal}
-use Rattle.apfloat_model.specs.formats.Datum.{Datum}
-use Rattle.apfloat_model.specs.formats.Format.{Format}
+use Rattle.std.specs.Prelude.{◌≡◌, ◌≢◌, ℕ, ◌-◌, ◌%◌, ◌^◌, ◌<◌, ◌≤◌, ℤ, false}
+use Rattle.std.specs.{Prelude.Option, Option.MatchOption}
+use Rattle.apfloat_model.specs.{declared.kinds.Category.TheVariants.Normal, formats.Datum.Datum, formats.Format.Format}
 use Rattle.apfloat_model.specs.order.Classes.{category_of, is_finite_non_zero_category, quanta_of}
 use Rattle.apfloat_decimals.specs.ExactDecimals.{IsNumberOf}
 

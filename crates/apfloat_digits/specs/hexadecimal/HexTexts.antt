@@ -1,12 +1,9 @@
 -- How a value is written in hexadecimal digits (IEEE 754-2019 5.12.3).
-use Rattle.std.specs.Prelude.{◌≡◌, ◌≢◌, ◌⊎◌, ℕ, zero, suc, ◌+◌, ◌*◌, ◌/◌, ◌%◌, ◌^◌, ◌<◌, ℤ, pos, ◌+ℤ◌, ◌-ℤ◌, Bool}
-use Rattle.std.specs.Prelude.{ltb, eqb, if◌then◌else◌, List, [], ◌∷◌, ◌++◌, codes}
-use Rattle.std.specs.Bool.{MatchBool}
-use Rattle.std.specs.Fmt.{signed_decimal}
-use Rattle.apfloat_model.specs.arithmetic.Exact.{up, down}
-use Rattle.apfloat_model.specs.formats.Datum.{Datum, finite, infinite, nan}
-use Rattle.apfloat_model.specs.formats.Format.{Format}
-use Rattle.apfloat_model.specs.formats.Nan.{is_signaling}
+use Rattle.std.specs.{Bool.MatchBool, Fmt.signed_decimal}
+use Rattle.std.specs.Prelude.{◌≡◌, ◌≢◌, ◌⊎◌, ℕ, zero, suc, ◌+◌, ◌*◌, ◌/◌, ◌%◌, ◌^◌, ◌<◌, ℤ, pos, ◌+ℤ◌, ◌-ℤ◌, Bool, ltb}
+use Rattle.std.specs.Prelude.{eqb, if◌then◌else◌, List, [], ◌∷◌, ◌++◌, codes}
+use Rattle.apfloat_model.specs.{arithmetic.Exact.up, arithmetic.Exact.down, formats.Datum.Datum}
+use Rattle.apfloat_model.specs.formats.{Datum.finite, Datum.infinite, Datum.nan, Format.Format, Nan.is_signaling}
 use Rattle.apfloat_decimals.specs.Texts.{sign_text}
 
 -- ---- characters

@@ -2,11 +2,9 @@
 use Rattle.std.specs.Prelude.{◌≡◌, ℕ, ◌+◌, ◌-◌, ◌%◌, ◌^◌, ◌<◌, ◌≤◌, List, [], ◌++◌, codes, Result}
 use Rattle.apfloat_model.specs.declared.kinds.NonfiniteBehavior.{NonfiniteBehavior}
 use Rattle.apfloat_model.specs.declared.kinds.NonfiniteBehavior.TheVariants.{IEEE754, NanOnly, NanNegativeZero}
-use Rattle.apfloat_model.specs.formats.Datum.{Datum, finite, infinite, nan}
-use Rattle.apfloat_model.specs.formats.Format.{Format}
+use Rattle.apfloat_model.specs.formats.{Datum.Datum, Datum.finite, Datum.infinite, Datum.nan, Format.Format}
 use Rattle.apfloat_digits.specs.declared.hexadecimal.written.HexError.{HexError}
-use Rattle.apfloat_digits.specs.hexadecimal.HexTexts.{digits_text, IsHexText}
-use Rattle.apfloat_digits.specs.hexadecimal.WrittenTexts.{IsPut}
+use Rattle.apfloat_digits.specs.hexadecimal.{HexTexts.digits_text, HexTexts.IsHexText, WrittenTexts.IsPut}
 
 -- the digits of a NaN's significand below the one that makes it quiet
 abbrev pub payload_in : NonfiniteBehavior → ℕ → ℕ → ℕ

@@ -1,13 +1,9 @@
 -- What the text of a value is read as (IEEE 754-2019 5.12).
 use Rattle.std.specs.Prelude.{◌≡◌, Result, Ok, Err}
-use Rattle.apfloat_model.specs.declared.parse_error.ParseError.{ParseError}
-use Rattle.apfloat_model.specs.declared.status.StatusAnd.{StatusAnd}
+use Rattle.apfloat_model.specs.declared.{parse_error.ParseError.ParseError, status.StatusAnd.StatusAnd}
 use Rattle.apfloat_model.specs.formats.Datum.{Datum, finite, infinite, nan}
-use Rattle.apfloat_model.specs.formats.Format.{Format}
-use Rattle.apfloat_model.specs.formats.Nan.{is_signaling}
-use Rattle.apfloat_model.specs.rounding.Flags.{bits_of}
-use Rattle.apfloat_model.specs.rounding.Rounding.{ok_bits}
-use Rattle.apfloat_model.specs.texts.Readings.{read_nan}
+use Rattle.apfloat_model.specs.formats.{Format.Format, Nan.is_signaling}
+use Rattle.apfloat_model.specs.{rounding.Flags.bits_of, rounding.Rounding.ok_bits, texts.Readings.read_nan}
 
 -- the value itself; of a NaN, the one of its sign and kind that has no payload
 abbrev pub back : Format → Datum → Datum

@@ -1,13 +1,10 @@
 -- A value rounded to a number of hexadecimal digits after the dot (IEEE 754-2019 5.12.3).
-use Rattle.std.specs.Prelude.{◌≡◌, ℕ, ◌+◌, ◌*◌, ◌^◌, ◌<◌, ◌≤◌, ℤ, pos, ◌+ℤ◌, Bool, true, eqb, List}
-use Rattle.std.specs.Bool.{MatchBool}
-use Rattle.apfloat_model.specs.arithmetic.Exact.{up, down}
-use Rattle.apfloat_model.specs.arithmetic.Exponents.{IsLogarithm}
+use Rattle.std.specs.Prelude.{◌≡◌, ℕ, ◌+◌, ◌*◌, ◌^◌, ◌<◌, ◌≤◌, ℤ, pos, ◌+ℤ◌, Bool}
+use Rattle.std.specs.{Prelude.true, Prelude.eqb, Prelude.List, Bool.MatchBool}
+use Rattle.apfloat_model.specs.arithmetic.{Exact.up, Exact.down, Exponents.IsLogarithm}
 use Rattle.apfloat_model.specs.declared.kinds.Round.{Round}
 use Rattle.apfloat_model.specs.formats.Datum.{Datum, finite, infinite, nan}
-use Rattle.apfloat_model.specs.formats.Format.{Format}
-use Rattle.apfloat_model.specs.formats.Nan.{is_signaling}
-use Rattle.apfloat_model.specs.whole_numbers.WholeNumbers.{whole_pick}
+use Rattle.apfloat_model.specs.{formats.Format.Format, formats.Nan.is_signaling, whole_numbers.WholeNumbers.whole_pick}
 use Rattle.apfloat_digits.specs.hexadecimal.HexTexts.{last_place, number_text, infinity_text, nan_text}
 
 -- a value of that many quanta in units of the last digit is the fraction units / unit

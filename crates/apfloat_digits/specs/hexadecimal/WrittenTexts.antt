@@ -1,15 +1,11 @@
 -- Texts written into a buffer.
 use Rattle.std.specs.Prelude.{◌≡◌, ℕ, ◌<◌, ◌≤◌, Bool, List, ◌++◌, length, drop, Result, Ok, Err}
-use Rattle.apfloat_model.specs.declared.kinds.Round.{Round}
-use Rattle.apfloat_model.specs.declared.status.StatusAnd.{StatusAnd}
-use Rattle.apfloat_model.specs.formats.Datum.{Datum}
-use Rattle.apfloat_model.specs.formats.Format.{Format}
-use Rattle.apfloat_model.specs.rounding.Flags.{bits_of}
-use Rattle.apfloat_model.specs.whole_numbers.WholeNumbers.{inexact_unless}
+use Rattle.apfloat_model.specs.declared.{kinds.Round.Round, status.StatusAnd.StatusAnd}
+use Rattle.apfloat_model.specs.formats.{Datum.Datum, Format.Format}
+use Rattle.apfloat_model.specs.{rounding.Flags.bits_of, whole_numbers.WholeNumbers.inexact_unless}
 use Rattle.apfloat_digits.specs.declared.hexadecimal.written.HexError.{HexError}
 use Rattle.apfloat_digits.specs.declared.hexadecimal.written.HexError.TheVariants.{NoRoom, TooManyDigits}
-use Rattle.apfloat_digits.specs.hexadecimal.HexTexts.{IsHexText}
-use Rattle.apfloat_digits.specs.hexadecimal.RoundedTexts.{IsRoundedHexText}
+use Rattle.apfloat_digits.specs.hexadecimal.{HexTexts.IsHexText, RoundedTexts.IsRoundedHexText}
 
 -- the text is at the start of the buffer, and the rest is unchanged; or the buffer is too short, and is unchanged
 abbrev pub IsPut : List ℕ → List ℕ → List ℕ → Result ℕ HexError → Type 0

@@ -1,9 +1,7 @@
 -- A text is read as one pair.
 use Rattle.std.specs.Prelude.{ℕ, List, Result}
-use Rattle.apfloat_model.specs.declared.kinds.Round.{Round}
-use Rattle.apfloat_model.specs.declared.parse_error.ParseError.{ParseError}
-use Rattle.apfloat_model.specs.declared.status.StatusAnd.{StatusAnd}
-use Rattle.apfloat_model.specs.Determined.{AreOneReading}
+use Rattle.apfloat_model.specs.declared.{kinds.Round.Round, parse_error.ParseError.ParseError}
+use Rattle.apfloat_model.specs.{declared.status.StatusAnd.StatusAnd, Determined.AreOneReading}
 use Rattle.apfloat_pair_theory.specs.Pairs.{Pair}
 use Rattle.apfloat_digits.specs.of_double_doubles.PairReadings.{IsPairDecimalRead}
 

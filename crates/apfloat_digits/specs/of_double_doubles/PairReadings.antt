@@ -1,11 +1,8 @@
 -- Decimal texts as pairs of doubles (IEEE 754-2019 5.12.2).
 use Rattle.std.specs.Prelude.{ℕ, List, Result, Ok, Err}
-use Rattle.apfloat_model.specs.declared.kinds.Round.{Round}
-use Rattle.apfloat_model.specs.declared.parse_error.ParseError.{ParseError}
-use Rattle.apfloat_model.specs.declared.status.StatusAnd.{StatusAnd}
-use Rattle.apfloat_model.specs.rounding.Flags.{Gives}
-use Rattle.apfloat_pair_theory.specs.PairFormats.{wide}
-use Rattle.apfloat_pair_theory.specs.Pairs.{Pair, IsSplitAnswer}
+use Rattle.apfloat_model.specs.declared.{kinds.Round.Round, parse_error.ParseError.ParseError}
+use Rattle.apfloat_model.specs.{declared.status.StatusAnd.StatusAnd, rounding.Flags.Gives}
+use Rattle.apfloat_pair_theory.specs.{PairFormats.wide, Pairs.Pair, Pairs.IsSplitAnswer}
 use Rattle.apfloat_decimals.specs.DecimalTexts.{IsDecimalReading, IsDecimalRefusal}
 
 -- what the text is read as in the wide format, split, with the flags of that reading

@@ -2,11 +2,8 @@
 use Rattle.std.specs.Prelude.{◌≡◌, Option, None}
 use Rattle.std.specs.Bool.{MatchBool}
 use Rattle.apfloat_model.specs.formats.Datum.{Datum}
-use Rattle.apfloat_pair_theory.specs.PairFormats.{wide}
-use Rattle.apfloat_pair_theory.specs.Pairs.{Pair, IsJoined, IsSplit}
-use Rattle.apfloat_pair_theory.specs.PairParts.{same_pair}
-use Rattle.apfloat_decimals.specs.declared.decimal.Decimal.{Decimal}
-use Rattle.apfloat_decimals.specs.ShortestSearch.{GivesShortest}
+use Rattle.apfloat_pair_theory.specs.{PairFormats.wide, Pairs.Pair, Pairs.IsJoined, Pairs.IsSplit, PairParts.same_pair}
+use Rattle.apfloat_decimals.specs.{declared.decimal.Decimal.Decimal, ShortestSearch.GivesShortest}
 
 -- If the pair is the split of its join, the shortest decimal of the join in the wide format. Any other pair has none:
 -- no text is read as it.

@@ -1,16 +1,11 @@
 //! How many digits a value has.
 
 ghost use Rattle.std.specs.Prelude.{◌≡◌, ℕ, Bool, true, ◌+◌, ◌^◌, ◌≤◌, ℤ, Option};
-ghost use Rattle.apfloat_model.specs.declared.kinds.Round.{Round};
-ghost use Rattle.apfloat_model.specs.formats.Datum.{Datum};
-ghost use Rattle.apfloat_model.specs.formats.Format.{Format};
-ghost use Rattle.apfloat_model.specs.order.Classes.{quanta_of};
-ghost use Rattle.apfloat_model.specs.rounding.Bounds.{IsWithin};
-ghost use Rattle.apfloat_model.specs.rounding.Standing.{up, down};
+ghost use Rattle.apfloat_model.specs.{declared.kinds.Round.Round, formats.Datum.Datum, formats.Format.Format};
+ghost use Rattle.apfloat_model.specs.order.{Classes.quanta_of, Positive.IsPositive};
+ghost use Rattle.apfloat_model.specs.rounding.{Bounds.IsWithin, Standing.up, Standing.down};
 ghost use Rattle.apfloat_ieee.specs.Types.{format_of};
-ghost use Rattle.apfloat_decimals.specs.Decimals.{HasQuadExponents};
-ghost use Rattle.apfloat_decimals.specs.RoundedDecimals.{IsRoundedNumber};
-ghost use Rattle.apfloat_model.specs.order.Positive.{IsPositive};
+ghost use Rattle.apfloat_decimals.specs.{Decimals.HasQuadExponents, RoundedDecimals.IsRoundedNumber};
 ghost use Rattle.apfloat_digits.specs.decimal.DigitCounts.{GivesDigitCount, IsDigitCount};
 
 use apfloat_base::{Category, ExpInt, Float};

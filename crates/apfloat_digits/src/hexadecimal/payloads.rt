@@ -1,16 +1,10 @@
 //! NaNs written with their payloads.
 
 ghost use Rattle.std.specs.Prelude.{◌≡◌, ℕ, ◌<◌, ◌≤◌, ◌++◌, false, List, Result, length};
-ghost use Rattle.apfloat_model.specs.declared.kinds.Category.TheVariants.{NaN};
-ghost use Rattle.apfloat_model.specs.declared.kinds.NonfiniteBehavior.TheVariants.{IEEE754};
-ghost use Rattle.apfloat_model.specs.declared.kinds.Round.{Round};
-ghost use Rattle.apfloat_model.specs.declared.parse_error.ParseError.{ParseError};
-ghost use Rattle.apfloat_model.specs.declared.status.StatusAnd.{StatusAnd};
-ghost use Rattle.apfloat_model.specs.formats.Datum.{Datum};
-ghost use Rattle.apfloat_model.specs.formats.Format.{Format};
-ghost use Rattle.apfloat_model.specs.formats.Members.{IsMember};
-ghost use Rattle.apfloat_model.specs.order.Classes.{category_of};
-ghost use Rattle.apfloat_model.specs.texts.Parsing.{IsRead};
+ghost use Rattle.apfloat_model.specs.declared.kinds.{Category.TheVariants.NaN, NonfiniteBehavior.TheVariants.IEEE754};
+ghost use Rattle.apfloat_model.specs.declared.{kinds.Round.Round, parse_error.ParseError.ParseError};
+ghost use Rattle.apfloat_model.specs.{declared.status.StatusAnd.StatusAnd, formats.Datum.Datum, formats.Format.Format};
+ghost use Rattle.apfloat_model.specs.{formats.Members.IsMember, order.Classes.category_of, texts.Parsing.IsRead};
 ghost use Rattle.apfloat_ieee.specs.Types.{format_of};
 ghost use Rattle.apfloat_digits.specs.hexadecimal.PayloadTexts.{payload_of, IsPayloadText, IsFullText, IsFullyWritten};
 ghost use Rattle.apfloat_digits.specs.hexadecimal.ReadBack.{IsReadExactly};

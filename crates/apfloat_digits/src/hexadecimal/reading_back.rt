@@ -1,15 +1,11 @@
 //! Values as texts and back.
 
 ghost use Rattle.std.specs.Prelude.{ℕ, List, Result};
-ghost use Rattle.apfloat_model.specs.declared.kinds.Round.{Round};
-ghost use Rattle.apfloat_model.specs.declared.parse_error.ParseError.{ParseError};
-ghost use Rattle.apfloat_model.specs.declared.status.StatusAnd.{StatusAnd};
-ghost use Rattle.apfloat_model.specs.formats.Datum.{Datum};
-ghost use Rattle.apfloat_model.specs.formats.Members.{IsMember};
-ghost use Rattle.apfloat_model.specs.texts.Parsing.{IsRead};
+ghost use Rattle.apfloat_model.specs.declared.{kinds.Round.Round, parse_error.ParseError.ParseError};
+ghost use Rattle.apfloat_model.specs.{declared.status.StatusAnd.StatusAnd, formats.Datum.Datum};
+ghost use Rattle.apfloat_model.specs.{formats.Members.IsMember, texts.Parsing.IsRead};
 ghost use Rattle.apfloat_ieee.specs.Types.{format_of};
-ghost use Rattle.apfloat_digits.specs.hexadecimal.HexTexts.{IsHexText};
-ghost use Rattle.apfloat_digits.specs.hexadecimal.ReadBack.{IsReadBack};
+ghost use Rattle.apfloat_digits.specs.hexadecimal.{HexTexts.IsHexText, ReadBack.IsReadBack};
 
 use apfloat_ieee::Semantics;
 

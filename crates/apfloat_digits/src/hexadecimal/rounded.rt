@@ -1,13 +1,9 @@
 //! A value rounded to a number of digits, written into a buffer.
 
 ghost use Rattle.std.specs.Prelude.{◌≡◌, ℕ, ◌+◌, ◌*◌, ◌^◌, ◌<◌, ◌≤◌, Bool, true, List};
-ghost use Rattle.apfloat_model.specs.declared.kinds.Round.{Round};
-ghost use Rattle.apfloat_model.specs.formats.Datum.{Datum};
-ghost use Rattle.apfloat_model.specs.formats.Format.{Format};
-ghost use Rattle.apfloat_model.specs.order.Classes.{quanta_of};
-ghost use Rattle.apfloat_model.specs.rounding.Bounds.{IsWithin};
+ghost use Rattle.apfloat_model.specs.{declared.kinds.Round.Round, formats.Datum.Datum, formats.Format.Format};
+ghost use Rattle.apfloat_model.specs.{order.Classes.quanta_of, order.Positive.IsPositive, rounding.Bounds.IsWithin};
 ghost use Rattle.apfloat_ieee.specs.Types.{format_of};
-ghost use Rattle.apfloat_model.specs.order.Positive.{IsPositive};
 ghost use Rattle.apfloat_digits.specs.hexadecimal.RoundedTexts.{IsHexCarried, IsRoundedHexText, IsRoundedText};
 ghost use Rattle.apfloat_digits.specs.hexadecimal.WrittenTexts.{IsWrittenRounded};
 

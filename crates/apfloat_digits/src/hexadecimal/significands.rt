@@ -1,11 +1,9 @@
 //! The digits of a value in groups of four.
 
 ghost use Rattle.std.specs.Prelude.{◌≡◌, ◌≢◌, ◌⊎◌, ℕ, ◌+◌, ◌-◌, ◌*◌, ◌%◌, ◌^◌, ◌<◌, ◌≤◌, pos, ◌-ℤ◌};
-ghost use Rattle.apfloat_model.specs.arithmetic.Exponents.{IsLogarithm};
-ghost use Rattle.apfloat_model.specs.order.Classes.{quanta_of};
-ghost use Rattle.apfloat_model.specs.rounding.Bounds.{IsWithin};
+ghost use Rattle.apfloat_model.specs.{arithmetic.Exponents.IsLogarithm, order.Classes.quanta_of};
+ghost use Rattle.apfloat_model.specs.{order.Positive.IsPositive, rounding.Bounds.IsWithin};
 ghost use Rattle.apfloat_ieee.specs.Types.{format_of};
-ghost use Rattle.apfloat_model.specs.order.Positive.{IsPositive};
 ghost use Rattle.apfloat_digits.specs.hexadecimal.HexTexts.{IsNumberOf};
 
 use apfloat_base::ExpInt;

@@ -3,8 +3,8 @@
 ghost use Rattle.std.specs.Prelude.{◌≡◌, ◌+◌, ◌^◌, ◌<◌, ◌≤◌, ◌++◌, length};
 ghost use Rattle.std.specs.Fmt.{decimal, signed_decimal};
 ghost use Rattle.apfloat_model.specs.rounding.Bounds.{IsWithin};
-ghost use Rattle.apfloat_digits.specs.hexadecimal.HexTexts.{character, digits_text, dotted, magnitude_text, number_text};
-ghost use Rattle.apfloat_digits.specs.hexadecimal.HexTexts.{infinity_text, nan_text};
+ghost use Rattle.apfloat_digits.specs.hexadecimal.HexTexts.{character, digits_text, dotted, magnitude_text};
+ghost use Rattle.apfloat_digits.specs.hexadecimal.HexTexts.{number_text, infinity_text, nan_text};
 
 use apfloat_base::ExpInt;
 use apfloat_decimals::formatting::Line;

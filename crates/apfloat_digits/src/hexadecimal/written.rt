@@ -1,11 +1,9 @@
 //! The shortest text of a value, written into a buffer.
 
 ghost use Rattle.std.specs.Prelude.{◌≡◌, ℕ, ◌≤◌, pos, List, length};
-ghost use Rattle.apfloat_model.specs.formats.Datum.{Datum};
-ghost use Rattle.apfloat_model.specs.formats.Format.{Format};
-ghost use Rattle.apfloat_model.specs.order.Classes.{quanta_of};
+ghost use Rattle.apfloat_model.specs.formats.{Datum.Datum, Format.Format};
+ghost use Rattle.apfloat_model.specs.order.{Classes.quanta_of, Positive.IsPositive};
 ghost use Rattle.apfloat_ieee.specs.Types.{format_of};
-ghost use Rattle.apfloat_model.specs.order.Positive.{IsPositive};
 ghost use Rattle.apfloat_digits.specs.hexadecimal.HexTexts.{IsHexText, IsShortestText};
 ghost use Rattle.apfloat_digits.specs.hexadecimal.WrittenTexts.{IsPut, IsHexWritten};
 

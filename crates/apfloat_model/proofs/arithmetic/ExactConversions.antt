@@ -1,17 +1,13 @@
 -- The conversion of a finite datum whose number the other format also has is exact.
 use Rattle.std.proofs.Common.{◌≡◌, ℕ, Bool, false, not, eqb, zero, suc, ◌*◌, ◌^◌, ◌<◌, sym, ap, ◌∙◌, arith}
-use Rattle.std.proofs.lemmas.Bool.{ne_eqb}
-use Rattle.std.proofs.lemmas.Nat.{pow_pos}
-use Rattle.apfloat_model.specs.declared.kinds.Round.{Round}
-use Rattle.apfloat_model.specs.formats.Format.{Format}
-use Rattle.apfloat_model.specs.formats.Datum.{Datum, finite, infinite, nan}
+use Rattle.std.proofs.lemmas.{Bool.ne_eqb, Nat.pow_pos}
+use Rattle.apfloat_model.specs.{declared.kinds.Round.Round, formats.Format.Format}
+use Rattle.apfloat_model.specs.formats.{Datum.Datum, Datum.finite, Datum.infinite, Datum.nan, Members.IsFiniteOf}
 use Rattle.apfloat_model.specs.rounding.Rounding.{ok_bits, zero_sign, signed_quanta}
-use Rattle.apfloat_model.specs.formats.Members.{IsFiniteOf}
-use Rattle.apfloat_model.specs.arithmetic.Conversions.{IsConversion, IsConverted, IsConvertedNumber, IsExactlyConverted, loses_zero_sign, IsKept}
-use Rattle.apfloat_model.proofs.general.Powers.{both_above_zero, both_zero}
-use Rattle.apfloat_model.proofs.rounding.Deliveries.{signed_some}
-use Rattle.apfloat_model.proofs.rounding.Laws.{exact_delivered, delivered_once}
-use Rattle.apfloat_model.proofs.general.Choices.{same_sign_self}
+use Rattle.apfloat_model.specs.arithmetic.Conversions.{IsConversion, IsConverted, IsConvertedNumber, IsExactlyConverted}
+use Rattle.apfloat_model.specs.arithmetic.Conversions.{loses_zero_sign, IsKept}
+use Rattle.apfloat_model.proofs.general.{Powers.both_above_zero, Powers.both_zero, Choices.same_sign_self}
+use Rattle.apfloat_model.proofs.rounding.{Deliveries.signed_some, Laws.exact_delivered, Laws.delivered_once}
 
 -- a number that both formats have is converted to itself
 number_exactly : (from into : Format) (mode : Round) (negative : Bool) (m n : ℕ) (value : Datum) (status : ℕ)

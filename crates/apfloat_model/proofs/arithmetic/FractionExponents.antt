@@ -1,15 +1,10 @@
 -- The exponent of the fraction of a number is within the range of the format.
-use Rattle.std.proofs.Common.{◌≡◌, ℕ, ◌+◌, ◌-◌, ◌*◌, ◌^◌, ◌<◌, ◌≤◌, Bool, ap, ⊎_elim, arith}
+use Rattle.std.proofs.Common.{◌≡◌, ℕ, ◌+◌, ◌-◌, ◌*◌, ◌^◌, ◌<◌, ◌≤◌, Bool, ap}
+use Rattle.std.proofs.{Common.⊎_elim, Common.arith, Math.Nat.mul-le-mul_right, lemmas.Nat.pow_pos, lemmas.Int.ints}
 use Rattle.std.specs.Prelude.{ℤ, pos, neg_ℤ, ◌≤ℤ◌}
-use Rattle.std.proofs.Math.Nat.{mul-le-mul_right}
-use Rattle.std.proofs.lemmas.Nat.{pow_pos}
-use Rattle.std.proofs.lemmas.Int.{ints}
-use Rattle.apfloat_model.specs.formats.Format.{Format, largest}
-use Rattle.apfloat_model.specs.formats.Datum.{Datum}
-use Rattle.apfloat_model.specs.arithmetic.Exact.{up, down}
-use Rattle.apfloat_model.specs.arithmetic.Exponents.{IsFraction}
-use Rattle.apfloat_model.proofs.rounding.FarMagnitudes.{largest_below}
-use Rattle.apfloat_model.proofs.general.Powers.{exponent_below}
+use Rattle.apfloat_model.specs.formats.{Format.Format, Format.largest, Datum.Datum}
+use Rattle.apfloat_model.specs.arithmetic.{Exact.up, Exact.down, Exponents.IsFraction}
+use Rattle.apfloat_model.proofs.{rounding.FarMagnitudes.largest_below, general.Powers.exponent_below}
 use Rattle.apfloat_model.proofs.arithmetic.Signs.{one_side}
 
 -- if 2 ^ a is at most n and n is below 2 ^ b, a is at most b

@@ -1,7 +1,7 @@
 -- Products and quotients of numbers of quanta, from their significands.
 use Rattle.std.proofs.Common.{◌≡◌, ℕ, ◌+◌, ◌-◌, ◌*◌, ◌/◌, ◌^◌, ◌<◌, ◌≤◌, sym, ap, ◌∙◌, subst, arith}
-use Rattle.std.proofs.Math.Nat.{mul-le-mul_left, pow-le-pow_right, eq_of_mul-eq-mul_right, mul-pos, le-div_iff_mul-le, mul-le-mul_right}
-use Rattle.std.proofs.lemmas.Nat.{pow_pos}
+use Rattle.std.proofs.Math.Nat.{mul-le-mul_left, pow-le-pow_right, eq_of_mul-eq-mul_right, mul-pos, le-div_iff_mul-le}
+use Rattle.std.proofs.{Math.Nat.mul-le-mul_right, lemmas.Nat.pow_pos}
 use Rattle.apfloat_model.proofs.general.Powers.{pow3, pow4, pow22, two_pos}
 
 -- the significands and the powers of a product, each grouped together

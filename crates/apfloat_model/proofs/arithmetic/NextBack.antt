@@ -1,20 +1,15 @@
 -- The next value below the next value above a number is the number itself.
-use Rattle.std.proofs.Common.{◌≡◌, ℕ, ◌+◌, ◌-◌, ◌^◌, ◌<◌, ◌≤◌, true, false, eqb, sym, refl, ap, ◌∙◌, subst, ⊎_elim, arith}
+use Rattle.std.proofs.Common.{◌≡◌, ℕ, ◌+◌, ◌-◌, ◌^◌, ◌<◌, ◌≤◌, true, false, eqb, sym, refl, ap, ◌∙◌, subst, ⊎_elim}
+use Rattle.std.proofs.Common.{arith}
 use Rattle.std.proofs.lemmas.Bool.{cases_lt, cases_eq, eq-eqb, ne_eqb, ltb-true, false≢true}
-use Rattle.apfloat_model.specs.declared.kinds.NonfiniteBehavior.{NonfiniteBehavior}
-use Rattle.apfloat_model.specs.declared.kinds.NonfiniteBehavior.TheVariants.{IEEE754}
-use Rattle.apfloat_model.specs.formats.Format.{Format, largest}
-use Rattle.apfloat_model.specs.formats.Datum.{Datum, finite, infinite, nan}
-use Rattle.apfloat_model.specs.rounding.Grid.{IsOnGrid, IsBelow, IsAbove}
-use Rattle.apfloat_model.specs.rounding.Rounding.{signed_quanta, past_largest}
-use Rattle.apfloat_model.specs.formats.Members.{IsMember, IsFiniteOf}
-use Rattle.apfloat_model.specs.order.Classes.{is_finite_non_zero}
-use Rattle.apfloat_model.specs.rounding.Negation.{negated}
+use Rattle.apfloat_model.specs.declared.kinds.NonfiniteBehavior.{NonfiniteBehavior, TheVariants.IEEE754}
+use Rattle.apfloat_model.specs.formats.{Format.Format, Format.largest, Datum.Datum, Datum.finite, Datum.infinite}
+use Rattle.apfloat_model.specs.formats.{Datum.nan, Members.IsMember, Members.IsFiniteOf}
+use Rattle.apfloat_model.specs.rounding.{Rounding.signed_quanta, Rounding.past_largest, Negation.negated, Grid.IsOnGrid}
+use Rattle.apfloat_model.specs.{rounding.Grid.IsBelow, rounding.Grid.IsAbove, order.Classes.is_finite_non_zero}
 use Rattle.apfloat_model.specs.arithmetic.NextUp.{IsNextGreater, IsNextLess, IsNextOfNumber, IsNextUp, IsNextDown}
 use Rattle.apfloat_model.proofs.general.Choices.{not_zero}
-use Rattle.apfloat_model.proofs.rounding.Neighbours.{multiple_on_grid}
-use Rattle.apfloat_model.proofs.rounding.Deliveries.{signed_some}
-use Rattle.apfloat_model.proofs.rounding.Laws.{number_swapped}
+use Rattle.apfloat_model.proofs.rounding.{Neighbours.multiple_on_grid, Deliveries.signed_some, Laws.number_swapped}
 
 -- ---- the neighbour below the neighbour above, and the reverse
 

@@ -1,13 +1,10 @@
 -- Products under opposite rounding.
 use Rattle.std.proofs.Common.{ℕ, zero, suc, ◌<◌, ◌*◌, ◌^◌, Bool, not, subst, arith}
 use Rattle.std.proofs.lemmas.Bool.{false≢true}
-use Rattle.apfloat_model.specs.declared.kinds.Round.{Round}
-use Rattle.apfloat_model.specs.formats.Format.{Format, largest}
+use Rattle.apfloat_model.specs.{declared.kinds.Round.Round, formats.Format.Format, formats.Format.largest}
 use Rattle.apfloat_model.specs.formats.Datum.{Datum, finite, infinite, nan}
-use Rattle.apfloat_model.specs.rounding.Rounding.{IsDelivered}
-use Rattle.apfloat_model.specs.rounding.Negation.{swapped, negated}
-use Rattle.apfloat_model.specs.arithmetic.Exact.{product_sign}
-use Rattle.apfloat_model.specs.arithmetic.Products.{IsProduct, IsOpposite}
+use Rattle.apfloat_model.specs.rounding.{Rounding.IsDelivered, Negation.swapped, Negation.negated}
+use Rattle.apfloat_model.specs.arithmetic.{Exact.product_sign, Products.IsProduct, Products.IsOpposite}
 use Rattle.apfloat_model.proofs.general.Choices.{other_sign}
 use Rattle.apfloat_model.proofs.rounding.Laws.{delivered_swapped, number_swapped}
 

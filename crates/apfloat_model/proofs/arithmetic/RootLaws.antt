@@ -1,25 +1,21 @@
 -- Laws of square roots: the roots of squares, and that no root is halfway between two neighbours.
-use Rattle.std.proofs.Common.{◌≡◌, ℕ, ◌+◌, ◌-◌, ◌*◌, ◌/◌, ◌%◌, ◌^◌, ◌<◌, ◌≤◌, ◌⊎◌, Bool, true, false, not, ◌&&◌, ◌||◌, ltb, leb, eqb, cond, if◌then◌else◌, sym, ap, ◌∙◌, subst, ⊎_elim, inl, inr, lit<, arith}
+use Rattle.std.proofs.Common.{◌≡◌, ℕ, ◌+◌, ◌-◌, ◌*◌, ◌/◌, ◌%◌, ◌^◌, ◌<◌, ◌≤◌, ◌⊎◌, Bool, true, false, not, ◌&&◌, ◌||◌}
+use Rattle.std.proofs.Common.{ltb, leb, eqb, cond, if◌then◌else◌, sym, ap, ◌∙◌, subst, ⊎_elim, inl, inr, lit<, arith}
 use Rattle.std.proofs.Math.Nat.{mul-le-mul_left, le_of_mul-le-mul_right, pow-le-pow_right}
-use Rattle.std.proofs.lemmas.Nat.{pow_pos, pow-add}
-use Rattle.std.proofs.lemmas.Bool.{cases_lt}
-use Rattle.apfloat_model.specs.declared.kinds.Round.TheVariants.{NearestTiesToEven, NearestTiesToAway}
-use Rattle.apfloat_model.specs.declared.kinds.Round.{Round}
-use Rattle.apfloat_model.specs.formats.Members.{IsMember}
-use Rattle.apfloat_model.specs.formats.Format.{Format, smallest_normalized, largest}
-use Rattle.apfloat_model.specs.formats.Datum.{Datum, finite, infinite, nan}
-use Rattle.apfloat_model.specs.rounding.Grid.{IsOnGrid}
-use Rattle.apfloat_model.specs.rounding.Rounding.{takes_above, ok_bits, overflow_bit, underflow_bit, inexact_bit, raises_overflow}
-use Rattle.apfloat_model.specs.rounding.Enclosure.{IsEnclosed}
+use Rattle.std.proofs.lemmas.{Nat.pow_pos, Nat.pow-add, Bool.cases_lt}
+use Rattle.apfloat_model.specs.{declared.kinds.Round.TheVariants.NearestTiesToAway, formats.Members.IsMember}
+use Rattle.apfloat_model.specs.{formats.Datum.finite, formats.Datum.infinite, formats.Datum.nan, rounding.Grid.IsOnGrid}
+use Rattle.apfloat_model.specs.declared.kinds.Round.{Round, TheVariants.NearestTiesToEven}
+use Rattle.apfloat_model.specs.formats.{Format.Format, Format.smallest_normalized, Format.largest, Datum.Datum}
+use Rattle.apfloat_model.specs.rounding.{Rounding.raises_overflow, Enclosure.IsEnclosed}
+use Rattle.apfloat_model.specs.rounding.Rounding.{takes_above, ok_bits, overflow_bit, underflow_bit, inexact_bit}
 use Rattle.apfloat_model.specs.rounding.Outcome.{Outcome, rooted, exactly, invalid, Yields}
-use Rattle.apfloat_model.specs.arithmetic.Roots.{square_of, IsBelowRoot, IsAboveRoot, root_between, IsRootPick, root_rounds_below_normal, IsDeliveredRoot, IsRoot}
-use Rattle.apfloat_model.proofs.general.Choices.{either}
-use Rattle.apfloat_model.proofs.general.Powers.{two_pos, twice_power, twice_half}
+use Rattle.apfloat_model.specs.arithmetic.Roots.{square_of, IsBelowRoot, IsAboveRoot, root_between, IsRootPick}
+use Rattle.apfloat_model.specs.arithmetic.Roots.{root_rounds_below_normal, IsDeliveredRoot, IsRoot}
+use Rattle.apfloat_model.proofs.general.{Choices.either, Powers.two_pos, Powers.twice_power, Powers.twice_half}
+use Rattle.apfloat_model.proofs.rounding.{NeighboursExist.enclosed_at, Picks.takes_less, Picks.takes_more}
 use Rattle.apfloat_model.proofs.rounding.Neighbours.{below_is, above_is_same, above_is_next}
-use Rattle.apfloat_model.proofs.rounding.NeighboursExist.{enclosed_at}
-use Rattle.apfloat_model.proofs.rounding.Picks.{takes_less, takes_more}
-use Rattle.apfloat_model.proofs.arithmetic.RootSides.{agreeing}
-use Rattle.apfloat_model.proofs.arithmetic.RootDeliveries.{below_root, above_root}
+use Rattle.apfloat_model.proofs.arithmetic.{RootSides.agreeing, RootDeliveries.below_root, RootDeliveries.above_root}
 use Rattle.apfloat_model.proofs.Once.{below_root_unique, above_root_unique}
 
 -- divided by 1, the root is itself

@@ -1,8 +1,7 @@
 -- Fractions that no multiple of a given fraction separates from a square root.
 use Rattle.std.proofs.Common.{◌≡◌, ℕ, zero, suc, ◌+◌, ◌*◌, ◌<◌, ◌≤◌, ap, subst, ⊎_elim, arith}
 use Rattle.std.proofs.Math.Nat.{mul-lt-mul_of_pos_right, mul-pos, lt_of_mul-lt-mul_right, le_of_mul-le-mul_right}
-use Rattle.std.proofs.lemmas.Nat.{mul-le, mul-lt}
-use Rattle.std.proofs.lemmas.Bool.{cases_lt}
+use Rattle.std.proofs.lemmas.{Nat.mul-le, Nat.mul-lt, Bool.cases_lt}
 
 -- each multiple of 1 / fine compares with amount / parts as it does with the root of `square`
 pub record AgreesWithRoot (square fine amount parts : ℕ) : Type 0 where

@@ -1,14 +1,10 @@
 -- A number as its significand times two to the power of the exponent of its last digit.
-use Rattle.std.proofs.Common.{◌≡◌, ℕ, ◌+◌, ◌-◌, ◌*◌, ◌%◌, ◌^◌, ◌<◌, ◌≤◌, sym, ap, ◌∙◌, arith, ℤ, pos, negsuc}
-use Rattle.std.proofs.Common.{◌+ℤ◌, FitsSigned, w32}
-use Rattle.std.proofs.Math.Nat.{le_of_mul-le-mul_right, lt_of_mul-lt-mul_right}
+use Rattle.std.proofs.Common.{◌≡◌, ℕ, ◌+◌, ◌-◌, ◌*◌, ◌%◌, ◌^◌, ◌<◌, ◌≤◌, sym, ap, ◌∙◌, arith, ℤ, pos, negsuc, ◌+ℤ◌}
+use Rattle.std.proofs.{Common.FitsSigned, Common.w32, Math.Nat.le_of_mul-le-mul_right, Math.Nat.lt_of_mul-lt-mul_right}
 use Rattle.std.proofs.Math.Nat.{mod-eq_of_lt, mul-le-mul_right, mul-lt-mul_of_pos_right, pow-le-pow_right}
-use Rattle.std.proofs.lemmas.Int.{ints}
-use Rattle.std.proofs.lemmas.Nat.{pow-add, pow_pos}
-use Rattle.apfloat_model.specs.arithmetic.Exact.{up, down}
-use Rattle.apfloat_model.specs.arithmetic.Exponents.{IsLogarithm}
-use Rattle.apfloat_model.specs.formats.Format.{Format}
-use Rattle.apfloat_model.specs.rounding.Bounds.{IsWithin}
+use Rattle.std.proofs.lemmas.{Int.ints, Nat.pow-add, Nat.pow_pos}
+use Rattle.apfloat_model.specs.{formats.Format.Format, rounding.Bounds.IsWithin}
+use Rattle.apfloat_model.specs.arithmetic.{Exact.up, Exact.down, Exponents.IsLogarithm}
 use Rattle.apfloat_model.proofs.arithmetic.SingleScalings.{scaled_stands}
 use Rattle.apfloat_model.proofs.general.Powers.{exponent_below, two_pos}
 use Rattle.apfloat_model.proofs.rounding.KeptDigits.{fits_shifted, full_shifted}

@@ -1,14 +1,11 @@
 -- Numbers by their signs and magnitudes.
-use Rattle.std.proofs.Common.{◌≡◌, ℕ, zero, suc, ℤ, pos, negsuc, ◌+ℤ◌, ◌≤ℤ◌, ◌<◌, ◌⊎◌, Bool, true, false, refl, ◌∙◌, inl, inr, arith}
-use Rattle.std.proofs.lemmas.Int.{ints}
-use Rattle.apfloat_model.specs.declared.kinds.Round.{Round}
-use Rattle.apfloat_model.specs.declared.kinds.NonfiniteBehavior.{NonfiniteBehavior}
+use Rattle.std.proofs.Common.{◌≡◌, ℕ, zero, suc, ℤ, pos, negsuc, ◌+ℤ◌, ◌≤ℤ◌, ◌<◌, ◌⊎◌, Bool, true, false, refl, ◌∙◌}
+use Rattle.std.proofs.{Common.inl, Common.inr, Common.arith, lemmas.Int.ints}
+use Rattle.apfloat_model.specs.declared.kinds.{Round.Round, NonfiniteBehavior.NonfiniteBehavior}
 use Rattle.apfloat_model.specs.declared.kinds.NonfiniteBehavior.TheVariants.{IEEE754, NanOnly, NanNegativeZero}
 use Rattle.apfloat_model.specs.arithmetic.Exact.{up, down, signed, sign_of, magnitude, IsRounded}
-use Rattle.apfloat_model.specs.formats.Format.{Format}
-use Rattle.apfloat_model.specs.formats.Datum.{Datum, finite}
-use Rattle.apfloat_model.specs.rounding.Rounding.{zero_sign, IsDelivered}
-use Rattle.apfloat_model.specs.rounding.Negation.{negated}
+use Rattle.apfloat_model.specs.formats.{Format.Format, Datum.Datum, Datum.finite}
+use Rattle.apfloat_model.specs.rounding.{Rounding.zero_sign, Rounding.IsDelivered, Negation.negated}
 use Rattle.apfloat_model.proofs.general.Choices.{not_zero}
 
 -- 0 is the same integer with either sign

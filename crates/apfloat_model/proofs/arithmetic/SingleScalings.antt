@@ -1,13 +1,11 @@
 -- A number times a power of two, in quanta, from its significand; and clamped exponents.
-use Rattle.std.proofs.Common.{◌≡◌, ℕ, ◌+◌, ◌*◌, ◌^◌, ◌<◌, ◌≤◌, ◌⊎◌, Bool, sym, refl, ap, ◌∙◌, subst, ⊎_elim, arith, ℤ, pos, negsuc, neg_ℤ, ◌+ℤ◌, ◌-ℤ◌, ◌≤ℤ◌}
-use Rattle.std.proofs.Math.Nat.{mul-le-mul_right, mul-le-mul_left, eq_of_mul-eq-mul_right, pow-le-pow_right, mul-lt-mul_of_pos_right, mul-pos}
-use Rattle.std.proofs.lemmas.Nat.{pow-add, pow_pos}
-use Rattle.std.proofs.lemmas.Int.{ints}
-use Rattle.apfloat_model.specs.declared.kinds.Round.{Round}
-use Rattle.apfloat_model.specs.formats.Format.{Format}
-use Rattle.apfloat_model.specs.formats.Datum.{Datum}
-use Rattle.apfloat_model.specs.rounding.Standing.{up, down}
-use Rattle.apfloat_model.specs.rounding.Rounding.{IsDelivered}
+use Rattle.std.proofs.Common.{◌≡◌, ℕ, ◌+◌, ◌*◌, ◌^◌, ◌<◌, ◌≤◌, ◌⊎◌, Bool, sym, refl, ap, ◌∙◌, subst, ⊎_elim, arith, ℤ}
+use Rattle.std.proofs.Common.{pos, negsuc, neg_ℤ, ◌+ℤ◌, ◌-ℤ◌, ◌≤ℤ◌}
+use Rattle.std.proofs.Math.Nat.{mul-le-mul_right, mul-le-mul_left, eq_of_mul-eq-mul_right, pow-le-pow_right}
+use Rattle.std.proofs.Math.Nat.{mul-lt-mul_of_pos_right, mul-pos}
+use Rattle.std.proofs.lemmas.{Nat.pow-add, Nat.pow_pos, Int.ints}
+use Rattle.apfloat_model.specs.{declared.kinds.Round.Round, formats.Format.Format, formats.Datum.Datum}
+use Rattle.apfloat_model.specs.rounding.{Standing.up, Standing.down, Rounding.IsDelivered}
 use Rattle.apfloat_model.proofs.general.Powers.{pow3, two_pos}
 use Rattle.apfloat_model.proofs.rounding.FarMagnitudes.{IsFarAbove, IsFarBelow, far_above, far_below}
 

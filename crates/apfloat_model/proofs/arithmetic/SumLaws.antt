@@ -1,27 +1,22 @@
 -- Sterbenz's lemma (the difference of two numbers within a factor of two is exact), and that sums are monotone.
-use Rattle.std.proofs.Common.{◌≡◌, ℕ, zero, suc, ℤ, pos, negsuc, ◌+ℤ◌, ◌-ℤ◌, ◌≤ℤ◌, ◌+◌, ◌-◌, ◌*◌, ◌^◌, ◌<◌, ◌≤◌, ◌⊎◌, Bool, true, false, cond, ltb, sym, refl, ap, ◌∙◌, subst, inl, inr, ⊎_elim, lit<, arith}
-use mathlib.Core.Logic.{⊎_swap}
-use Rattle.std.specs.Prelude.{IsTrue}
+use Rattle.std.proofs.Common.{◌≡◌, ℕ, zero, suc, ℤ, pos, negsuc, ◌+ℤ◌, ◌-ℤ◌, ◌≤ℤ◌, ◌+◌, ◌-◌, ◌*◌, ◌^◌, ◌<◌, ◌≤◌, ◌⊎◌}
+use Rattle.std.proofs.Common.{Bool, true, false, cond, ltb, sym, refl, ap, ◌∙◌, subst, inl, inr, ⊎_elim, lit<, arith}
 use Rattle.std.proofs.Math.Nat.{le_of_mul-le-mul_right}
-use Rattle.std.proofs.lemmas.Nat.{pow-add, pow_pos}
-use Rattle.std.proofs.lemmas.Bool.{cases_lt, false≢true}
-use Rattle.std.proofs.lemmas.Int.{ints}
+use Rattle.std.proofs.lemmas.{Nat.pow-add, Nat.pow_pos, Bool.cases_lt, Bool.false≢true, Int.ints}
+use Rattle.std.specs.Prelude.{IsTrue}
 use Rattle.apfloat_model.specs.declared.kinds.Round.{Round}
-use Rattle.apfloat_model.specs.declared.kinds.NonfiniteBehavior.{NonfiniteBehavior}
-use Rattle.apfloat_model.specs.declared.kinds.NonfiniteBehavior.TheVariants.{IEEE754}
+use Rattle.apfloat_model.specs.declared.kinds.NonfiniteBehavior.{NonfiniteBehavior, TheVariants.IEEE754}
 use Rattle.apfloat_model.specs.arithmetic.Exact.{up, down, signed, sign_of, magnitude, IsRounded}
-use Rattle.apfloat_model.specs.formats.Format.{Format, largest, nan_base}
-use Rattle.apfloat_model.specs.formats.Datum.{Datum, finite, infinite, nan}
-use Rattle.apfloat_model.specs.rounding.Grid.{IsOnGrid}
-use Rattle.apfloat_model.specs.formats.Members.{IsFiniteOf, IsMember}
-use Rattle.apfloat_model.specs.order.Classes.{is_finite}
-use Rattle.apfloat_model.specs.order.Order.{number, AtMost}
 use Rattle.apfloat_model.specs.arithmetic.Sums.{IsSum, IsDifference, zero_sum_sign, IsExactly, IsNearby, IsMonotone}
-use Rattle.apfloat_model.specs.rounding.Rounding.{IsDelivered, delivered_value, leads_out, past_largest, zero_sign, signed_quanta, ok_bits}
-use Rattle.apfloat_model.proofs.rounding.Deliveries.{signed_some}
-use Rattle.apfloat_model.proofs.rounding.Laws.{delivered_once, exact_delivered, zero_delivered, pick_grows}
-use Rattle.apfloat_model.proofs.general.Choices.{not_zero}
+use Rattle.apfloat_model.specs.formats.{Format.Format, Format.largest, Format.nan_base, Datum.Datum, Datum.finite}
+use Rattle.apfloat_model.specs.formats.{Datum.infinite, Datum.nan, Members.IsFiniteOf, Members.IsMember}
+use Rattle.apfloat_model.specs.rounding.{Grid.IsOnGrid, Rounding.IsDelivered, Rounding.delivered_value}
+use Rattle.apfloat_model.specs.rounding.Rounding.{leads_out, past_largest, zero_sign, signed_quanta, ok_bits}
+use Rattle.apfloat_model.specs.order.{Classes.is_finite, Order.number, Order.AtMost}
+use Rattle.apfloat_model.proofs.{rounding.Laws.zero_delivered, rounding.Laws.pick_grows, general.Choices.not_zero}
+use Rattle.apfloat_model.proofs.rounding.{Deliveries.signed_some, Laws.delivered_once, Laws.exact_delivered}
 use Rattle.apfloat_model.proofs.arithmetic.Signs.{no_sign, magnitude_signed, one_side}
+use mathlib.Core.Logic.{⊎_swap}
 
 -- ---- Sterbenz's lemma
 

@@ -1,20 +1,14 @@
 -- The rows for zeros, in the tables of special operands, are exact results rounded once; and the rows for a right NaN.
-use Rattle.std.proofs.Common.{◌≡◌, ℕ, ◌*◌, ◌^◌, ◌<◌, Bool, true, false, refl, ap, ◌∙◌, subst, lit<, arith}
+use Rattle.std.proofs.Common.{◌≡◌, ℕ, ◌*◌, ◌^◌, ◌<◌, Bool, true, false, refl, ap, ◌∙◌, subst}
+use Rattle.std.proofs.{Common.lit<, Common.arith, lemmas.Nat.pow_pos, Math.Nat.mul-pos}
 use Rattle.std.specs.Prelude.{ℤ, ◌+ℤ◌}
-use Rattle.std.proofs.lemmas.Nat.{pow_pos}
-use Rattle.std.proofs.Math.Nat.{mul-pos}
 use Rattle.apfloat_model.specs.declared.kinds.Round.{Round}
-use Rattle.apfloat_model.specs.formats.Format.{Format}
-use Rattle.apfloat_model.specs.formats.Datum.{Datum, finite}
+use Rattle.apfloat_model.specs.formats.{Format.Format, Datum.Datum, Datum.finite, Members.IsFiniteOf}
 use Rattle.apfloat_model.specs.rounding.Rounding.{ok_bits, zero_sign, IsDelivered}
-use Rattle.apfloat_model.specs.formats.Members.{IsFiniteOf}
 use Rattle.apfloat_model.specs.arithmetic.Exact.{signed, product_sign}
-use Rattle.apfloat_model.specs.arithmetic.Sums.{zero_sum_sign, IsSum}
-use Rattle.apfloat_model.specs.arithmetic.FusedSums.{IsFusedSum}
-use Rattle.apfloat_model.specs.arithmetic.Scaling.{IsScaling}
+use Rattle.apfloat_model.specs.arithmetic.{Sums.zero_sum_sign, Sums.IsSum, FusedSums.IsFusedSum, Scaling.IsScaling}
 use Rattle.apfloat_model.proofs.texts.ZeroTexts.{zero_text}
-use Rattle.apfloat_model.proofs.rounding.Deliveries.{signed_some}
-use Rattle.apfloat_model.proofs.rounding.Laws.{exact_delivered, zero_delivered}
+use Rattle.apfloat_model.proofs.rounding.{Deliveries.signed_some, Laws.exact_delivered, Laws.zero_delivered}
 use Rattle.apfloat_model.proofs.arithmetic.Signs.{and_zero, zero_and, rounded_signed}
 
 -- ---- a nonzero finite datum, delivered

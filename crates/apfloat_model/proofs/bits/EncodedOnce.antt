@@ -1,21 +1,21 @@
 -- A datum has at most one encoding, since it determines its fields.
-use Rattle.std.proofs.Common.{◌≡◌, ℕ, ◌+◌, ◌-◌, ◌*◌, ◌/◌, ◌^◌, ◌<◌, ◌≤◌, Bool, true, false, cond, eqb, leb, ltb, sym, refl, ap, ◌∙◌, ⊎_elim, arith}
-use Rattle.std.specs.Prelude.{IsTrue}
-use mathlib.Core.Bool.{true≢false}
-use Rattle.std.proofs.lemmas.Nat.{pow_pos, pow-add, shl-shr}
-use Rattle.std.proofs.lemmas.Bool.{cases_eq, eq-eqb, ne_eqb, le-leb, lt-leb, leb-true, ltb-true, and_left, and_right, cond-true, cond-false}
+use Rattle.std.proofs.Common.{◌≡◌, ℕ, ◌+◌, ◌-◌, ◌*◌, ◌/◌, ◌^◌, ◌<◌, ◌≤◌, Bool, true, false, cond, eqb, leb, ltb, sym}
+use Rattle.std.proofs.Common.{refl, ap, ◌∙◌, ⊎_elim, arith}
+use Rattle.std.proofs.lemmas.{Nat.pow_pos, Nat.pow-add, Nat.shl-shr, Bool.cases_eq, Bool.eq-eqb, Bool.ne_eqb}
+use Rattle.std.proofs.lemmas.Bool.{le-leb, lt-leb, leb-true, ltb-true, and_left, and_right, cond-true, cond-false}
 use Rattle.std.proofs.Math.Nat.{mul-le-mul_right, mul-le-mul_left, mul-lt-mul_of_pos_right}
+use Rattle.std.specs.Prelude.{IsTrue}
 use Rattle.apfloat_model.specs.declared.kinds.NonfiniteBehavior.{NonfiniteBehavior}
 use Rattle.apfloat_model.specs.declared.kinds.NonfiniteBehavior.TheVariants.{IEEE754, NanOnly, NanNegativeZero}
-use Rattle.apfloat_model.specs.formats.Format.{Format, smallest_normalized}
-use Rattle.apfloat_model.specs.formats.Datum.{Datum, finite, infinite, nan}
-use Rattle.apfloat_model.specs.bits.Layout.{Layout, Fields, all_ones, trailing_bits, fields_of, implied_number, implied_datum, written_number, written_datum, datum_of_fields, is_canonical, is_canonical_written, IsEncodedBy}
-use Rattle.apfloat_model.specs.formats.Lawful.{MayBeExplicit}
+use Rattle.apfloat_model.specs.formats.{Format.Format, Format.smallest_normalized, Datum.Datum, Datum.finite}
+use Rattle.apfloat_model.specs.formats.{Datum.infinite, Datum.nan, Lawful.MayBeExplicit, Log.log2}
+use Rattle.apfloat_model.specs.bits.Layout.{Layout, Fields, all_ones, trailing_bits, fields_of, implied_number}
+use Rattle.apfloat_model.specs.bits.Layout.{implied_datum, written_number, written_datum, datum_of_fields, is_canonical}
+use Rattle.apfloat_model.specs.bits.Layout.{is_canonical_written, IsEncodedBy}
 use Rattle.apfloat_model.specs.bits.Interchange.{IsInterchange, AreWithin, bits_of_fields}
-use Rattle.apfloat_model.specs.formats.Log.{log2}
-use Rattle.apfloat_model.proofs.general.Logarithms.{log2_is}
-use Rattle.apfloat_model.proofs.general.Powers.{twice_half}
+use Rattle.apfloat_model.proofs.general.{Logarithms.log2_is, Powers.twice_half}
 use Rattle.apfloat_model.proofs.bits.Encodings.{fields_within, bits_back}
+use mathlib.Core.Bool.{true≢false}
 
 abbrev pub fields_with : Bool → ℕ → ℕ → Fields
 fields_with negative biased_exponent trailing =

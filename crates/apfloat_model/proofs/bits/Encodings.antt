@@ -1,15 +1,15 @@
 -- Bits and fields, and what the law of a format says of them.
-use Rattle.std.proofs.Common.{◌≡◌, ℕ, suc, ◌+◌, ◌-◌, ◌*◌, ◌/◌, ◌%◌, ◌^◌, ◌<◌, ◌≤◌, Bool, true, false, cond, eqb, refl, ap, ◌∙◌, ⊎_elim, arith}
-use Rattle.std.specs.Prelude.{pos, ◌-ℤ◌, unsigned_abs}
-use Rattle.std.proofs.lemmas.Int.{ints}
-use Rattle.std.proofs.lemmas.Nat.{pow_pos, pow-add, mod_low, shr_high, shr-shr, mul-add-lt, div_below, shr_split, mod_below}
+use Rattle.std.proofs.Common.{◌≡◌, ℕ, suc, ◌+◌, ◌-◌, ◌*◌, ◌/◌, ◌%◌, ◌^◌, ◌<◌, ◌≤◌, Bool, true, false, cond, eqb, refl}
+use Rattle.std.proofs.Common.{ap, ◌∙◌, ⊎_elim, arith}
+use Rattle.std.proofs.lemmas.{Int.ints, Nat.pow_pos}
+use Rattle.std.proofs.lemmas.Nat.{pow-add, mod_low, shr_high, shr-shr, mul-add-lt, div_below, shr_split, mod_below}
 use Rattle.std.proofs.Math.Nat.{two-pow-succ}
-use Rattle.apfloat_model.specs.formats.Format.{Format}
+use Rattle.std.specs.Prelude.{pos, ◌-ℤ◌, unsigned_abs}
+use Rattle.apfloat_model.specs.formats.{Format.Format, Lawful.Constants}
+use Rattle.apfloat_model.specs.formats.Lawful.{HasNoBits, HasBits, IsLawful, more_exponents, format_with, layout_with}
 use Rattle.apfloat_model.specs.bits.Layout.{Layout, Fields, trailing_bits, fields_of}
-use Rattle.apfloat_model.specs.formats.Lawful.{Constants, HasNoBits, HasBits, IsLawful, more_exponents, format_with, layout_with}
 use Rattle.apfloat_model.specs.bits.Interchange.{IsInterchange, AreWithin, bits_of_fields}
-use Rattle.apfloat_model.proofs.general.Powers.{twice_half}
-use Rattle.apfloat_model.proofs.general.Choices.{digit_low, digit_odd, odd_digit}
+use Rattle.apfloat_model.proofs.general.{Powers.twice_half, Choices.digit_low, Choices.digit_odd, Choices.odd_digit}
 
 -- ---- the law
 

@@ -1,24 +1,22 @@
 -- The fields of each kind of datum, and that the bits written from them encode it.
-use Rattle.std.proofs.Common.{◌≡◌, ℕ, ◌+◌, ◌-◌, ◌*◌, ◌^◌, ◌<◌, ◌≤◌, Bool, true, false, cond, eqb, sym, refl, ap, ◌∙◌, subst, ⊎_elim, arith}
-use Rattle.std.specs.Prelude.{◌&&◌, IsTrue}
-use mathlib.Core.Bool.{true≢false}
-use Rattle.std.proofs.lemmas.Nat.{pow_pos, pow-add}
+use Rattle.std.proofs.Common.{◌≡◌, ℕ, ◌+◌, ◌-◌, ◌*◌, ◌^◌, ◌<◌, ◌≤◌, Bool, true, false, cond, eqb, sym, refl, ap, ◌∙◌}
+use Rattle.std.proofs.{Common.subst, Common.⊎_elim, Common.arith, lemmas.Nat.pow_pos, lemmas.Nat.pow-add}
 use Rattle.std.proofs.lemmas.Bool.{cases_eq, cases_lt, eq-eqb, ne_eqb, le-leb, lt-ltb, and_left, and_right}
-use Rattle.std.proofs.Math.Nat.{pow-le-pow_right, mul-le-mul_right, mul-le-mul_left, mul-lt-mul_of_pos_right, le_of_mul-le-mul_right, add-sub_of_le}
+use Rattle.std.proofs.Math.Nat.{pow-le-pow_right, mul-le-mul_right, mul-le-mul_left, mul-lt-mul_of_pos_right}
+use Rattle.std.proofs.Math.Nat.{le_of_mul-le-mul_right, add-sub_of_le}
+use Rattle.std.specs.Prelude.{◌&&◌, IsTrue}
+use Rattle.apfloat_model.specs.{formats.Lawful.MayBeExplicit, rounding.Rounding.zero_sign}
 use Rattle.apfloat_model.specs.declared.kinds.NonfiniteBehavior.{NonfiniteBehavior}
 use Rattle.apfloat_model.specs.declared.kinds.NonfiniteBehavior.TheVariants.{IEEE754, NanOnly, NanNegativeZero}
+use Rattle.apfloat_model.specs.formats.{Datum.Datum, Datum.finite, Datum.infinite, Datum.nan, Members.IsNanSignificand}
 use Rattle.apfloat_model.specs.formats.Format.{Format, smallest_normalized, largest, greatest_significand}
-use Rattle.apfloat_model.specs.formats.Datum.{Datum, finite, infinite, nan}
-use Rattle.apfloat_model.specs.rounding.Rounding.{zero_sign}
-use Rattle.apfloat_model.specs.formats.Members.{IsNanSignificand}
-use Rattle.apfloat_model.specs.bits.Layout.{Layout, Fields, all_ones, trailing_bits, implied_datum, written_datum, datum_of_fields, is_canonical, is_canonical_written, IsEncodedBy}
-use Rattle.apfloat_model.specs.formats.Lawful.{MayBeExplicit}
+use Rattle.apfloat_model.specs.bits.Layout.{Layout, Fields, all_ones, trailing_bits, implied_datum, written_datum}
+use Rattle.apfloat_model.specs.bits.Layout.{datum_of_fields, is_canonical, is_canonical_written, IsEncodedBy}
 use Rattle.apfloat_model.specs.bits.Interchange.{IsInterchange, AreFieldsOf, bits_of_fields}
-use Rattle.apfloat_model.proofs.general.Powers.{two_pos, twice_half}
-use Rattle.apfloat_model.proofs.general.Choices.{eqb_self}
+use Rattle.apfloat_model.proofs.general.{Powers.two_pos, Powers.twice_half, Choices.eqb_self}
 use Rattle.apfloat_model.proofs.formats.Greatest.{greatest_fits}
-use Rattle.apfloat_model.proofs.bits.Encodings.{fields_back, bits_below}
-use Rattle.apfloat_model.proofs.bits.EncodedOnce.{fields_with}
+use Rattle.apfloat_model.proofs.bits.{Encodings.fields_back, Encodings.bits_below, EncodedOnce.fields_with}
+use mathlib.Core.Bool.{true≢false}
 
 -- the bits of the fields of a datum encode it
 pub fields_encode : (format : Format) (layout : Layout) (fields : Fields) (datum : Datum) → IsInterchange format layout

@@ -5,12 +5,9 @@ use Rattle.std.proofs.lemmas.Bool.{eqb-true}
 use Rattle.apfloat_model.specs.declared.kinds.NonfiniteBehavior.{NonfiniteBehavior}
 use Rattle.apfloat_model.specs.declared.kinds.NonfiniteBehavior.TheVariants.{IEEE754, NanOnly, NanNegativeZero}
 use Rattle.apfloat_model.specs.formats.Format.{Format, smallest_normalized, nan_base_of}
-use Rattle.apfloat_model.specs.formats.Datum.{Datum}
-use Rattle.apfloat_model.specs.formats.Nan.{nan_significand}
-use Rattle.apfloat_model.specs.order.Classes.{is_nan}
+use Rattle.apfloat_model.specs.{formats.Datum.Datum, formats.Nan.nan_significand, order.Classes.is_nan}
 use Rattle.apfloat_model.specs.bits.Layout.{Layout, Fields, all_ones, trailing_bits, fields_of, has_all_ones}
-use Rattle.apfloat_model.specs.bits.Layout.{implied_number, implied_datum, written_datum}
-use Rattle.apfloat_model.specs.bits.Layout.{datum_of_fields, datum_of}
+use Rattle.apfloat_model.specs.bits.Layout.{implied_number, implied_datum, written_datum, datum_of_fields, datum_of}
 use Rattle.apfloat_model.proofs.general.Choices.{if_case}
 
 -- if the datum is a NaN, this is its significand

@@ -1,15 +1,15 @@
 -- The law of a format as a test that can be computed: a format with literal constants proves its law by `refl`.
-use Rattle.std.specs.Prelude.{◌≡◌, ◌+◌, ◌-◌, ◌^◌, ℤ, pos, ◌+ℤ◌, ◌-ℤ◌, ◌≤ℤ◌, neg_ℤ, Bool, true, not, ◌&&◌, ◌||◌, if◌then◌else◌, leb, eqb}
+use Rattle.std.specs.Prelude.{◌≡◌, ◌+◌, ◌-◌, ◌^◌, ℤ, pos, ◌+ℤ◌, ◌-ℤ◌, ◌≤ℤ◌, neg_ℤ, Bool, true, not, ◌&&◌, ◌||◌}
+use Rattle.std.specs.Prelude.{if◌then◌else◌, leb, eqb}
+use Rattle.std.specs.{Ordering.int_eq, Cmp.signed_Decides}
 use Rattle.std.proofs.Common.{inl, inr, ⊎_elim, subst, sym, T}
 use Rattle.std.proofs.lemmas.Bool.{and_parts, or_cases, leb-true, eqb-true, not-true}
-use Rattle.std.specs.Ordering.{int_eq}
-use Rattle.std.specs.Cmp.{signed_Decides}
-use lib.Signed.{le_z, le_z_yes}
 use Rattle.apfloat_model.specs.declared.kinds.NonfiniteBehavior.{NonfiniteBehavior}
 use Rattle.apfloat_model.specs.declared.kinds.NonfiniteBehavior.TheVariants.{IEEE754, NanOnly, NanNegativeZero}
 use Rattle.apfloat_model.specs.formats.Format.{nan_base_of, payload_mask_of, quiet_bits_of}
-use Rattle.apfloat_model.specs.rounding.Bounds.{format_bound}
 use Rattle.apfloat_model.specs.formats.Lawful.{Constants, HasNoBits, HasBits, MayBeExplicit, IsLawful, more_exponents}
+use Rattle.apfloat_model.specs.rounding.Bounds.{format_bound}
+use lib.Signed.{le_z, le_z_yes}
 
 -- ---- each part of the law as a test
 

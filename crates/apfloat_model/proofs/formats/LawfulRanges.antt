@@ -1,9 +1,8 @@
 -- The ranges of a lawful format's digits and exponents.
 use Rattle.std.proofs.Common.{◌≡◌, ◌-◌, ◌^◌, ◌<◌, ◌≤◌, arith, pos, ◌-ℤ◌}
-use Rattle.std.specs.Prelude.{unsigned_abs}
 use Rattle.std.proofs.lemmas.Int.{ints}
-use Rattle.apfloat_model.specs.formats.Format.{Format}
-use Rattle.apfloat_model.specs.formats.Lawful.{Constants, IsLawful, format_with}
+use Rattle.std.specs.Prelude.{unsigned_abs}
+use Rattle.apfloat_model.specs.formats.{Format.Format, Lawful.Constants, Lawful.IsLawful, Lawful.format_with}
 
 pub record HasRanges (f : Format) : Type 0 where
   pub precision_low : 3 ≤ f.precision

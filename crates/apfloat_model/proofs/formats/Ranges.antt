@@ -1,12 +1,10 @@
 -- The numbers that a format's bits can encode are within its largest value.
-use Rattle.std.proofs.Common.{◌≡◌, ℕ, ◌+◌, ◌-◌, ◌*◌, ◌^◌, ◌<◌, ◌≤◌, ap, ⊎_elim, arith}
-use Rattle.std.proofs.lemmas.Nat.{pow-add, mul-le}
-use Rattle.std.proofs.lemmas.Bool.{cases_eq}
+use Rattle.std.proofs.Common.{◌≡◌, ℕ, ◌+◌, ◌-◌, ◌*◌, ◌^◌, ◌<◌, ◌≤◌, ap, ⊎_elim}
+use Rattle.std.proofs.{Common.arith, lemmas.Nat.pow-add, lemmas.Nat.mul-le, lemmas.Bool.cases_eq}
 use Rattle.std.proofs.Math.Nat.{pow-le-pow_right}
 use Rattle.apfloat_model.specs.declared.kinds.NonfiniteBehavior.TheVariants.{IEEE754, NanOnly, NanNegativeZero}
 use Rattle.apfloat_model.specs.formats.Format.{Format, largest, greatest_significand}
-use Rattle.apfloat_model.specs.bits.Layout.{Layout, all_ones}
-use Rattle.apfloat_model.specs.bits.Interchange.{IsInterchange}
+use Rattle.apfloat_model.specs.bits.{Layout.Layout, Layout.all_ones, Interchange.IsInterchange}
 use Rattle.apfloat_model.proofs.general.Powers.{two_pos, twice_half, four}
 use Rattle.apfloat_model.proofs.formats.Greatest.{greatest_low}
 

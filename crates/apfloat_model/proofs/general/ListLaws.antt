@@ -1,9 +1,10 @@
 -- Lists: items that pass a test, runs, filters, and items at their places.
 use mathlib.Core.Bool.{Bool}
-use Rattle.std.proofs.Common.{◌≡◌, ◌⊎◌, ℕ, true, false, cond, refl, sym, ap, ◌∙◌, List, [], ◌∷◌, ◌++◌, length, take, drop, get_or, filter, zero, suc, ◌-◌, ◌<◌, ◌≤◌, Some, subst, inl, inr, arith, append_assoc}
+use Rattle.std.proofs.Common.{◌≡◌, ◌⊎◌, ℕ, true, false, cond, refl, sym, ap, ◌∙◌, List, [], ◌∷◌, ◌++◌, length, take}
+use Rattle.std.proofs.Common.{drop, get_or, filter, zero, suc, ◌-◌, ◌<◌, ◌≤◌, Some, subst, inl, inr, arith}
+use Rattle.std.proofs.Common.{append_assoc}
+use Rattle.std.proofs.lemmas.{Bool.and_parts, Bool.and_from, Bool.cases_Bool, Bool.false≢true, List.take_all}
 use Rattle.std.specs.Prelude.{slice_get}
-use Rattle.std.proofs.lemmas.Bool.{and_parts, and_from, cases_Bool, false≢true}
-use Rattle.std.proofs.lemmas.List.{take_all}
 use Rattle.apfloat_model.specs.texts.Digits.{every, begins, run, after_run, is_empty}
 
 -- ---- members that pass

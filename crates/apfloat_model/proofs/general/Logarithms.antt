@@ -1,9 +1,7 @@
 -- The binary logarithm of a positive number, rounded down.
 use Rattle.std.proofs.Common.{◌≡◌, ℕ, ◌+◌, ◌-◌, ◌*◌, ◌^◌, ◌<◌, ◌≤◌, ⊎_elim, arith}
+use Rattle.std.proofs.{lemmas.Nat.leading_top, lemmas.Nat.pow_pos, lemmas.Bool.cases_order, Math.Nat.two-pow-succ}
 use Rattle.std.specs.Int.Count.{count_leading_zeros}
-use Rattle.std.proofs.lemmas.Nat.{leading_top, pow_pos}
-use Rattle.std.proofs.lemmas.Bool.{cases_order}
-use Rattle.std.proofs.Math.Nat.{two-pow-succ}
 use Rattle.apfloat_model.specs.formats.Log.{log2}
 use Rattle.apfloat_model.proofs.general.Powers.{below_power, half_at_most}
 

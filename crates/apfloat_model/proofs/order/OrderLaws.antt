@@ -1,16 +1,12 @@
 -- The order of data is partial, and equality by it a partial equivalence (IEEE 754-2019 5.11).
 use Rattle.std.specs.Prelude.{◌≡◌, Bool, true, false, Option, Some, None}
-use Rattle.std.proofs.Common.{refl, ap}
-use Rattle.std.specs.declared.cmp.Ordering.{Ordering}
-use Rattle.std.specs.declared.cmp.Ordering.TheVariants.{Less, Equal, Greater}
+use Rattle.std.specs.declared.cmp.Ordering.{Ordering, TheVariants.Less, TheVariants.Equal, TheVariants.Greater}
 use Rattle.std.specs.Ordering.{nat_cmp, int_cmp, on, then_cmp, is_eq, is_some_and, ordering_reverse}
-use Rattle.std.specs.Option.{option_map}
-use Rattle.std.proofs.lemmas.Option.{same_Some}
-use Rattle.std.specs.Bool.{Decides}
-use Rattle.std.specs.Cmp.{IsPartialEquivalence, IsPartialOrder, IsTotalOrder, Equal-is, nat_cmp_total, int_cmp_total, on_total, then_total}
+use Rattle.std.specs.{Option.option_map, Bool.Decides, Cmp.IsPartialEquivalence}
+use Rattle.std.specs.Cmp.{IsPartialOrder, IsTotalOrder, Equal-is, nat_cmp_total, int_cmp_total, on_total, then_total}
+use Rattle.std.proofs.{Common.refl, Common.ap, lemmas.Option.same_Some}
 use Rattle.apfloat_model.specs.formats.Datum.{Datum, finite, infinite, nan}
-use Rattle.apfloat_model.specs.order.Classes.{is_nan}
-use Rattle.apfloat_model.specs.order.Order.{level, number, compared, is_equal}
+use Rattle.apfloat_model.specs.order.{Classes.is_nan, Order.level, Order.number, Order.compared, Order.is_equal}
 
 -- the order of data that are not NaNs
 abbrev rank : Datum → Datum → Ordering

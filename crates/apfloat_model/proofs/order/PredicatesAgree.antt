@@ -1,22 +1,23 @@
 -- On data, the predicates by category and the minima and maxima by order are those of the model.
 use Rattle.std.specs.Prelude.{◌≡◌, ℕ, zero, suc, ◌-◌, ◌<◌, Bool, true, false, not, ◌&&◌, eqb, ltb, if◌then◌else◌}
-use Rattle.std.proofs.Common.{sym, refl, ◌∙◌, arith}
-use Rattle.std.proofs.lemmas.Nat.{pow_pos}
-use Rattle.std.proofs.lemmas.Bool.{eqb-true, lt-ltb}
 use Rattle.std.specs.Ordering.{partial_lt}
-use Rattle.apfloat_model.specs.declared.kinds.NonfiniteBehavior.{NonfiniteBehavior}
+use Rattle.std.proofs.Common.{sym, refl, ◌∙◌, arith}
+use Rattle.std.proofs.lemmas.{Nat.pow_pos, Bool.eqb-true, Bool.lt-ltb}
+use Rattle.apfloat_model.specs.declared.kinds.{NonfiniteBehavior.NonfiniteBehavior, Category.Category}
+use Rattle.apfloat_model.specs.declared.kinds.Category.TheVariants.{Infinity, NaN, Normal, Zero}
 use Rattle.apfloat_model.specs.formats.Format.{Format, smallest_normalized, largest}
 use Rattle.apfloat_model.specs.formats.Constants.{smallest_datum, smallest_normalized_datum, largest_datum}
-use Rattle.apfloat_model.specs.arithmetic.Signs.{abs, copy_sign}
-use Rattle.apfloat_model.specs.rounding.Negation.{negated}
-use Rattle.apfloat_model.specs.declared.kinds.Category.{Category}
-use Rattle.apfloat_model.specs.declared.kinds.Category.TheVariants.{Infinity, NaN, Normal, Zero}
 use Rattle.apfloat_model.specs.formats.Datum.{Datum, finite, infinite, nan}
-use Rattle.apfloat_model.specs.arithmetic.Exact.{same_sign}
-use Rattle.apfloat_model.specs.order.Classes.{is_finite, is_infinite, is_nan, is_negative, is_zero, is_denormal, is_normal, is_finite_non_zero, is_smallest, is_smallest_normalized, is_largest, quanta_of, same_datum, category_of, is_nan_category, is_finite_non_zero_category}
+use Rattle.apfloat_model.specs.arithmetic.{Signs.abs, Signs.copy_sign, Exact.same_sign}
+use Rattle.apfloat_model.specs.{rounding.Negation.negated, order.Classes.is_finite, order.Classes.is_infinite}
+use Rattle.apfloat_model.specs.order.Classes.{is_nan, is_negative, is_zero, is_denormal, is_normal, is_finite_non_zero}
+use Rattle.apfloat_model.specs.order.Classes.{is_smallest, is_smallest_normalized, is_largest, quanta_of, same_datum}
+use Rattle.apfloat_model.specs.order.Classes.{category_of, is_nan_category, is_finite_non_zero_category}
 use Rattle.apfloat_model.specs.order.Order.{compared, min_num, max_num, minimum, maximum}
-use Rattle.apfloat_model.specs.order.Predicates.{is_finite_category, is_infinite_category, is_zero_category, min_by, max_by, minimum_by, maximum_by, signed_like}
-use Rattle.apfloat_model.proofs.general.Choices.{same_sign_is, same_sign_self, not_zero, at_least, either, needless_last, where_both_fail}
+use Rattle.apfloat_model.specs.order.Predicates.{is_finite_category, is_infinite_category, is_zero_category, min_by}
+use Rattle.apfloat_model.specs.order.Predicates.{max_by, minimum_by, maximum_by, signed_like}
+use Rattle.apfloat_model.proofs.general.Choices.{same_sign_is, same_sign_self, not_zero, at_least, either}
+use Rattle.apfloat_model.proofs.general.Choices.{needless_last, where_both_fail}
 
 -- ---- predicates by category
 

@@ -1,23 +1,18 @@
 -- The value and the status that are delivered for a pick.
-use Rattle.std.proofs.Common.{◌≡◌, ℕ, zero, suc, ◌+◌, ◌*◌, ◌%◌, ◌^◌, ◌<◌, ◌≤◌, ◌⊎◌, Bool, true, false, cond, ltb, eqb, if◌then◌else◌, sym, refl, ap, ◌∙◌, subst, inl, inr, ⊎_elim, arith}
+use Rattle.std.proofs.Common.{◌≡◌, ℕ, zero, suc, ◌+◌, ◌*◌, ◌%◌, ◌^◌, ◌<◌, ◌≤◌, ◌⊎◌, Bool, true, false, cond, ltb, eqb}
+use Rattle.std.proofs.Common.{if◌then◌else◌, sym, refl, ap, ◌∙◌, subst, inl, inr, ⊎_elim, arith}
 use Rattle.std.proofs.Math.Nat.{mul-le-mul_right, mul-le-mul_left, mul-pos, mul_assoc}
-use Rattle.std.proofs.lemmas.Nat.{pow_pos}
-use Rattle.std.proofs.lemmas.Bool.{cases_lt, lt-ltb, le-ltb, eq-eqb, ne_eqb}
-use Rattle.apfloat_model.specs.declared.kinds.Round.{Round}
-use Rattle.apfloat_model.specs.declared.loss.Loss.{Loss}
-use Rattle.apfloat_model.specs.declared.loss.Loss.TheVariants.{ExactlyZero}
-use Rattle.apfloat_model.specs.declared.kinds.NonfiniteBehavior.{NonfiniteBehavior}
+use Rattle.std.proofs.lemmas.{Nat.pow_pos, Bool.cases_lt, Bool.lt-ltb, Bool.le-ltb, Bool.eq-eqb, Bool.ne_eqb}
+use Rattle.apfloat_model.specs.{rounding.Rounding.is_tiny, rounding.Rounding.zero_sign, order.Classes.is_finite}
+use Rattle.apfloat_model.specs.declared.kinds.{Round.Round, NonfiniteBehavior.NonfiniteBehavior}
 use Rattle.apfloat_model.specs.declared.kinds.NonfiniteBehavior.TheVariants.{IEEE754, NanOnly, NanNegativeZero}
+use Rattle.apfloat_model.specs.declared.loss.Loss.{Loss, TheVariants.ExactlyZero}
 use Rattle.apfloat_model.specs.formats.Format.{Format, largest, greatest_significand, nan_base}
 use Rattle.apfloat_model.specs.formats.Datum.{Datum, finite}
-use Rattle.apfloat_model.specs.rounding.Standing.{StandsFor}
-use Rattle.apfloat_model.specs.rounding.Enclosure.{IsEnclosed, rounds_up}
-use Rattle.apfloat_model.specs.rounding.Rounding.{IsPick, IsDelivered, past_largest, signed_quanta, leads_out, raises_overflow, is_tiny, zero_sign}
-use Rattle.apfloat_model.proofs.rounding.Picks.{kept, pick_is, pick_unique}
-use Rattle.apfloat_model.proofs.rounding.Losses.{stands_past, stands_to}
-use Rattle.apfloat_model.specs.order.Classes.{is_finite}
-use Rattle.apfloat_model.proofs.general.Choices.{off_both}
-use Rattle.apfloat_model.proofs.arithmetic.Signs.{plus_zero}
+use Rattle.apfloat_model.specs.rounding.{Standing.StandsFor, Enclosure.IsEnclosed, Enclosure.rounds_up, Rounding.IsPick}
+use Rattle.apfloat_model.specs.rounding.Rounding.{IsDelivered, past_largest, signed_quanta, leads_out, raises_overflow}
+use Rattle.apfloat_model.proofs.{rounding.Losses.stands_to, general.Choices.off_both, arithmetic.Signs.plus_zero}
+use Rattle.apfloat_model.proofs.rounding.{Picks.kept, Picks.pick_is, Picks.pick_unique, Losses.stands_past}
 
 -- whether a pick is past the largest value, from the parts of that value
 pub past_is : (format : Format) (top place p : ℕ) (past answer : Bool)

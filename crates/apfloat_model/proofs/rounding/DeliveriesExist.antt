@@ -1,14 +1,9 @@
 -- A result given outright exists, and so does each rounding, in every format of at least one digit.
 use Rattle.std.proofs.Common.{ℕ, ◌*◌, ◌<◌, Bool, false, refl, lit<}
 use Rattle.std.proofs.Math.Nat.{mul-pos}
-use Rattle.apfloat_model.specs.declared.kinds.Round.{Round}
-use Rattle.apfloat_model.specs.formats.Format.{Format}
-use Rattle.apfloat_model.specs.formats.Datum.{Datum}
-use Rattle.apfloat_model.specs.rounding.Rounding.{IsDelivered}
-use Rattle.apfloat_model.specs.rounding.Answer.{IsAnswer}
-use Rattle.apfloat_model.specs.rounding.DeliveredRoots.{IsDeliveredRoot}
-use Rattle.apfloat_model.proofs.arithmetic.RootSides.{agreeing}
-use Rattle.apfloat_model.proofs.arithmetic.RootDeliveries.{root_delivered}
+use Rattle.apfloat_model.specs.{declared.kinds.Round.Round, formats.Format.Format, formats.Datum.Datum}
+use Rattle.apfloat_model.specs.rounding.{Rounding.IsDelivered, Answer.IsAnswer, DeliveredRoots.IsDeliveredRoot}
+use Rattle.apfloat_model.proofs.arithmetic.{RootSides.agreeing, RootDeliveries.root_delivered}
 use Rattle.apfloat_model.proofs.rounding.Laws.{delivered_exists}
 
 -- some value and some status satisfy the relation

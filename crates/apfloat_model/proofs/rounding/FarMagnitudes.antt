@@ -1,21 +1,17 @@
 -- Magnitudes so far out of the range of a format that only their side matters.
-use Rattle.std.proofs.Common.{◌≡◌, ℕ, ◌+◌, ◌-◌, ◌*◌, ◌^◌, ◌<◌, ◌≤◌, Bool, true, false, cond, ltb, leb, eqb, sym, refl, ap, ◌∙◌, subst, inl, arith, zero, suc}
+use Rattle.std.proofs.Common.{◌≡◌, ℕ, ◌+◌, ◌-◌, ◌*◌, ◌^◌, ◌<◌, ◌≤◌, Bool, true, false}
+use Rattle.std.proofs.Common.{cond, ltb, leb, eqb, sym, refl, ap, ◌∙◌, subst, inl, arith, zero, suc}
 use Rattle.std.proofs.Math.Nat.{mul-le-mul_right, mul-lt-mul_of_pos_right, pow-le-pow_right}
-use Rattle.std.proofs.lemmas.Nat.{pow-add, pow_pos}
-use Rattle.std.proofs.lemmas.Bool.{lt-ltb, le-leb, ne_eqb}
-use Rattle.apfloat_model.specs.declared.kinds.Round.{Round}
-use Rattle.apfloat_model.specs.declared.loss.Loss.TheVariants.{LessThanHalf}
+use Rattle.std.proofs.lemmas.{Nat.pow-add, Nat.pow_pos, Bool.lt-ltb, Bool.le-leb, Bool.ne_eqb}
+use Rattle.apfloat_model.specs.declared.{kinds.Round.Round, loss.Loss.TheVariants.LessThanHalf}
 use Rattle.apfloat_model.specs.formats.Format.{Format, largest, greatest_significand, smallest_normalized}
-use Rattle.apfloat_model.specs.formats.Datum.{Datum}
-use Rattle.apfloat_model.specs.rounding.Grid.{IsOnGrid}
-use Rattle.apfloat_model.specs.rounding.Rounding.{IsPick, IsDelivered, delivered_value, delivered_status, rounds_below_normal, is_tiny}
-use Rattle.apfloat_model.specs.rounding.Enclosure.{IsEnclosed, rounds_up}
-use Rattle.apfloat_model.proofs.general.Powers.{two_pos, twice_half}
-use Rattle.apfloat_model.proofs.general.Choices.{cond_within}
+use Rattle.apfloat_model.specs.{formats.Datum.Datum, rounding.Grid.IsOnGrid, rounding.Rounding.IsPick}
+use Rattle.apfloat_model.specs.rounding.Rounding.{IsDelivered, delivered_value, delivered_status, rounds_below_normal}
+use Rattle.apfloat_model.specs.rounding.{Rounding.is_tiny, Enclosure.IsEnclosed, Enclosure.rounds_up}
+use Rattle.apfloat_model.proofs.general.{Powers.two_pos, Powers.twice_half, Choices.cond_within}
 use Rattle.apfloat_model.proofs.formats.Greatest.{greatest_fits}
 use Rattle.apfloat_model.proofs.rounding.Picks.{kept, pick_is, pick_unique}
-use Rattle.apfloat_model.proofs.rounding.Laws.{pick_within, delivered_exists}
-use Rattle.apfloat_model.proofs.rounding.Neighbours.{multiple_on_grid}
+use Rattle.apfloat_model.proofs.rounding.{Laws.pick_within, Laws.delivered_exists, Neighbours.multiple_on_grid}
 
 -- at or above the power of two past every value
 pub record IsFarAbove (format : Format) (amount parts : ℕ) : Type 0 where

@@ -1,32 +1,26 @@
 -- OVERFLOW and UNDERFLOW are raised only together with INEXACT, by each operation.
-use Rattle.std.proofs.Common.{ℕ, ◌-◌, ◌^◌, ◌<◌, ◌≤◌, Bool, true, false, not, eqb, sym, subst, ⊎_elim}
+use Rattle.std.proofs.Common.{ℕ, ◌-◌, ◌^◌, ◌<◌, ◌≤◌, Bool, true, false, not, eqb, sym, subst}
+use Rattle.std.proofs.{Common.⊎_elim, lemmas.Bool.cases_lt}
 use Rattle.std.specs.Prelude.{ℤ, pos, neg_ℤ, int_lt, List}
-use Rattle.std.proofs.lemmas.Bool.{cases_lt}
-use Rattle.apfloat_model.specs.declared.kinds.Round.{Round}
+use Rattle.apfloat_model.specs.declared.kinds.Round.{Round, TheVariants.NearestTiesToEven}
 use Rattle.apfloat_model.specs.formats.Format.{Format, largest}
 use Rattle.apfloat_model.specs.formats.Datum.{Datum, finite, infinite, nan}
-use Rattle.apfloat_model.specs.formats.Constants.{infinity_of}
-use Rattle.apfloat_model.specs.formats.Nan.{is_signaling}
-use Rattle.apfloat_model.specs.rounding.Rounding.{zero_sign}
-use Rattle.apfloat_model.specs.rounding.Negation.{negated}
-use Rattle.apfloat_model.specs.rounding.RaisedFlags.{FlagsGoTogether}
+use Rattle.apfloat_model.specs.{formats.Constants.infinity_of, formats.Nan.is_signaling, rounding.Rounding.zero_sign}
+use Rattle.apfloat_model.specs.rounding.{Negation.negated, RaisedFlags.FlagsGoTogether, Answer.IsAnswer}
 use Rattle.apfloat_model.specs.arithmetic.NextUp.{IsNextGreater, IsNextLess, IsNextOfNumber, IsNextUp, IsNextDown}
-use Rattle.apfloat_model.specs.arithmetic.Conversions.{has_infinities, loses_zero_sign, IsKept, IsConvertedNumber, IsConversion}
+use Rattle.apfloat_model.specs.arithmetic.Conversions.{has_infinities, loses_zero_sign, IsKept, IsConvertedNumber}
+use Rattle.apfloat_model.specs.arithmetic.{Conversions.IsConversion, Sums.IsSum, Sums.IsDifference, Products.IsProduct}
+use Rattle.apfloat_model.specs.arithmetic.{Quotients.IsQuotient, Roots.IsRoot, FusedSums.IsFusedSum}
+use Rattle.apfloat_model.specs.arithmetic.Remainders.{IsRemainder}
 use Rattle.apfloat_model.specs.whole_numbers.WholeNumbersOut.{Whole, whole_within, IsToUnsigned, IsToSigned}
-use Rattle.apfloat_model.specs.whole_numbers.SignedWholes.{IsNegatedWhole}
+use Rattle.apfloat_model.specs.whole_numbers.{SignedWholes.IsNegatedWhole, WholeNumbers.from_unsigned}
+use Rattle.apfloat_model.specs.whole_numbers.WholeNumbers.{from_signed, IsFromUnsigned, IsFromSigned, IsRoundToIntegral}
 use Rattle.apfloat_model.specs.texts.Specials.{TextMeaning, infinity, not_a_number, hexadecimal}
 use Rattle.apfloat_model.specs.texts.Readings.{IsMeant, IsReading}
 use Rattle.apfloat_model.proofs.general.Choices.{match_case, if_case}
-use Rattle.apfloat_model.specs.rounding.Answer.{IsAnswer}
-use Rattle.apfloat_model.specs.declared.kinds.Round.TheVariants.{NearestTiesToEven}
-use Rattle.apfloat_model.specs.arithmetic.Sums.{IsSum, IsDifference}
-use Rattle.apfloat_model.specs.arithmetic.Products.{IsProduct}
-use Rattle.apfloat_model.specs.arithmetic.Quotients.{IsQuotient}
-use Rattle.apfloat_model.specs.arithmetic.Roots.{IsRoot}
-use Rattle.apfloat_model.specs.arithmetic.FusedSums.{IsFusedSum}
-use Rattle.apfloat_model.specs.arithmetic.Remainders.{IsRemainder}
-use Rattle.apfloat_model.specs.whole_numbers.WholeNumbers.{from_unsigned, from_signed, IsFromUnsigned, IsFromSigned, IsRoundToIntegral}
-use Rattle.apfloat_model.proofs.Outcomes.{yields_together, sum_sound, difference_sound, product_sound, quotient_sound, root_sound, fused_sum_sound, remainder_sound, from_unsigned_sound, from_signed_sound, integral_sound}
+use Rattle.apfloat_model.proofs.Outcomes.{yields_together, sum_sound, difference_sound, product_sound, quotient_sound}
+use Rattle.apfloat_model.proofs.Outcomes.{root_sound, fused_sum_sound, remainder_sound, from_unsigned_sound}
+use Rattle.apfloat_model.proofs.Outcomes.{from_signed_sound, integral_sound}
 pub use Rattle.apfloat_model.proofs.rounding.StatusesTogether.{Together, inexact_together, ok_together}
 pub use Rattle.apfloat_model.proofs.rounding.StatusesTogether.{invalid_together, invalid_if_together}
 pub use Rattle.apfloat_model.proofs.rounding.StatusesTogether.{only_inexact_together, inexact_unless_together}

@@ -1,15 +1,15 @@
 -- The digits of a significand that are kept when it is cut or shifted.
-use Rattle.std.proofs.Common.{◌≡◌, ℕ, zero, suc, ◌+◌, ◌-◌, ◌*◌, ◌/◌, ◌%◌, ◌^◌, ◌<◌, ◌≤◌, ◌⊎◌, sym, refl, ap, ◌∙◌, subst, inl, inr, ⊎_elim, arith}
-use lib.Count.{count_leading_zeros}
-use Rattle.std.proofs.Math.Nat.{mul-le-mul_right, mul-lt-mul_of_pos_right, pow-le-pow_right, div-lt_iff_lt-mul, le-div_iff_mul-le, lt_of_mul-lt-mul_right, eq_of_mul-eq-mul_right, mod-eq_of_lt, mul-pos}
-use Rattle.std.proofs.lemmas.Bool.{cases_lt}
-use Rattle.std.proofs.lemmas.Nat.{pow-add, pow_pos, leading_length}
+use Rattle.std.proofs.Common.{◌≡◌, ℕ, zero, suc, ◌+◌, ◌-◌, ◌*◌, ◌/◌, ◌%◌, ◌^◌, ◌<◌, ◌≤◌, ◌⊎◌, sym, refl, ap, ◌∙◌, subst}
+use Rattle.std.proofs.{Common.inl, Common.inr, Common.⊎_elim, Common.arith, Math.Nat.mul-le-mul_right}
+use Rattle.std.proofs.Math.Nat.{mul-lt-mul_of_pos_right, pow-le-pow_right, div-lt_iff_lt-mul, le-div_iff_mul-le}
+use Rattle.std.proofs.Math.Nat.{lt_of_mul-lt-mul_right, eq_of_mul-eq-mul_right, mod-eq_of_lt, mul-pos}
+use Rattle.std.proofs.lemmas.{Bool.cases_lt, Nat.pow-add, Nat.pow_pos, Nat.leading_length}
 use Rattle.apfloat_model.specs.declared.loss.Loss.{Loss}
 use Rattle.apfloat_model.specs.declared.loss.Loss.TheVariants.{ExactlyZero, LessThanHalf, ExactlyHalf, MoreThanHalf}
-use Rattle.apfloat_model.specs.rounding.Standing.{StandsFor}
-use Rattle.apfloat_model.specs.rounding.Enclosure.{IsEnclosed}
+use Rattle.apfloat_model.specs.rounding.{Standing.StandsFor, Enclosure.IsEnclosed}
 use Rattle.apfloat_model.proofs.general.Powers.{two_pos, twice_half, exponent_below}
 use Rattle.apfloat_model.proofs.rounding.Losses.{stands_from, stands_to}
+use lib.Count.{count_leading_zeros}
 
 -- ---- the number of digits
 

@@ -1,21 +1,20 @@
 -- Laws of one rounding.
-use Rattle.std.proofs.Common.{◌≡◌, ℕ, ◌-◌, ◌*◌, ◌/◌, ◌%◌, ◌^◌, ◌<◌, ◌≤◌, Bool, true, false, not, ◌&&◌, ◌||◌, cond, ltb, leb, eqb, sym, refl, ap, ◌∙◌, subst, ⊎_elim, arith}
-use Rattle.std.proofs.Math.Nat.{le_of_mul-le-mul_right}
-use Rattle.std.proofs.lemmas.Nat.{pow_pos}
+use Rattle.std.proofs.Common.{◌≡◌, ℕ, ◌-◌, ◌*◌, ◌/◌, ◌%◌, ◌^◌, ◌<◌, ◌≤◌, Bool}
+use Rattle.std.proofs.Common.{true, false, not, ◌&&◌, ◌||◌, cond, ltb, leb, eqb, sym, refl, ap, ◌∙◌}
+use Rattle.std.proofs.{Common.subst, Common.⊎_elim, Common.arith, Math.Nat.le_of_mul-le-mul_right, lemmas.Nat.pow_pos}
 use Rattle.std.proofs.lemmas.Bool.{cases_lt, cases_eq, eq-eqb, ne_eqb, le-ltb}
-use Rattle.apfloat_model.specs.declared.kinds.Round.{Round}
-use Rattle.apfloat_model.specs.declared.kinds.Round.TheVariants.{NearestTiesToEven, TowardPositive, TowardNegative, TowardZero, NearestTiesToAway}
-use Rattle.apfloat_model.specs.formats.Format.{Format, largest, smallest_normalized, nan_base}
-use Rattle.apfloat_model.specs.formats.Datum.{Datum, finite}
-use Rattle.apfloat_model.specs.rounding.Grid.{IsOnGrid, IsBelow, IsAbove}
-use Rattle.apfloat_model.specs.rounding.Rounding.{takes_above, pick_between, IsPick, IsDelivered, delivered_value, delivered_status, leads_out, zero_sign, signed_quanta, past_largest, rounds_below_normal, ok_bits}
-use Rattle.apfloat_model.specs.rounding.Negation.{swapped, negated}
+use Rattle.apfloat_model.specs.declared.kinds.Round.{Round, TheVariants.NearestTiesToEven, TheVariants.TowardPositive}
+use Rattle.apfloat_model.specs.declared.kinds.Round.TheVariants.{TowardNegative, TowardZero, NearestTiesToAway}
 use Rattle.apfloat_model.specs.declared.kinds.NonfiniteBehavior.{NonfiniteBehavior}
 use Rattle.apfloat_model.specs.declared.kinds.NonfiniteBehavior.TheVariants.{IEEE754, NanOnly, NanNegativeZero}
-use Rattle.apfloat_model.proofs.rounding.NeighboursExist.{below_exists, above_exists}
-use Rattle.apfloat_model.proofs.general.Powers.{twice_half}
-use Rattle.apfloat_model.proofs.rounding.Picks.{pick_unique}
-use Rattle.apfloat_model.proofs.general.Choices.{cond_same, cond_grows, cond_within}
+use Rattle.apfloat_model.specs.formats.Format.{Format, largest, smallest_normalized, nan_base}
+use Rattle.apfloat_model.specs.{formats.Datum.Datum, formats.Datum.finite, rounding.Grid.IsOnGrid}
+use Rattle.apfloat_model.specs.rounding.{Grid.IsBelow, Grid.IsAbove, Rounding.takes_above, Rounding.pick_between}
+use Rattle.apfloat_model.specs.rounding.Rounding.{IsPick, IsDelivered, delivered_value, delivered_status, leads_out}
+use Rattle.apfloat_model.specs.rounding.Rounding.{zero_sign, signed_quanta, past_largest, rounds_below_normal, ok_bits}
+use Rattle.apfloat_model.specs.rounding.Negation.{swapped, negated}
+use Rattle.apfloat_model.proofs.rounding.{NeighboursExist.below_exists, NeighboursExist.above_exists, Picks.pick_unique}
+use Rattle.apfloat_model.proofs.general.{Powers.twice_half, Choices.cond_same, Choices.cond_grows, Choices.cond_within}
 
 -- ---- one result
 

@@ -1,7 +1,7 @@
 -- What a loss states, and what a cut loses.
-use Rattle.std.proofs.Common.{◌≡◌, ℕ, ◌+◌, ◌-◌, ◌*◌, ◌/◌, ◌%◌, ◌^◌, ◌<◌, ◌≤◌, ◌⊎◌, sym, refl, ap, ◌∙◌, subst, inl, inr, ⊎_elim, arith}
-use Rattle.std.proofs.Math.Nat.{mul-le-mul_right, pow-le-pow_right, div-eq_of_lt, mod-eq_of_lt, div-add-mod'}
-use Rattle.std.proofs.lemmas.Nat.{pow_below}
+use Rattle.std.proofs.Common.{◌≡◌, ℕ, ◌+◌, ◌-◌, ◌*◌, ◌/◌, ◌%◌, ◌^◌, ◌<◌, ◌≤◌, ◌⊎◌, sym, refl, ap, ◌∙◌, subst, inl, inr}
+use Rattle.std.proofs.{Common.⊎_elim, Common.arith, Math.Nat.mul-le-mul_right, Math.Nat.pow-le-pow_right}
+use Rattle.std.proofs.{Math.Nat.div-eq_of_lt, Math.Nat.mod-eq_of_lt, Math.Nat.div-add-mod', lemmas.Nat.pow_below}
 use Rattle.apfloat_model.proofs.general.Powers.{two_pos, twice_half}
 use Rattle.apfloat_model.specs.declared.loss.Loss.{Loss}
 use Rattle.apfloat_model.specs.declared.loss.Loss.TheVariants.{ExactlyZero, LessThanHalf, ExactlyHalf, MoreThanHalf}

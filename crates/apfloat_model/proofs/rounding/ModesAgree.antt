@@ -1,32 +1,29 @@
 -- Where a rounding is exact, each mode has the same result.
-use Rattle.std.proofs.Common.{◌≡◌, ℕ, zero, suc, ◌+◌, ◌-◌, ◌*◌, ◌/◌, ◌%◌, ◌^◌, ◌<◌, ◌≤◌, Bool, true, false, cond, ltb, eqb, sym, refl, ◌∙◌, subst, arith, ◌⊎◌, inl, inr, lit<, ap}
+use Rattle.std.proofs.{Math.Nat.le_of_mul-le-mul_right, lemmas.Nat.pow_pos, lemmas.Bool.ltb-false, lemmas.Bool.eqb-true}
+use Rattle.std.proofs.Common.{◌≡◌, ℕ, zero, suc, ◌+◌, ◌-◌, ◌*◌, ◌/◌, ◌%◌, ◌^◌, ◌<◌, ◌≤◌, Bool, true, false, cond, ltb}
+use Rattle.std.proofs.Common.{eqb, sym, refl, ◌∙◌, subst, arith, ◌⊎◌, inl, inr, lit<, ap}
 use Rattle.std.specs.Prelude.{ℤ, pos, negsuc, ◌+ℤ◌, ◌-ℤ◌, if◌then◌else◌, List}
-use Rattle.std.proofs.Math.Nat.{le_of_mul-le-mul_right}
-use Rattle.std.proofs.lemmas.Nat.{pow_pos}
-use Rattle.std.proofs.lemmas.Bool.{ltb-false, eqb-true}
-use Rattle.apfloat_model.specs.declared.kinds.Round.{Round}
-use Rattle.apfloat_model.specs.formats.Format.{Format, largest}
+use Rattle.apfloat_model.specs.{declared.kinds.Round.Round, formats.Format.Format, formats.Format.largest}
 use Rattle.apfloat_model.specs.formats.Datum.{Datum, finite, infinite, nan}
-use Rattle.apfloat_model.specs.rounding.Grid.{IsOnGrid}
-use Rattle.apfloat_model.specs.rounding.Rounding.{takes_above, IsPick, ok_bits, overflow_bit, underflow_bit, inexact_bit, raises_overflow, is_tiny, zero_sign, signed_quanta, delivered_value, delivered_status, IsDelivered}
-use Rattle.apfloat_model.specs.rounding.Answer.{IsAnswer}
+use Rattle.apfloat_model.specs.rounding.{Grid.IsOnGrid, Rounding.takes_above, Rounding.IsPick, Rounding.IsDelivered}
+use Rattle.apfloat_model.specs.rounding.{Answer.IsAnswer}
+use Rattle.apfloat_model.specs.rounding.Rounding.{ok_bits, overflow_bit, underflow_bit, inexact_bit, raises_overflow}
+use Rattle.apfloat_model.specs.rounding.Rounding.{is_tiny, zero_sign, signed_quanta, delivered_value, delivered_status}
+use Rattle.apfloat_model.specs.rounding.DeliveredRoots.{square_of, is_tiny_root, root_status, IsDeliveredRoot}
+use Rattle.apfloat_model.specs.rounding.Outcome.{Outcome, settled, rounded, totalled, rooted, Yields, IsSound}
 use Rattle.apfloat_model.specs.order.Classes.{is_zero}
-use Rattle.apfloat_model.specs.arithmetic.Exact.{magnitude, IsRounded, down}
-use Rattle.apfloat_model.specs.arithmetic.Sums.{zero_sum_sign, sum, difference, IsSum, IsDifference}
-use Rattle.apfloat_model.specs.arithmetic.Conversions.{IsConversion}
+use Rattle.apfloat_model.specs.arithmetic.{Exact.magnitude, Exact.IsRounded, Exact.down, Sums.zero_sum_sign, Sums.sum}
+use Rattle.apfloat_model.specs.arithmetic.{Sums.difference, Sums.IsSum, Sums.IsDifference, Conversions.IsConversion}
+use Rattle.apfloat_model.specs.arithmetic.{Products.product, Products.IsProduct, Quotients.quotient}
+use Rattle.apfloat_model.specs.arithmetic.{Quotients.IsQuotient, FusedSums.fused_sum, FusedSums.IsFusedSum}
 use Rattle.apfloat_model.specs.whole_numbers.WholeNumbers.{from_unsigned, from_signed, IsFromUnsigned, IsFromSigned}
 use Rattle.apfloat_model.specs.texts.Specials.{TextMeaning, infinity, not_a_number, hexadecimal}
 use Rattle.apfloat_model.specs.texts.Readings.{IsMeant, IsReading}
-use Rattle.apfloat_model.specs.arithmetic.Products.{product, IsProduct}
-use Rattle.apfloat_model.specs.arithmetic.Quotients.{quotient, IsQuotient}
-use Rattle.apfloat_model.specs.arithmetic.FusedSums.{fused_sum, IsFusedSum}
+use Rattle.apfloat_model.proofs.{arithmetic.RootSides.root_le, Outcomes.IsFixed}
 use Rattle.apfloat_model.proofs.general.Choices.{if_case, not_zero, either}
 use Rattle.apfloat_model.proofs.rounding.Laws.{delivered_once, exact_delivered, zero_delivered}
-use Rattle.apfloat_model.specs.rounding.DeliveredRoots.{square_of, is_tiny_root, root_status, IsDeliveredRoot}
-use Rattle.apfloat_model.specs.rounding.Outcome.{Outcome, settled, rounded, totalled, rooted, Yields, IsSound}
-use Rattle.apfloat_model.proofs.arithmetic.RootSides.{root_le}
 use Rattle.apfloat_model.proofs.rounding.RootsOnce.{below_root_unique, above_root_unique}
-use Rattle.apfloat_model.proofs.Outcomes.{IsFixed, product_fixed, quotient_fixed, sum_sound, difference_sound, fused_sum_sound}
+use Rattle.apfloat_model.proofs.Outcomes.{product_fixed, quotient_fixed, sum_sound, difference_sound, fused_sum_sound}
 use Rattle.apfloat_model.proofs.texts.OneMeaning.{one_meaning}
 
 -- ---- a status that is OK

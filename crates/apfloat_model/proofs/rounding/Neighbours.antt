@@ -1,10 +1,9 @@
 -- The neighbours of a magnitude in closed form.
-use Rattle.std.proofs.Common.{◌≡◌, ℕ, ◌+◌, ◌-◌, ◌*◌, ◌^◌, ◌<◌, ◌≤◌, ◌⊎◌, sym, refl, ap, ◌∙◌, subst, inl, inr, ⊎_elim, arith}
-use Rattle.std.proofs.Math.Nat.{le_antisymm, mul-le-mul_right, mul-le-mul_left, lt_of_mul-lt-mul_right, le_of_mul-le-mul_right}
-use Rattle.std.proofs.lemmas.Nat.{pow-add, pow_pos}
-use Rattle.std.proofs.lemmas.Bool.{cases_lt}
-use Rattle.apfloat_model.specs.rounding.Grid.{IsOnGrid, IsBelow, IsAbove}
-use Rattle.apfloat_model.specs.rounding.Enclosure.{IsEnclosed}
+use Rattle.std.proofs.Common.{◌≡◌, ℕ, ◌+◌, ◌-◌, ◌*◌, ◌^◌, ◌<◌, ◌≤◌, ◌⊎◌, sym}
+use Rattle.std.proofs.Common.{refl, ap, ◌∙◌, subst, inl, inr, ⊎_elim, arith}
+use Rattle.std.proofs.Math.Nat.{le_antisymm, mul-le-mul_right, mul-le-mul_left, lt_of_mul-lt-mul_right}
+use Rattle.std.proofs.{Math.Nat.le_of_mul-le-mul_right, lemmas.Nat.pow-add, lemmas.Nat.pow_pos, lemmas.Bool.cases_lt}
+use Rattle.apfloat_model.specs.rounding.{Grid.IsOnGrid, Grid.IsBelow, Grid.IsAbove, Enclosure.IsEnclosed}
 
 -- a greater multiple is at least the next one
 pub next_multiple : (m x u : ℕ) → m * u < x * u → (m + 1) * u ≤ x * u

@@ -1,36 +1,32 @@
 -- Results of an operation rounded downward and upward are in order, and equal exactly where they are exact.
-use Rattle.std.proofs.Common.{◌≡◌, ℕ, zero, suc, ◌*◌, ◌^◌, ◌<◌, ◌⊎◌, Bool, true, false, cond, eqb, sym, refl, ◌∙◌, subst, inl, inr, ⊎_elim, lit<, arith}
+use Rattle.std.proofs.Common.{◌≡◌, ℕ, zero, suc, ◌*◌, ◌^◌, ◌<◌, ◌⊎◌, Bool, true, false, cond, eqb, sym, refl, ◌∙◌}
+use Rattle.std.proofs.Common.{subst, inl, inr, ⊎_elim, lit<, arith}
+use Rattle.std.proofs.lemmas.{Bool.true≢false, Bool.false≢true, Nat.pow_pos}
 use Rattle.std.specs.Prelude.{not, if◌then◌else◌, ◌&&◌, ℤ, pos, negsuc, ◌+ℤ◌, ◌-ℤ◌, ◌≤ℤ◌, List}
-use Rattle.std.proofs.lemmas.Bool.{true≢false, false≢true}
-use Rattle.std.proofs.lemmas.Nat.{pow_pos}
+use Rattle.apfloat_model.specs.{formats.Nan.quiet_significand, order.Classes.is_finite, order.Classes.is_nan}
+use Rattle.apfloat_model.specs.{order.Classes.is_zero, rounding.Answer.IsAnswer}
 use Rattle.apfloat_model.specs.declared.kinds.NonfiniteBehavior.{NonfiniteBehavior}
 use Rattle.apfloat_model.specs.declared.kinds.NonfiniteBehavior.TheVariants.{IEEE754, NanOnly, NanNegativeZero}
-use Rattle.apfloat_model.specs.declared.kinds.Round.{Round}
-use Rattle.apfloat_model.specs.declared.kinds.Round.TheVariants.{TowardPositive, TowardNegative}
+use Rattle.apfloat_model.specs.declared.kinds.Round.{Round, TheVariants.TowardPositive, TheVariants.TowardNegative}
 use Rattle.apfloat_model.specs.arithmetic.Conversions.{has_infinities, converted_nan, IsConverted, IsConversion}
 use Rattle.apfloat_model.specs.arithmetic.Exact.{same_sign, product_sign, signed, magnitude, sign_of, IsRounded, down}
 use Rattle.apfloat_model.specs.arithmetic.FusedSums.{on_product, with_product, IsFusedSum}
 use Rattle.apfloat_model.specs.arithmetic.Products.{product, IsProduct}
 use Rattle.apfloat_model.specs.arithmetic.Quotients.{div_by_zero_bit, IsQuotient}
 use Rattle.apfloat_model.specs.arithmetic.Sums.{zero_sum_sign, sum, IsSum, IsDifference}
-use Rattle.apfloat_model.specs.formats.Constants.{infinity_of}
-use Rattle.apfloat_model.specs.formats.Datum.{Datum, finite, infinite, nan}
-use Rattle.apfloat_model.specs.formats.Format.{Format, nan_base}
-use Rattle.apfloat_model.specs.formats.Nan.{invalid_bit, quieted, quiet_significand}
-use Rattle.apfloat_model.specs.order.Classes.{is_finite, is_nan, is_zero}
-use Rattle.apfloat_model.specs.rounding.Answer.{IsAnswer}
+use Rattle.apfloat_model.specs.formats.{Constants.infinity_of, Datum.Datum, Datum.finite, Datum.infinite, Datum.nan}
+use Rattle.apfloat_model.specs.formats.{Format.Format, Format.nan_base, Nan.invalid_bit, Nan.quieted}
+use Rattle.apfloat_model.specs.rounding.{Negation.negated, Rounding.ok_bits}
 use Rattle.apfloat_model.specs.rounding.Outcome.{Outcome, settled, rounded, totalled, rooted, exactly, invalid, Yields}
-use Rattle.apfloat_model.specs.rounding.Negation.{negated}
-use Rattle.apfloat_model.specs.rounding.Rounding.{ok_bits, inexact_bit, past_largest, zero_sign, signed_quanta, IsDelivered}
+use Rattle.apfloat_model.specs.rounding.Rounding.{inexact_bit, past_largest, zero_sign, signed_quanta, IsDelivered}
 use Rattle.apfloat_model.specs.rounding.TwoModes.{AreBounds, IsOk, IsOkOrOfZero}
 use Rattle.apfloat_model.specs.texts.Readings.{read_nan, IsMeant, IsReading}
 use Rattle.apfloat_model.specs.texts.Specials.{TextMeaning, infinity, not_a_number, hexadecimal}
 use Rattle.apfloat_model.specs.whole_numbers.WholeNumbers.{IsFromUnsigned, IsFromSigned}
-use Rattle.apfloat_model.proofs.arithmetic.Signs.{no_sign}
-use Rattle.apfloat_model.proofs.general.Choices.{not_zero, above_zero}
-use Rattle.apfloat_model.proofs.rounding.Laws.{delivered_once, zero_delivered}
-use Rattle.apfloat_model.proofs.texts.OneMeaning.{one_meaning}
-use Rattle.apfloat_model.proofs.rounding.OutwardRoundings.{at_most_self, equal_to_self, equal_numbers, number_at_most, Encloses, delivered_encloses}
+use Rattle.apfloat_model.proofs.{arithmetic.Signs.no_sign, general.Choices.not_zero, general.Choices.above_zero}
+use Rattle.apfloat_model.proofs.{rounding.OutwardRoundings.delivered_encloses, texts.OneMeaning.one_meaning}
+use Rattle.apfloat_model.proofs.rounding.{Laws.delivered_once, Laws.zero_delivered, OutwardRoundings.at_most_self}
+use Rattle.apfloat_model.proofs.rounding.OutwardRoundings.{equal_to_self, equal_numbers, number_at_most, Encloses}
 
 -- a datum that is not a NaN bounds itself
 one_bounds : (IsExact : ℕ → Type 0) (datum : Datum) (flags : ℕ) → IsExact flags → is_nan datum ≡ false

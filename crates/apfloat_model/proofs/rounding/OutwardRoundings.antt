@@ -1,25 +1,19 @@
 -- One rounding downward and upward: the results are in order, and equal exactly where they are exact.
-use Rattle.std.proofs.Common.{◌≡◌, ℕ, zero, suc, ◌*◌, ◌<◌, ◌≤◌, Bool, true, false, cond, ltb, sym, refl, ap, ◌∙◌, subst, inl, inr, arith}
+use Rattle.std.proofs.Common.{◌≡◌, ℕ, zero, suc, ◌*◌, ◌<◌, ◌≤◌, Bool, true, false, cond, ltb, sym}
+use Rattle.std.proofs.Common.{refl, ap, ◌∙◌, subst, inl, inr, arith}
+use Rattle.std.proofs.lemmas.{Bool.ltb-false, Bool.true≢false, Bool.false≢true, Int.ints}
 use Rattle.std.specs.Prelude.{ℤ, ◌≤ℤ◌}
-use Rattle.std.specs.Bool.{Decides}
-use Rattle.std.specs.Cmp.{int_ranks, ranked_equal}
-use Rattle.std.specs.Ordering.{int_cmp, is_eq}
-use Rattle.std.proofs.lemmas.Bool.{ltb-false, true≢false, false≢true}
-use Rattle.std.proofs.lemmas.Int.{ints}
+use Rattle.std.specs.{Bool.Decides, Cmp.int_ranks, Cmp.ranked_equal, Ordering.int_cmp, Ordering.is_eq}
 use Rattle.apfloat_model.specs.declared.kinds.NonfiniteBehavior.{NonfiniteBehavior}
 use Rattle.apfloat_model.specs.declared.kinds.NonfiniteBehavior.TheVariants.{IEEE754, NanOnly, NanNegativeZero}
-use Rattle.apfloat_model.specs.declared.kinds.Round.{Round}
-use Rattle.apfloat_model.specs.declared.kinds.Round.TheVariants.{TowardPositive, TowardNegative}
-use Rattle.apfloat_model.specs.arithmetic.Exact.{signed}
-use Rattle.apfloat_model.specs.formats.Datum.{Datum, finite, infinite, nan}
-use Rattle.apfloat_model.specs.formats.Format.{Format, largest, nan_base}
-use Rattle.apfloat_model.specs.order.Classes.{is_nan}
-use Rattle.apfloat_model.specs.order.Order.{is_equal, AtMost}
+use Rattle.apfloat_model.specs.declared.kinds.Round.{Round, TheVariants.TowardPositive, TheVariants.TowardNegative}
+use Rattle.apfloat_model.specs.{arithmetic.Exact.signed, formats.Datum.Datum, formats.Datum.finite}
+use Rattle.apfloat_model.specs.formats.{Datum.infinite, Datum.nan, Format.Format, Format.largest, Format.nan_base}
+use Rattle.apfloat_model.specs.order.{Classes.is_nan, Order.is_equal, Order.AtMost}
 use Rattle.apfloat_model.specs.rounding.Grid.{IsBelow, IsAbove}
 use Rattle.apfloat_model.specs.rounding.Rounding.{ok_bits, past_largest, zero_sign, signed_quanta, IsDelivered}
 use Rattle.apfloat_model.specs.rounding.TwoModes.{AreBounds, IsOk}
-use Rattle.apfloat_model.proofs.arithmetic.Signs.{no_sign}
-use Rattle.apfloat_model.proofs.rounding.Deliveries.{signed_some}
+use Rattle.apfloat_model.proofs.{arithmetic.Signs.no_sign, rounding.Deliveries.signed_some}
 use Rattle.apfloat_model.proofs.rounding.Laws.{delivered_once, exact_delivered, below_le_above}
 use Rattle.apfloat_model.proofs.rounding.ModesAgree.{AgreesWhereOk, delivered_agrees}
 

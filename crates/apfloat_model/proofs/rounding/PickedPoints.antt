@@ -1,15 +1,11 @@
 -- The picked point, and whether it is past the largest value.
-use Rattle.std.proofs.Common.{◌≡◌, ℕ, ◌+◌, ◌-◌, ◌*◌, ◌%◌, ◌^◌, ◌<◌, ◌≤◌, ◌⊎◌, Bool, true, false, cond, ltb, eqb, sym, ap, ◌∙◌, inl, inr, ⊎_elim, arith}
-use Rattle.std.proofs.Math.Nat.{pow-le-pow_right}
-use Rattle.std.proofs.lemmas.Nat.{pow_pos}
+use Rattle.std.proofs.Common.{◌≡◌, ℕ, ◌+◌, ◌-◌, ◌*◌, ◌%◌, ◌^◌, ◌<◌, ◌≤◌}
+use Rattle.std.proofs.Common.{◌⊎◌, Bool, true, false, cond, ltb, eqb, sym, ap, ◌∙◌, inl, inr, ⊎_elim}
+use Rattle.std.proofs.{Common.arith, Math.Nat.pow-le-pow_right, lemmas.Nat.pow_pos}
 use Rattle.std.proofs.lemmas.Bool.{cases_lt, lt-ltb, le-ltb}
-use Rattle.apfloat_model.specs.declared.kinds.Round.{Round}
-use Rattle.apfloat_model.specs.declared.loss.Loss.{Loss}
-use Rattle.apfloat_model.specs.rounding.Enclosure.{rounds_up}
-use Rattle.apfloat_model.proofs.rounding.Neighbours.{fine_point_at}
-use Rattle.apfloat_model.proofs.rounding.Picks.{kept}
-use Rattle.apfloat_model.proofs.general.Powers.{two_pos, twice_half}
-use Rattle.apfloat_model.proofs.general.Choices.{ltb_times}
+use Rattle.apfloat_model.specs.{declared.kinds.Round.Round, declared.loss.Loss.Loss, rounding.Enclosure.rounds_up}
+use Rattle.apfloat_model.proofs.rounding.{Neighbours.fine_point_at, Picks.kept}
+use Rattle.apfloat_model.proofs.general.{Powers.two_pos, Powers.twice_half, Choices.ltb_times}
 
 -- a significand of at most 125 digits plus one fits a word of 128
 pub room : (n precision : ℕ) → precision ≤ 125 → n < 2 ^ precision → n + 1 < 2 ^ 128

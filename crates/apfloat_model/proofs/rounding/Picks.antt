@@ -1,17 +1,16 @@
 -- Which neighbour is picked, decided by the rest of the magnitude.
-use Rattle.std.proofs.Common.{◌≡◌, ℕ, ◌+◌, ◌-◌, ◌*◌, ◌/◌, ◌%◌, ◌^◌, ◌<◌, ◌≤◌, Bool, true, false, cond, eqb, sym, refl, ap, ◌∙◌, ⊎_elim, arith}
-use Rattle.apfloat_model.specs.declared.kinds.Round.{Round}
-use Rattle.apfloat_model.specs.declared.kinds.Round.TheVariants.{NearestTiesToEven, TowardPositive, TowardNegative, TowardZero, NearestTiesToAway}
+use Rattle.std.proofs.Common.{◌≡◌, ℕ, ◌+◌, ◌-◌, ◌*◌, ◌/◌, ◌%◌, ◌^◌, ◌<◌, ◌≤◌}
+use Rattle.std.proofs.Common.{Bool, true, false, cond, eqb, sym, refl, ap, ◌∙◌, ⊎_elim, arith}
+use Rattle.std.proofs.Math.Nat.{mul-div_cancel, mul-pos, mul-lt-mul_of_pos_right}
+use Rattle.std.proofs.lemmas.{Bool.cases_lt, Nat.pow_pos}
+use Rattle.apfloat_model.specs.declared.kinds.Round.{Round, TheVariants.NearestTiesToEven, TheVariants.TowardPositive}
+use Rattle.apfloat_model.specs.declared.kinds.Round.TheVariants.{TowardNegative, TowardZero, NearestTiesToAway}
 use Rattle.apfloat_model.specs.declared.loss.Loss.{Loss}
 use Rattle.apfloat_model.specs.declared.loss.Loss.TheVariants.{ExactlyZero, LessThanHalf, ExactlyHalf, MoreThanHalf}
 use Rattle.apfloat_model.specs.rounding.Rounding.{takes_above, pick_between, IsPick}
-use Rattle.apfloat_model.specs.rounding.Standing.{StandsFor}
-use Rattle.apfloat_model.specs.rounding.Enclosure.{IsEnclosed, rounds_up}
+use Rattle.apfloat_model.specs.rounding.{Standing.StandsFor, Enclosure.IsEnclosed, Enclosure.rounds_up}
 use Rattle.apfloat_model.proofs.rounding.Neighbours.{below_is, above_is_same, above_is_next, below_unique, above_unique}
 use Rattle.apfloat_model.proofs.general.Choices.{cond_times, cond_same}
-use Rattle.std.proofs.Math.Nat.{mul-div_cancel, mul-pos, mul-lt-mul_of_pos_right}
-use Rattle.std.proofs.lemmas.Bool.{cases_lt}
-use Rattle.std.proofs.lemmas.Nat.{pow_pos}
 
 -- below the middle, a mode decides as for distances 1 and 2
 pub takes_less : (mode : Round) (negative odd : Bool) (x y : ℕ) → x < y

@@ -1,12 +1,10 @@
 -- A result given outright has one value and one status, and so has a root that is rounded once.
 use Rattle.std.proofs.Common.{◌≡◌, ℕ, false, sym, ap, ◌∙◌}
 use Rattle.std.proofs.Math.Nat.{le_antisymm}
-use Rattle.apfloat_model.specs.declared.kinds.Round.{Round}
-use Rattle.apfloat_model.specs.formats.Format.{Format}
-use Rattle.apfloat_model.specs.formats.Datum.{Datum}
-use Rattle.apfloat_model.specs.rounding.Rounding.{delivered_value}
-use Rattle.apfloat_model.specs.rounding.Answer.{IsAnswer}
-use Rattle.apfloat_model.specs.rounding.DeliveredRoots.{IsBelowRoot, IsAboveRoot, root_between, IsRootPick, root_status, IsDeliveredRoot}
+use Rattle.apfloat_model.specs.{declared.kinds.Round.Round, formats.Format.Format, formats.Datum.Datum}
+use Rattle.apfloat_model.specs.rounding.{Rounding.delivered_value, Answer.IsAnswer}
+use Rattle.apfloat_model.specs.rounding.DeliveredRoots.{IsBelowRoot, IsAboveRoot, root_between, IsRootPick, root_status}
+use Rattle.apfloat_model.specs.rounding.DeliveredRoots.{IsDeliveredRoot}
 
 -- the relation holds of at most one value and one status
 abbrev pub Once : {A : Type 0} → (A → ℕ → Type 0) → Type 0

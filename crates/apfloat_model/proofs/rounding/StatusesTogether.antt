@@ -1,22 +1,17 @@
 -- OVERFLOW and UNDERFLOW are raised only together with INEXACT, by each rounding.
-use Rattle.std.proofs.Common.{◌≡◌, ℕ, zero, suc, ◌+◌, ◌*◌, ◌^◌, ◌<◌, ◌≤◌, max, ◌⊎◌, inl, inr, Bool, false, eqb, ltb, refl, sym, subst, ⊎_elim, lit<, arith}
-use Rattle.std.specs.Prelude.{bit_and, bit_or}
+use Rattle.std.proofs.Common.{◌≡◌, ℕ, zero, suc, ◌+◌, ◌*◌, ◌^◌, ◌<◌, ◌≤◌, max, ◌⊎◌}
+use Rattle.std.proofs.Common.{inl, inr, Bool, false, eqb, ltb, refl, sym, subst, ⊎_elim, lit<, arith}
 use Rattle.std.proofs.Math.Nat.{mul-pos, max-zero, le-max_left, le-max_right}
-use Rattle.std.proofs.lemmas.Nat.{pow_pos}
-use Rattle.std.specs.Int.{bit_at}
-use Rattle.std.proofs.lemmas.Nat.Bits.{bit_at_or, and_pow}
+use Rattle.std.proofs.lemmas.Nat.{pow_pos, Bits.bit_at_or, Bits.and_pow}
+use Rattle.std.specs.{Prelude.bit_and, Prelude.bit_or, Int.bit_at}
 use Rattle.apfloat_model.specs.declared.kinds.Round.{Round}
-use Rattle.apfloat_model.specs.formats.Format.{Format, largest}
-use Rattle.apfloat_model.specs.formats.Datum.{Datum}
-use Rattle.apfloat_model.specs.formats.Nan.{invalid_bit, invalid_if}
-use Rattle.apfloat_model.specs.rounding.Rounding.{ok_bits, overflow_bit, underflow_bit, inexact_bit, raises_overflow, is_tiny, delivered_status, IsDelivered}
-use Rattle.apfloat_model.specs.rounding.Answer.{IsAnswer}
-use Rattle.apfloat_model.specs.rounding.RaisedFlags.{FlagsGoTogether}
+use Rattle.apfloat_model.specs.formats.{Format.Format, Format.largest, Datum.Datum, Nan.invalid_bit, Nan.invalid_if}
+use Rattle.apfloat_model.specs.rounding.Rounding.{ok_bits, overflow_bit, underflow_bit, inexact_bit, raises_overflow}
+use Rattle.apfloat_model.specs.rounding.Rounding.{is_tiny, delivered_status, IsDelivered}
+use Rattle.apfloat_model.specs.rounding.{Answer.IsAnswer, RaisedFlags.FlagsGoTogether}
 use Rattle.apfloat_model.specs.rounding.DeliveredRoots.{square_of, is_tiny_root, root_status, IsDeliveredRoot}
-use Rattle.apfloat_model.specs.arithmetic.Quotients.{div_by_zero_bit}
-use Rattle.apfloat_model.specs.whole_numbers.WholeNumbers.{inexact_unless}
-use Rattle.apfloat_model.proofs.general.Choices.{if_case}
-use Rattle.apfloat_model.proofs.general.Powers.{left_factor}
+use Rattle.apfloat_model.specs.{arithmetic.Quotients.div_by_zero_bit, whole_numbers.WholeNumbers.inexact_unless}
+use Rattle.apfloat_model.proofs.general.{Choices.if_case, Powers.left_factor}
 
 -- the relation holds only of statuses in which these flags go together
 abbrev pub Together : {A : Type 0} → (A → ℕ → Type 0) → Type 0

@@ -1,20 +1,16 @@
 -- Whether a magnitude, rounded with an unbounded exponent, is below the smallest normalized number.
-use Rattle.std.proofs.Common.{◌≡◌, ℕ, ◌+◌, ◌-◌, ◌*◌, ◌%◌, ◌^◌, ◌<◌, ◌≤◌, Bool, true, false, not, ◌&&◌, ◌||◌, cond, ltb, leb, eqb, sym, refl, ap, ◌∙◌, subst, inl, ⊎_elim, arith}
-use Rattle.std.proofs.Math.Nat.{mul-le-mul_right, mul-le-mul_left}
-use Rattle.std.proofs.lemmas.Nat.{pow_pos}
+use Rattle.std.proofs.{Math.Nat.mul-le-mul_right, Math.Nat.mul-le-mul_left, lemmas.Nat.pow_pos}
+use Rattle.std.proofs.Common.{◌≡◌, ℕ, ◌+◌, ◌-◌, ◌*◌, ◌%◌, ◌^◌, ◌<◌, ◌≤◌, Bool, true, false, not, ◌&&◌, ◌||◌, cond, ltb}
+use Rattle.std.proofs.Common.{leb, eqb, sym, refl, ap, ◌∙◌, subst, inl, ⊎_elim, arith}
 use Rattle.std.proofs.lemmas.Bool.{cases_lt, lt-ltb, le-ltb, lt-leb, le-leb, eq-eqb}
-use Rattle.apfloat_model.specs.declared.kinds.Round.{Round}
-use Rattle.apfloat_model.specs.declared.loss.Loss.{Loss}
+use Rattle.apfloat_model.specs.declared.{kinds.Round.Round, loss.Loss.Loss}
 use Rattle.apfloat_model.specs.declared.loss.Loss.TheVariants.{ExactlyZero, LessThanHalf, ExactlyHalf, MoreThanHalf}
-use Rattle.apfloat_model.specs.formats.Format.{Format}
-use Rattle.apfloat_model.specs.formats.Datum.{Datum}
-use Rattle.apfloat_model.specs.rounding.Grid.{IsOnGrid}
-use Rattle.apfloat_model.specs.rounding.Standing.{StandsFor}
-use Rattle.apfloat_model.specs.rounding.Enclosure.{IsEnclosed, rounds_up}
-use Rattle.apfloat_model.specs.rounding.Rounding.{takes_above, IsPick, IsDelivered, delivered_value, rounds_below_normal}
-use Rattle.apfloat_model.proofs.general.Powers.{twice_half}
-use Rattle.apfloat_model.proofs.rounding.Picks.{takes_less, takes_half, takes_more, inexact_pick, pick_unique}
-use Rattle.apfloat_model.proofs.rounding.Laws.{pick_within}
+use Rattle.apfloat_model.specs.formats.{Format.Format, Datum.Datum}
+use Rattle.apfloat_model.specs.rounding.{Grid.IsOnGrid, Standing.StandsFor, Enclosure.IsEnclosed, Enclosure.rounds_up}
+use Rattle.apfloat_model.specs.rounding.Rounding.{takes_above, IsPick, IsDelivered, delivered_value}
+use Rattle.apfloat_model.specs.rounding.Rounding.{rounds_below_normal}
+use Rattle.apfloat_model.proofs.{general.Powers.twice_half, rounding.Picks.takes_less, rounding.Picks.takes_half}
+use Rattle.apfloat_model.proofs.rounding.{Picks.takes_more, Picks.inexact_pick, Picks.pick_unique, Laws.pick_within}
 
 -- ---- the three cases, over plain numbers: `last` and the number after it, in units of which `parts` make an amount
 

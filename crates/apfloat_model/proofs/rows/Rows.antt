@@ -1,19 +1,16 @@
 -- Worked rows of rounded results: known answers of the model. Operands and values are given by
 -- their bits in small formats. `Once` proves that no other value and no other status is a result.
 use Rattle.std.proofs.Common.{◌≡◌, ℕ, ◌+◌, true, false, refl, neg_ℤ, pos}
-use Rattle.apfloat_model.specs.declared.kinds.Round.{Round}
-use Rattle.apfloat_model.specs.declared.kinds.Round.TheVariants.{NearestTiesToEven, TowardPositive, TowardNegative, TowardZero, NearestTiesToAway}
+use Rattle.apfloat_model.specs.declared.kinds.Round.{Round, TheVariants.NearestTiesToEven, TheVariants.TowardPositive}
+use Rattle.apfloat_model.specs.declared.kinds.Round.TheVariants.{TowardNegative, TowardZero, NearestTiesToAway}
 use Rattle.apfloat_model.specs.formats.Datum.{Datum}
 use Rattle.apfloat_model.specs.rounding.Rounding.{ok_bits, inexact_bit, overflow_bit, underflow_bit}
-use Rattle.apfloat_model.specs.arithmetic.Sums.{IsSum, IsDifference}
-use Rattle.apfloat_model.specs.arithmetic.Products.{IsProduct}
-use Rattle.apfloat_model.specs.arithmetic.Quotients.{IsQuotient}
-use Rattle.apfloat_model.specs.arithmetic.FusedSums.{IsFusedSum}
-use Rattle.apfloat_model.specs.arithmetic.Scaling.{IsScaling}
+use Rattle.apfloat_model.specs.arithmetic.{Sums.IsSum, Sums.IsDifference, Products.IsProduct, Quotients.IsQuotient}
+use Rattle.apfloat_model.specs.arithmetic.{FusedSums.IsFusedSum, Scaling.IsScaling, Conversions.IsConversion}
 use Rattle.apfloat_model.specs.whole_numbers.WholeNumbers.{IsFromUnsigned, IsFromSigned}
-use Rattle.apfloat_model.specs.arithmetic.Conversions.{IsConversion}
-use Rattle.apfloat_model.proofs.Once.{from_unsigned_once}
-use Rattle.apfloat_model.proofs.rows.RowsIn.{half, single, e5m2, e4m3fn, e4m3fnuz, half_tiny_before, half_ieee, half_ieee_before, in_half, in_single, in_e5m2, in_e4m3fn, in_e4m3fnuz, rounded}
+use Rattle.apfloat_model.proofs.{Once.from_unsigned_once, rows.RowsIn.half, rows.RowsIn.single}
+use Rattle.apfloat_model.proofs.rows.RowsIn.{e5m2, e4m3fn, e4m3fnuz, half_tiny_before, half_ieee, half_ieee_before}
+use Rattle.apfloat_model.proofs.rows.RowsIn.{in_half, in_single, in_e5m2, in_e4m3fn, in_e4m3fnuz, rounded}
 
 -- ---- integers in
 

@@ -2,23 +2,18 @@
 -- See `Rows`.
 use Rattle.std.proofs.Common.{◌≡◌, ◌^◌, true, false, refl, neg_ℤ, pos, lit<, lit≤, arith}
 use Rattle.std.specs.Prelude.{Some, None}
-use Rattle.apfloat_model.specs.declared.kinds.Round.{Round}
-use Rattle.apfloat_model.specs.declared.kinds.Round.TheVariants.{NearestTiesToEven, TowardNegative, TowardZero}
-use Rattle.apfloat_model.specs.rounding.Rounding.{ok_bits, inexact_bit}
-use Rattle.apfloat_model.specs.formats.Nan.{invalid_bit}
-use Rattle.apfloat_model.specs.rounding.Negation.{negated}
-use Rattle.apfloat_model.specs.arithmetic.Sums.{IsSum, IsDifference}
-use Rattle.apfloat_model.specs.arithmetic.Products.{IsProduct}
-use Rattle.apfloat_model.specs.arithmetic.Quotients.{IsQuotient, div_by_zero_bit}
-use Rattle.apfloat_model.specs.arithmetic.FusedSums.{IsFusedSum}
-use Rattle.apfloat_model.specs.arithmetic.Conversions.{IsConversion}
+use Rattle.apfloat_model.specs.declared.kinds.Round.{Round, TheVariants.NearestTiesToEven, TheVariants.TowardNegative}
+use Rattle.apfloat_model.specs.{declared.kinds.Round.TheVariants.TowardZero, rounding.Rounding.ok_bits}
+use Rattle.apfloat_model.specs.{rounding.Rounding.inexact_bit, rounding.Negation.negated, formats.Nan.invalid_bit}
+use Rattle.apfloat_model.specs.arithmetic.{Sums.IsSum, Sums.IsDifference, Products.IsProduct, Quotients.IsQuotient}
+use Rattle.apfloat_model.specs.arithmetic.{Quotients.div_by_zero_bit, FusedSums.IsFusedSum, Conversions.IsConversion}
 use Rattle.apfloat_model.specs.arithmetic.Remainders.{IsTruncatedRemainder, IsNearestRemainder}
-use Rattle.apfloat_model.specs.whole_numbers.WholeNumbers.{IsRoundToIntegral}
+use Rattle.apfloat_model.specs.arithmetic.{NextUp.IsNextUp, Exponents.IsIlogb, Exponents.IsFrexp}
+use Rattle.apfloat_model.specs.{arithmetic.Exponents.IsExactInverse, whole_numbers.WholeNumbers.IsRoundToIntegral}
 use Rattle.apfloat_model.specs.whole_numbers.WholeNumbersOut.{IsToUnsigned, IsToSigned}
-use Rattle.apfloat_model.specs.arithmetic.NextUp.{IsNextUp}
-use Rattle.apfloat_model.specs.arithmetic.Exponents.{IsIlogb, IsFrexp, IsExactInverse}
 use Rattle.apfloat_model.specs.order.Order.{min_num, max_num, minimum, maximum}
-use Rattle.apfloat_model.proofs.rows.RowsIn.{half, single, e4m3fn, e4m3fnuz, in_half, in_single, in_e4m3fn, in_e4m3fnuz, answer, whole, converted}
+use Rattle.apfloat_model.proofs.rows.RowsIn.{half, single, e4m3fn, e4m3fnuz, in_half, in_single, in_e4m3fn, in_e4m3fnuz}
+use Rattle.apfloat_model.proofs.rows.RowsIn.{answer, whole, converted}
 
 -- ---- NaNs
 

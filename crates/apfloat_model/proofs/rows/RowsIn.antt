@@ -1,18 +1,16 @@
 -- What the worked rows have in common: named formats, values given by their bits, and the proof of a rounding.
-use Rattle.std.proofs.Common.{◌≡◌, ℕ, ◌+◌, ◌-◌, ◌*◌, ◌^◌, ◌<◌, Bool, true, false, ltb, leb, eqb, ◌&&◌, ◌||◌, if◌then◌else◌, refl, sym, ⊎_elim, inl, inr}
+use Rattle.std.proofs.Common.{◌≡◌, ℕ, ◌+◌, ◌-◌, ◌*◌, ◌^◌, ◌<◌, Bool, true, false, ltb, leb}
+use Rattle.std.proofs.Common.{eqb, ◌&&◌, ◌||◌, if◌then◌else◌, refl, sym, ⊎_elim, inl, inr}
 use Rattle.std.proofs.Math.Arith.{lt_of_le-ne}
 use Rattle.std.proofs.lemmas.Bool.{and_parts, or_cases, leb-true, ltb-true, eqb-true, eqb-false}
-use Rattle.apfloat_model.specs.declared.kinds.Round.{Round}
-use Rattle.apfloat_model.specs.formats.Format.{Format}
-use Rattle.apfloat_model.specs.formats.Datum.{Datum}
-use Rattle.apfloat_model.specs.rounding.Enclosure.{IsEnclosed}
+use Rattle.apfloat_model.specs.{declared.kinds.Round.Round, formats.Format.Format, formats.Datum.Datum}
+use Rattle.apfloat_model.specs.formats.Lawful.{Constants, format_with, layout_with}
+use Rattle.apfloat_model.specs.formats.Formats.{half_constants, single_constants, e5m2_constants, e4m3fn_constants}
+use Rattle.apfloat_model.specs.{formats.Formats.e4m3fnuz_constants, rounding.Enclosure.IsEnclosed}
 use Rattle.apfloat_model.specs.rounding.Rounding.{pick_between, delivered_value, delivered_status, IsPick, IsDelivered}
 use Rattle.apfloat_model.specs.rounding.Answer.{IsAnswer}
 use Rattle.apfloat_model.specs.whole_numbers.WholeNumbersOut.{Whole, IsWhole}
-use Rattle.apfloat_model.specs.arithmetic.Conversions.{IsConverted}
-use Rattle.apfloat_model.specs.bits.Layout.{datum_of}
-use Rattle.apfloat_model.specs.formats.Lawful.{Constants, format_with, layout_with}
-use Rattle.apfloat_model.specs.formats.Formats.{half_constants, single_constants, e5m2_constants, e4m3fn_constants, e4m3fnuz_constants}
+use Rattle.apfloat_model.specs.{arithmetic.Conversions.IsConverted, bits.Layout.datum_of}
 use Rattle.apfloat_model.proofs.rounding.Neighbours.{below_is, above_is_same, above_is_next}
 use Rattle.apfloat_model.proofs.general.Choices.{cond_same}
 

@@ -1,19 +1,20 @@
 -- Worked rows of square roots. Their values were computed elsewhere, from integer square roots.
-use Rattle.std.proofs.Common.{◌≡◌, ℕ, ◌+◌, ◌-◌, ◌*◌, ◌^◌, ◌<◌, ◌≤◌, ◌⊎◌, Bool, true, false, ltb, leb, eqb, ◌&&◌, ◌||◌, if◌then◌else◌, refl, sym, ⊎_elim, inl, inr, arith}
+use Rattle.std.proofs.Common.{◌≡◌, ℕ, ◌+◌, ◌-◌, ◌*◌, ◌^◌, ◌<◌, ◌≤◌, ◌⊎◌, Bool, true, false, ltb, leb, eqb, ◌&&◌, ◌||◌}
+use Rattle.std.proofs.Common.{if◌then◌else◌, refl, sym, ⊎_elim, inl, inr, arith}
 use Rattle.std.proofs.Math.Arith.{lt_of_le-ne}
 use Rattle.std.proofs.lemmas.Bool.{cases_lt, and_parts, or_cases, leb-true, ltb-true, eqb-true, eqb-false}
-use Rattle.apfloat_model.specs.declared.kinds.Round.{Round}
-use Rattle.apfloat_model.specs.declared.kinds.Round.TheVariants.{NearestTiesToEven, TowardPositive, TowardNegative, TowardZero, NearestTiesToAway}
+use Rattle.apfloat_model.specs.declared.kinds.Round.{Round, TheVariants.NearestTiesToEven, TheVariants.TowardPositive}
+use Rattle.apfloat_model.specs.declared.kinds.Round.TheVariants.{TowardNegative, TowardZero, NearestTiesToAway}
 use Rattle.apfloat_model.specs.declared.kinds.NonfiniteBehavior.TheVariants.{IEEE754}
-use Rattle.apfloat_model.specs.formats.Format.{Format}
-use Rattle.apfloat_model.specs.formats.Datum.{Datum, finite}
+use Rattle.apfloat_model.specs.formats.{Format.Format, Datum.Datum, Datum.finite, Nan.invalid_bit}
 use Rattle.apfloat_model.specs.rounding.Rounding.{delivered_value, ok_bits, underflow_bit, inexact_bit}
-use Rattle.apfloat_model.specs.formats.Nan.{invalid_bit}
-use Rattle.apfloat_model.specs.arithmetic.Roots.{IsBelowRoot, IsAboveRoot, root_between, IsRootPick, root_status, IsDeliveredRoot, IsRoot}
+use Rattle.apfloat_model.specs.arithmetic.Roots.{IsBelowRoot, IsAboveRoot, root_between, IsRootPick, root_status}
+use Rattle.apfloat_model.specs.arithmetic.Roots.{IsDeliveredRoot, IsRoot}
 use Rattle.apfloat_model.proofs.general.Choices.{cond_same}
 use Rattle.apfloat_model.proofs.arithmetic.RootSides.{root_lt, root_le, square_le}
 use Rattle.apfloat_model.proofs.rounding.Neighbours.{none_between, multiple_on_grid, next_on_grid}
-use Rattle.apfloat_model.proofs.rows.RowsIn.{half, single, e5m2, e4m3fn, e4m3fnuz, in_half, in_single, in_e5m2, in_e4m3fn, in_e4m3fnuz, answer}
+use Rattle.apfloat_model.proofs.rows.RowsIn.{half, single, e5m2, e4m3fn, e4m3fnuz, in_half, in_single, in_e5m2}
+use Rattle.apfloat_model.proofs.rows.RowsIn.{in_e4m3fn, in_e4m3fnuz, answer}
 
 -- ---- how a root is proved: its neighbours are m * 2 ^ c and (m + 1) * 2 ^ c
 

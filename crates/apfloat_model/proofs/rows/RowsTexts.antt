@@ -1,18 +1,17 @@
 -- Worked rows of encodings and texts.
-use Rattle.std.proofs.Common.{◌≡◌, ℕ, ◌+◌, ◌*◌, ◌^◌, ◌≤◌, ◌⊎◌, true, false, refl, inl, inr, neg_ℤ, pos, lit<, lit≤, List, [], ◌++◌, length, codes}
+use Rattle.std.proofs.Common.{◌≡◌, ℕ, ◌+◌, ◌*◌, ◌^◌, ◌≤◌, ◌⊎◌, true, false, refl, inl}
+use Rattle.std.proofs.Common.{inr, neg_ℤ, pos, lit<, lit≤, List, [], ◌++◌, length, codes}
 use Rattle.std.specs.Prelude.{IsTrue}
 use Rattle.apfloat_model.specs.declared.parse_error.Fault.TheVariants.{NoLiteral, SecondDot, NoExponent}
-use Rattle.apfloat_model.specs.declared.kinds.Round.{Round}
-use Rattle.apfloat_model.specs.declared.kinds.Round.TheVariants.{NearestTiesToEven, TowardZero}
+use Rattle.apfloat_model.specs.declared.kinds.Round.{Round, TheVariants.NearestTiesToEven, TheVariants.TowardZero}
 use Rattle.apfloat_model.specs.formats.Datum.{Datum, finite, infinite, nan}
-use Rattle.apfloat_model.specs.rounding.Rounding.{ok_bits, inexact_bit, overflow_bit, underflow_bit}
-use Rattle.apfloat_model.specs.bits.Layout.{IsEncodedBy}
 use Rattle.apfloat_model.specs.formats.Lawful.{Constants, format_with, layout_with}
 use Rattle.apfloat_model.specs.formats.Formats.{half_constants, e4m3fn_constants, e4m3fnuz_constants}
+use Rattle.apfloat_model.specs.rounding.Rounding.{ok_bits, inexact_bit, overflow_bit, underflow_bit}
+use Rattle.apfloat_model.specs.bits.Layout.{IsEncodedBy}
 use Rattle.apfloat_model.specs.texts.Digits.{every, is_decimal, is_hexadecimal, number}
 use Rattle.apfloat_model.specs.texts.Specials.{not_a_number, hexadecimal, mark_of, after_mark}
-use Rattle.apfloat_model.specs.texts.Texts.{marked, IsHexadecimal}
-use Rattle.apfloat_model.specs.texts.Readings.{IsReading, IsRefusal}
+use Rattle.apfloat_model.specs.texts.{Texts.marked, Texts.IsHexadecimal, Readings.IsReading, Readings.IsRefusal}
 use Rattle.apfloat_model.proofs.rows.RowsIn.{half, single, e4m3fnuz, in_half, in_single, in_e4m3fnuz, answer, rounded}
 
 -- ---- encodings: values are counted in quanta, of 2 ^ -24 in half precision

@@ -1,20 +1,26 @@
 -- A text without a fault has a meaning.
-use Rattle.apfloat_model.specs.declared.parse_error.Fault.TheVariants.{EmptyText, LoneMark, NoLiteral, LonePrefix, SecondDot, WrongInSignificand, NoDigits, WrongInExponent, NoExponentDigits}
-use Rattle.apfloat_model.specs.declared.marks.Mark.{Mark}
-use Rattle.apfloat_model.specs.declared.marks.Mark.TheVariants.{Unmarked, Plus, Minus}
-use mathlib.Core.Bool.{Bool}
-use Rattle.std.proofs.Common.{◌≡◌, ◌⊎◌, ℕ, ◌≤◌, true, false, not, cond, ◌&&◌, refl, sym, ap, ◌∙◌, inl, inr, ⊎_elim, arith, List, [], ◌∷◌, ◌++◌, length, take, drop, filter, ltb, eqb, codes, Option, Some, None, is_some, ℤ}
-use Rattle.std.specs.Bool.{⊤}
-use Rattle.std.proofs.lemmas.Bool.{and_parts, and_from, or_cases, eqb-true, ltb-false, false≢true, cases_Bool, cond_both, not-false}
-use Rattle.std.proofs.lemmas.List.Elements.{filter-append}
-use Rattle.std.proofs.lemmas.Option.{none-some}
-use Rattle.apfloat_model.specs.texts.Digits.{every, begins, run, after_run, is_empty, is_decimal, is_hexadecimal, number}
-use Rattle.apfloat_model.specs.texts.Specials.{TextMeaning, infinity, not_a_number, hexadecimal, mark_of, after_mark, is_minus, is_infinity, is_s, payload_of, with_payload, is_nan_name, named_nan, nan_meaning, special_meaning, special_of}
+use Rattle.apfloat_model.specs.declared.parse_error.Fault.TheVariants.{EmptyText, LoneMark, NoLiteral, LonePrefix}
+use Rattle.apfloat_model.specs.declared.parse_error.Fault.TheVariants.{SecondDot, WrongInSignificand, NoDigits}
+use Rattle.apfloat_model.specs.declared.parse_error.Fault.TheVariants.{WrongInExponent, NoExponentDigits}
+use Rattle.apfloat_model.specs.declared.marks.Mark.{Mark, TheVariants.Unmarked, TheVariants.Plus, TheVariants.Minus}
+use Rattle.apfloat_model.specs.texts.Digits.{every, begins, run, after_run, is_empty, is_decimal, is_hexadecimal}
+use Rattle.apfloat_model.specs.texts.Digits.{number}
+use Rattle.apfloat_model.specs.texts.Specials.{TextMeaning, infinity, not_a_number, hexadecimal, mark_of, after_mark}
+use Rattle.apfloat_model.specs.texts.Specials.{is_minus, is_infinity, is_s, payload_of, with_payload, is_nan_name}
+use Rattle.apfloat_model.specs.texts.Specials.{named_nan, nan_meaning, special_meaning, special_of}
 use Rattle.apfloat_model.specs.texts.Texts.{IsHexadecimal, Means, marked}
-use Rattle.apfloat_model.specs.texts.Faults.{is_dot, is_p, is_digit_or_dot, significand_of, after_significand, begins_literal, tail_fault, literal_fault, after_prefix_fault, fault_of}
+use Rattle.apfloat_model.specs.texts.Faults.{is_dot, is_p, is_digit_or_dot, significand_of, after_significand}
+use Rattle.apfloat_model.specs.texts.Faults.{begins_literal, tail_fault, literal_fault, after_prefix_fault, fault_of}
 use Rattle.apfloat_model.proofs.texts.OneMeaning.{digit_is_no_dot, significand_parts}
-use Rattle.apfloat_model.proofs.general.ListLaws.{append-every, filter_none, regroup, split_run, run_passes, run_stops, after_passes, some_length}
-use Rattle.apfloat_model.proofs.general.Choices.{left_none}
+use Rattle.apfloat_model.proofs.general.ListLaws.{append-every, filter_none, regroup, split_run, run_passes, run_stops}
+use Rattle.apfloat_model.proofs.general.{ListLaws.after_passes, ListLaws.some_length, Choices.left_none}
+use Rattle.std.proofs.Common.{◌≡◌, ◌⊎◌, ℕ, ◌≤◌, true, false, not, cond, ◌&&◌, refl, sym, ap, ◌∙◌, inl, inr, ⊎_elim}
+use Rattle.std.proofs.Common.{arith, List, [], ◌∷◌, ◌++◌, length, take, drop, filter, ltb, eqb, codes, Option, Some}
+use Rattle.std.proofs.Common.{None, is_some, ℤ}
+use Rattle.std.proofs.lemmas.Bool.{and_parts, and_from, or_cases, eqb-true, ltb-false, false≢true, cases_Bool}
+use Rattle.std.proofs.lemmas.{Bool.cond_both, Bool.not-false, List.Elements.filter-append, Option.none-some}
+use Rattle.std.specs.Bool.{⊤}
+use mathlib.Core.Bool.{Bool}
 
 -- ---- no special text is a hexadecimal one
 

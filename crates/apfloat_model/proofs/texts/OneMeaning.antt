@@ -1,19 +1,22 @@
 -- A text has at most one meaning, and no fault if it has one.
 use Rattle.apfloat_model.specs.declared.parse_error.Fault.{Fault}
 use Rattle.apfloat_model.specs.declared.parse_error.Fault.TheVariants.{EmptyText, LoneMark, NoLiteral}
-use Rattle.apfloat_model.specs.declared.marks.Mark.{Mark}
-use Rattle.apfloat_model.specs.declared.marks.Mark.TheVariants.{Unmarked, Plus, Minus}
-use mathlib.Core.Bool.{Bool}
-use Rattle.std.proofs.Common.{◌≡◌, ◌⊎◌, ℕ, ◌≤◌, true, false, not, cond, refl, sym, ap, ◌∙◌, inl, inr, List, [], ◌∷◌, ◌++◌, length, drop, filter, ltb, codes, Option, Some, None, is_some, ℤ}
-use Rattle.std.proofs.lemmas.Bool.{ne_eqb, false≢true, or_left}
-use Rattle.std.proofs.lemmas.List.Elements.{filter-append}
-use Rattle.std.proofs.lemmas.Option.{none-some, same_Some}
+use Rattle.apfloat_model.specs.declared.marks.Mark.{Mark, TheVariants.Unmarked, TheVariants.Plus, TheVariants.Minus}
 use Rattle.apfloat_model.specs.texts.Digits.{every, after_run, is_empty, is_decimal, is_hexadecimal, number}
-use Rattle.apfloat_model.specs.texts.Specials.{TextMeaning, infinity, not_a_number, hexadecimal, mark_of, after_mark, special_meaning, special_of}
+use Rattle.apfloat_model.specs.texts.Specials.{TextMeaning, infinity, not_a_number, hexadecimal, mark_of, after_mark}
+use Rattle.apfloat_model.specs.texts.Specials.{special_meaning, special_of}
 use Rattle.apfloat_model.specs.texts.Literals.{digits_number, places_after_dot, exponent_text, exponent_number}
 use Rattle.apfloat_model.specs.texts.Texts.{IsHexadecimal, Means, marked}
-use Rattle.apfloat_model.specs.texts.Faults.{is_dot, is_p, is_digit_or_dot, begins_literal, exponent_fault, after_prefix_fault, fault_of}
-use Rattle.apfloat_model.proofs.general.ListLaws.{every-append, append-every, every_weaker, run_through, after_run_through, filter_all, filter_none, regroup, not_empty, not_empty_through}
+use Rattle.apfloat_model.specs.texts.Faults.{is_dot, is_p, is_digit_or_dot, begins_literal, exponent_fault}
+use Rattle.apfloat_model.specs.texts.Faults.{after_prefix_fault, fault_of}
+use Rattle.apfloat_model.proofs.general.ListLaws.{every-append, append-every, every_weaker, run_through}
+use Rattle.apfloat_model.proofs.general.ListLaws.{after_run_through, filter_all, filter_none, regroup, not_empty}
+use Rattle.apfloat_model.proofs.general.ListLaws.{not_empty_through}
+use Rattle.std.proofs.Common.{◌≡◌, ◌⊎◌, ℕ, ◌≤◌, true, false, not, cond, refl, sym, ap, ◌∙◌, inl, inr, List, [], ◌∷◌}
+use Rattle.std.proofs.Common.{◌++◌, length, drop, filter, ltb, codes, Option, Some, None, is_some, ℤ}
+use Rattle.std.proofs.lemmas.Bool.{ne_eqb, false≢true, or_left}
+use Rattle.std.proofs.lemmas.{List.Elements.filter-append, Option.none-some, Option.same_Some}
+use mathlib.Core.Bool.{Bool}
 
 -- ---- digits
 

@@ -1,11 +1,8 @@
 -- A hexadecimal text of 0 is read as the zero of its sign, whatever its exponent.
 use mathlib.Core.Bool.{Bool}
 use Rattle.std.proofs.Common.{◌*◌, ◌^◌, arith, pow_pos, ℤ}
-use Rattle.apfloat_model.specs.declared.kinds.Round.{Round}
-use Rattle.apfloat_model.specs.formats.Format.{Format}
-use Rattle.apfloat_model.specs.formats.Datum.{finite}
-use Rattle.apfloat_model.specs.rounding.Rounding.{zero_sign}
-use Rattle.apfloat_model.specs.arithmetic.Exact.{up, down}
+use Rattle.apfloat_model.specs.{declared.kinds.Round.Round, formats.Format.Format, formats.Datum.finite}
+use Rattle.apfloat_model.specs.{rounding.Rounding.zero_sign, arithmetic.Exact.up, arithmetic.Exact.down}
 use Rattle.apfloat_model.specs.texts.Readings.{IsScaledDelivery}
 use Rattle.apfloat_model.proofs.rounding.Laws.{zero_delivered}
 

@@ -1,17 +1,14 @@
 -- A signed integer in a format, from its magnitude.
-use Rattle.std.proofs.Common.{◌≡◌, ℕ, zero, suc, pos, neg_ℤ, ◌*◌, ◌^◌, ◌<◌, ◌≤◌, Bool, true, false, not, eqb, refl, arith}
-use Rattle.std.proofs.Math.Nat.{mul-pos}
-use Rattle.std.proofs.lemmas.Bool.{ne_eqb}
-use Rattle.std.proofs.lemmas.Nat.{pow_pos}
-use Rattle.apfloat_model.specs.declared.kinds.Round.{Round}
-use Rattle.apfloat_model.specs.declared.kinds.Round.TheVariants.{NearestTiesToEven, TowardPositive, TowardNegative, TowardZero, NearestTiesToAway}
+use Rattle.std.proofs.Common.{◌≡◌, ℕ, zero, suc, pos, neg_ℤ, ◌*◌, ◌^◌, ◌<◌, ◌≤◌, Bool, true}
+use Rattle.std.proofs.Common.{false, not, eqb, refl, arith}
+use Rattle.std.proofs.{Math.Nat.mul-pos, lemmas.Bool.ne_eqb, lemmas.Nat.pow_pos}
+use Rattle.apfloat_model.specs.declared.kinds.Round.{Round, TheVariants.NearestTiesToEven, TheVariants.TowardPositive}
+use Rattle.apfloat_model.specs.declared.kinds.Round.TheVariants.{TowardNegative, TowardZero, NearestTiesToAway}
 use Rattle.apfloat_model.specs.declared.kinds.NonfiniteBehavior.TheVariants.{IEEE754}
-use Rattle.apfloat_model.specs.formats.Datum.{Datum, finite}
-use Rattle.apfloat_model.specs.formats.Format.{Format, largest}
+use Rattle.apfloat_model.specs.formats.{Datum.Datum, Datum.finite, Format.Format, Format.largest}
 use Rattle.apfloat_model.specs.rounding.Negation.{negated, swapped}
 use Rattle.apfloat_model.specs.whole_numbers.WholeNumbers.{IsFromUnsigned, IsFromSigned}
-use Rattle.apfloat_model.proofs.rounding.Laws.{delivered_swapped}
-use Rattle.apfloat_model.proofs.formats.Greatest.{greatest_some}
+use Rattle.apfloat_model.proofs.{rounding.Laws.delivered_swapped, formats.Greatest.greatest_some}
 use Rattle.apfloat_model.proofs.arithmetic.Signs.{sign_signed, magnitude_signed}
 
 -- negation changes the sign, of a zero too

@@ -1,16 +1,13 @@
 -- Conversion of a datum of f into g (IEEE 754-2019 5.4.2 convertFormat, 6.2.3).
-use Rattle.std.specs.Prelude.{◌≡◌, ℕ, ◌-◌, ◌*◌, ◌/◌, ◌%◌, ◌^◌, Bool, true, false, not, ◌&&◌, ◌||◌, eqb, if◌then◌else◌, ⊤}
-use Rattle.std.specs.Bool.{MatchBool}
-use Rattle.apfloat_model.specs.declared.kinds.Round.{Round}
-use Rattle.apfloat_model.specs.declared.kinds.NonfiniteBehavior.{NonfiniteBehavior}
+use Rattle.std.specs.Prelude.{◌≡◌, ℕ, ◌-◌, ◌*◌, ◌/◌, ◌%◌, ◌^◌, Bool, true, false, not, ◌&&◌, ◌||◌, eqb, if◌then◌else◌}
+use Rattle.std.specs.{Prelude.⊤, Bool.MatchBool}
+use Rattle.apfloat_model.specs.declared.kinds.{Round.Round, NonfiniteBehavior.NonfiniteBehavior}
 use Rattle.apfloat_model.specs.declared.kinds.NonfiniteBehavior.TheVariants.{IEEE754, NanOnly, NanNegativeZero}
-use Rattle.apfloat_model.specs.formats.Format.{Format, payload_mask}
-use Rattle.apfloat_model.specs.formats.Datum.{Datum, finite, infinite, nan}
+use Rattle.apfloat_model.specs.formats.{Format.Format, Format.payload_mask, Datum.Datum, Datum.finite, Datum.infinite}
+use Rattle.apfloat_model.specs.formats.{Datum.nan, Constants.infinity_of, Nan.invalid_if, Nan.is_signaling, Nan.quieted}
+use Rattle.apfloat_model.specs.formats.{Nan.quiet_significand, Nan.nan_sign, Members.IsFiniteOf}
 use Rattle.apfloat_model.specs.rounding.Rounding.{ok_bits, inexact_bit, zero_sign, IsDelivered}
-use Rattle.apfloat_model.specs.formats.Constants.{infinity_of}
-use Rattle.apfloat_model.specs.formats.Nan.{invalid_if, is_signaling, quieted, quiet_significand, nan_sign}
 use Rattle.apfloat_model.specs.arithmetic.Exact.{same_sign}
-use Rattle.apfloat_model.specs.formats.Members.{IsFiniteOf}
 
 -- ---- NaNs: the payload keeps its first bit
 

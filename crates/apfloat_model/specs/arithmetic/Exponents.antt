@@ -1,9 +1,8 @@
 -- The exponent of a datum (IEEE 754-2019 5.3.3, logB), its fraction, and its exact inverse.
-use Rattle.std.specs.Prelude.{◌≡◌, ℕ, ◌+◌, ◌-◌, ◌*◌, ◌^◌, ◌<◌, ◌≤◌, Bool, eqb, ℤ, pos, neg_ℤ, ◌-ℤ◌, Option, Some, None, ⊤}
-use Rattle.std.specs.Bool.{MatchBool}
+use Rattle.std.specs.Prelude.{◌≡◌, ℕ, ◌+◌, ◌-◌, ◌*◌, ◌^◌, ◌<◌, ◌≤◌, Bool, eqb, ℤ, pos, neg_ℤ, ◌-ℤ◌, Option, Some, None}
+use Rattle.std.specs.{Prelude.⊤, Bool.MatchBool}
 use Rattle.apfloat_model.specs.formats.Format.{Format, smallest_normalized, largest}
-use Rattle.apfloat_model.specs.formats.Datum.{Datum, finite, infinite, nan}
-use Rattle.apfloat_model.specs.formats.Nan.{quieted}
+use Rattle.apfloat_model.specs.formats.{Datum.Datum, Datum.finite, Datum.infinite, Datum.nan, Nan.quieted}
 use Rattle.apfloat_model.specs.arithmetic.Exact.{up, down}
 
 -- the exponents that are returned for an infinity, a NaN and a zero

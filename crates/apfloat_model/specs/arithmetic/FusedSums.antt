@@ -1,13 +1,9 @@
 -- The product of two operands plus a third, rounded once (IEEE 754-2019 5.4.1, fusedMultiplyAdd).
 use Rattle.std.specs.Prelude.{ℕ, ◌*◌, ◌^◌, eqb, ◌+ℤ◌, if◌then◌else◌}
-use Rattle.apfloat_model.specs.declared.kinds.Round.{Round}
-use Rattle.apfloat_model.specs.formats.Format.{Format}
-use Rattle.apfloat_model.specs.formats.Datum.{Datum, finite}
-use Rattle.apfloat_model.specs.rounding.Rounding.{ok_bits}
+use Rattle.apfloat_model.specs.{declared.kinds.Round.Round, formats.Format.Format, formats.Datum.Datum}
+use Rattle.apfloat_model.specs.{formats.Datum.finite, rounding.Rounding.ok_bits}
 use Rattle.apfloat_model.specs.rounding.Outcome.{Outcome, settled, rounded, totalled, rooted, Yields}
-use Rattle.apfloat_model.specs.arithmetic.Exact.{product_sign, signed}
-use Rattle.apfloat_model.specs.arithmetic.Sums.{sum}
-use Rattle.apfloat_model.specs.arithmetic.Products.{product}
+use Rattle.apfloat_model.specs.arithmetic.{Exact.product_sign, Exact.signed, Sums.sum, Products.product}
 
 -- the greatest precision of a format that has `mul_add_r`: a sum with the exact product fits in 128 bits
 abbrev pub fused_limit : ℕ

@@ -1,14 +1,11 @@
 -- The least datum that compares greater (IEEE 754-2019 5.3.1), and the greatest that compares less.
 use Rattle.std.specs.Prelude.{◌≡◌, ℕ, ◌+◌, ◌-◌, Bool, true, false, eqb}
 use Rattle.std.specs.Bool.{MatchBool}
-use Rattle.apfloat_model.specs.formats.Format.{Format, largest}
-use Rattle.apfloat_model.specs.formats.Datum.{Datum, finite, infinite, nan}
-use Rattle.apfloat_model.specs.rounding.Grid.{IsBelow, IsAbove}
-use Rattle.apfloat_model.specs.rounding.Rounding.{ok_bits, signed_quanta}
-use Rattle.apfloat_model.specs.rounding.Negation.{negated}
-use Rattle.apfloat_model.specs.formats.Constants.{smallest_datum, infinity_datum}
-use Rattle.apfloat_model.specs.rounding.Answer.{IsAnswer}
+use Rattle.apfloat_model.specs.formats.{Format.Format, Format.largest, Datum.Datum, Datum.finite, Datum.infinite}
+use Rattle.apfloat_model.specs.formats.{Datum.nan, Constants.smallest_datum, Constants.infinity_datum}
 use Rattle.apfloat_model.specs.formats.Nan.{invalid_bit, is_signaling, quiet_significand}
+use Rattle.apfloat_model.specs.rounding.Grid.{IsBelow, IsAbove}
+use Rattle.apfloat_model.specs.rounding.{Rounding.ok_bits, Rounding.signed_quanta, Negation.negated, Answer.IsAnswer}
 
 -- for a positive number below the largest: the least greater number
 pub record IsNextGreater (f : Format) (quanta : ℕ) (value : Datum) (status : ℕ) : Type 0 where

@@ -1,12 +1,10 @@
 -- Products (IEEE 754-2019 5.4.1, 6.1, 6.3, 7.2).
 use Rattle.std.specs.Prelude.{ℕ, ◌*◌, ◌^◌, eqb, if◌then◌else◌, IsTrue}
-use Rattle.apfloat_model.specs.declared.kinds.Round.{Round}
-use Rattle.apfloat_model.specs.formats.Format.{Format}
+use Rattle.apfloat_model.specs.{declared.kinds.Round.Round, formats.Format.Format}
 use Rattle.apfloat_model.specs.formats.Datum.{Datum, finite, infinite, nan}
 use Rattle.apfloat_model.specs.rounding.Outcome.{Outcome, rounded, exactly, invalid, of_nan, of_nans, Yields}
-use Rattle.apfloat_model.specs.arithmetic.Exact.{product_sign}
 use Rattle.apfloat_model.specs.rounding.Negation.{swapped, negated}
-use Rattle.apfloat_model.specs.order.Classes.{is_finite_non_zero}
+use Rattle.apfloat_model.specs.{arithmetic.Exact.product_sign, order.Classes.is_finite_non_zero}
 
 -- the greatest precision of a format that has `mul_r`: the exact product fits in 128 bits
 abbrev pub product_limit : ℕ

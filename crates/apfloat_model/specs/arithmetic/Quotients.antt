@@ -1,10 +1,8 @@
 -- Quotients (IEEE 754-2019 5.4.1, 6.1, 6.3, 7.2, 7.3).
 use Rattle.std.specs.Prelude.{ℕ, ◌*◌, ◌^◌, eqb, if◌then◌else◌}
-use Rattle.apfloat_model.specs.declared.kinds.Round.{Round}
-use Rattle.apfloat_model.specs.formats.Format.{Format}
+use Rattle.apfloat_model.specs.{declared.kinds.Round.Round, formats.Format.Format}
 use Rattle.apfloat_model.specs.formats.Datum.{Datum, finite, infinite, nan}
-use Rattle.apfloat_model.specs.rounding.Rounding.{signed_quanta}
-use Rattle.apfloat_model.specs.formats.Constants.{infinity_of}
+use Rattle.apfloat_model.specs.{formats.Constants.infinity_of, rounding.Rounding.signed_quanta}
 use Rattle.apfloat_model.specs.rounding.Outcome.{Outcome, settled, rounded, exactly, invalid, of_nan, of_nans, Yields}
 use Rattle.apfloat_model.specs.arithmetic.Exact.{product_sign}
 

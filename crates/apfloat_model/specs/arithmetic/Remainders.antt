@@ -1,9 +1,7 @@
 -- Remainders, by the quotient truncated toward zero and by the nearest integer (IEEE 754-2019 5.3.1); both are exact.
 use Rattle.std.specs.Prelude.{ℕ, ◌-◌, ◌*◌, ◌/◌, Bool, false, not, ltb, eqb, count_ones, if◌then◌else◌}
-use Rattle.apfloat_model.specs.declared.kinds.NonfiniteBehavior.{NonfiniteBehavior}
-use Rattle.apfloat_model.specs.declared.kinds.Round.TheVariants.{NearestTiesToEven}
-use Rattle.apfloat_model.specs.formats.Format.{Format}
-use Rattle.apfloat_model.specs.formats.Datum.{Datum, finite, infinite, nan}
+use Rattle.apfloat_model.specs.declared.kinds.{NonfiniteBehavior.NonfiniteBehavior, Round.TheVariants.NearestTiesToEven}
+use Rattle.apfloat_model.specs.formats.{Format.Format, Datum.Datum, Datum.finite, Datum.infinite, Datum.nan}
 use Rattle.apfloat_model.specs.rounding.Rounding.{signed_quanta}
 use Rattle.apfloat_model.specs.rounding.Outcome.{Outcome, exactly, invalid, of_nan, of_nans, Yields}
 use Rattle.apfloat_model.specs.whole_numbers.WholeNumbers.{whole_pick}

@@ -1,11 +1,8 @@
 -- A datum times 2 to the power j (IEEE 754-2019 5.3.3, scaleB), rounded once; its status is not returned.
 use Rattle.std.specs.Prelude.{◌≡◌, ℕ, ◌*◌, ◌^◌, ℤ}
-use Rattle.apfloat_model.specs.declared.kinds.Round.{Round}
-use Rattle.apfloat_model.specs.formats.Format.{Format}
-use Rattle.apfloat_model.specs.formats.Datum.{Datum, finite, infinite, nan}
-use Rattle.apfloat_model.specs.rounding.Rounding.{IsDelivered}
-use Rattle.apfloat_model.specs.formats.Nan.{quieted}
-use Rattle.apfloat_model.specs.arithmetic.Exact.{up, down}
+use Rattle.apfloat_model.specs.{declared.kinds.Round.Round, formats.Format.Format}
+use Rattle.apfloat_model.specs.formats.{Datum.Datum, Datum.finite, Datum.infinite, Datum.nan, Nan.quieted}
+use Rattle.apfloat_model.specs.{rounding.Rounding.IsDelivered, arithmetic.Exact.up, arithmetic.Exact.down}
 
 abbrev pub IsScaling : Format → Round → Datum → ℤ → Datum → Type 0
 IsScaling f mode (nan b s) j value = value ≡ nan b (quieted f s)

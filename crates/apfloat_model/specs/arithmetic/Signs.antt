@@ -1,10 +1,7 @@
 -- Operations on the sign (IEEE 754-2019 5.5.1; `negated` is the third).
 use Rattle.std.specs.Prelude.{not, if◌then◌else◌}
-use Rattle.apfloat_model.specs.formats.Format.{Format}
-use Rattle.apfloat_model.specs.formats.Datum.{Datum}
-use Rattle.apfloat_model.specs.rounding.Negation.{negated}
-use Rattle.apfloat_model.specs.order.Classes.{is_negative}
-use Rattle.apfloat_model.specs.arithmetic.Exact.{same_sign}
+use Rattle.apfloat_model.specs.formats.{Format.Format, Datum.Datum}
+use Rattle.apfloat_model.specs.{rounding.Negation.negated, order.Classes.is_negative, arithmetic.Exact.same_sign}
 
 abbrev pub abs : Format → Datum → Datum
 abs f x = if is_negative x then negated f.nonfinite x else x

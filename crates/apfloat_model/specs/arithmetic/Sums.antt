@@ -1,16 +1,12 @@
 -- Sums and differences (IEEE 754-2019 5.4.1, 6.1, 6.3).
 use Rattle.std.specs.Prelude.{◌≡◌, ℕ, ◌*◌, ◌<◌, ◌≤◌, Bool, false, ℤ, pos, ◌+ℤ◌, ◌-ℤ◌, ◌≤ℤ◌, if◌then◌else◌, IsTrue}
-use Rattle.apfloat_model.specs.declared.kinds.Round.{Round}
-use Rattle.apfloat_model.specs.declared.kinds.NonfiniteBehavior.TheVariants.{IEEE754}
-use Rattle.apfloat_model.specs.formats.Format.{Format}
-use Rattle.apfloat_model.specs.formats.Datum.{Datum, finite, infinite, nan}
-use Rattle.apfloat_model.specs.rounding.Rounding.{ok_bits}
-use Rattle.apfloat_model.specs.rounding.Negation.{negated}
+use Rattle.apfloat_model.specs.declared.kinds.{Round.Round, NonfiniteBehavior.TheVariants.IEEE754}
+use Rattle.apfloat_model.specs.formats.{Format.Format, Datum.Datum, Datum.finite, Datum.infinite, Datum.nan}
+use Rattle.apfloat_model.specs.rounding.{Rounding.ok_bits, Negation.negated}
 use Rattle.apfloat_model.specs.rounding.Outcome.{Outcome, exactly, invalid, of_nan, of_nans, totalled, Yields}
 use Rattle.apfloat_model.specs.arithmetic.Exact.{same_sign, signed}
 pub use Rattle.apfloat_model.specs.arithmetic.Exact.{is_toward_negative, zero_sum_sign}
-use Rattle.apfloat_model.specs.order.Classes.{is_finite}
-use Rattle.apfloat_model.specs.order.Order.{number, AtMost}
+use Rattle.apfloat_model.specs.order.{Classes.is_finite, Order.number, Order.AtMost}
 
 abbrev pub sum : Format → Datum → Datum → Outcome
 sum f (nan b s) y = of_nans f b s y

@@ -1,9 +1,7 @@
 -- Formats whose data are written as bits, and the bit pattern of given fields.
 use Rattle.std.specs.Prelude.{◌≡◌, ℕ, ◌+◌, ◌*◌, ◌^◌, ◌<◌, ◌≤◌, true, if◌then◌else◌}
-use Rattle.apfloat_model.specs.formats.Format.{Format}
-use Rattle.apfloat_model.specs.formats.Datum.{Datum}
+use Rattle.apfloat_model.specs.formats.{Format.Format, Datum.Datum, Lawful.MayBeExplicit, Lawful.more_exponents}
 use Rattle.apfloat_model.specs.bits.Layout.{Layout, Fields, trailing_bits, is_canonical, datum_of_fields}
-use Rattle.apfloat_model.specs.formats.Lawful.{MayBeExplicit, more_exponents}
 
 pub record IsInterchange (f : Format) (layout : Layout) : Type 0 where
   pub precise : 3 ≤ f.precision

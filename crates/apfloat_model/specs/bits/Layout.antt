@@ -1,7 +1,8 @@
 -- How the data of a format are written as bits (IEEE 754-2019 3.4): from the top, the sign, the biased exponent, and
 -- the trailing significand. With an explicit integer bit, the trailing significand includes that bit; otherwise it is
 -- implied.
-use Rattle.std.specs.Prelude.{◌≡◌, ℕ, ◌+◌, ◌-◌, ◌*◌, ◌/◌, ◌%◌, ◌^◌, ◌<◌, Bool, true, false, ◌&&◌, ltb, leb, eqb, if◌then◌else◌, IsTrue}
+use Rattle.std.specs.Prelude.{◌≡◌, ℕ, ◌+◌, ◌-◌, ◌*◌, ◌/◌, ◌%◌, ◌^◌, ◌<◌, Bool, true, false, ◌&&◌, ltb, leb, eqb}
+use Rattle.std.specs.Prelude.{if◌then◌else◌, IsTrue}
 use Rattle.apfloat_model.specs.declared.kinds.NonfiniteBehavior.{NonfiniteBehavior}
 use Rattle.apfloat_model.specs.declared.kinds.NonfiniteBehavior.TheVariants.{IEEE754, NanOnly, NanNegativeZero}
 use Rattle.apfloat_model.specs.formats.Format.{Format, smallest_normalized, nan_base}

@@ -1,8 +1,7 @@
 -- The named data of a format.
 use Rattle.std.specs.Prelude.{Bool, false}
 use Rattle.apfloat_model.specs.formats.Format.{Format, smallest_normalized, largest, nan_base}
-use Rattle.apfloat_model.specs.formats.Datum.{Datum, finite}
-use Rattle.apfloat_model.specs.rounding.Rounding.{past_largest}
+use Rattle.apfloat_model.specs.{formats.Datum.Datum, formats.Datum.finite, rounding.Rounding.past_largest}
 
 abbrev pub zero_datum : Datum
 zero_datum = finite false 0

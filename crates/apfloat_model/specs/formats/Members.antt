@@ -4,9 +4,7 @@ use Rattle.apfloat_model.specs.declared.kinds.NonfiniteBehavior.{NonfiniteBehavi
 use Rattle.apfloat_model.specs.declared.kinds.NonfiniteBehavior.TheVariants.{IEEE754, NanOnly, NanNegativeZero}
 use Rattle.apfloat_model.specs.formats.Format.{Format, largest, nan_base_of}
 use Rattle.apfloat_model.specs.formats.Datum.{Datum, finite, infinite, nan}
-use Rattle.apfloat_model.specs.rounding.Grid.{IsOnGrid}
-use Rattle.apfloat_model.specs.rounding.Rounding.{zero_sign}
-use Rattle.apfloat_model.specs.formats.Nan.{nan_sign}
+use Rattle.apfloat_model.specs.{formats.Nan.nan_sign, rounding.Grid.IsOnGrid, rounding.Rounding.zero_sign}
 
 pub record IsFiniteOf (f : Format) (negative : Bool) (quanta : ℕ) : Type 0 where
   pub on_grid : IsOnGrid f.precision quanta

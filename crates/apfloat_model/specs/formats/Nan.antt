@@ -4,8 +4,7 @@ use Rattle.apfloat_model.specs.declared.kinds.NonfiniteBehavior.{NonfiniteBehavi
 use Rattle.apfloat_model.specs.declared.kinds.NonfiniteBehavior.TheVariants.{IEEE754, NanOnly, NanNegativeZero}
 use Rattle.apfloat_model.specs.formats.Format.{Format, nan_base, payload_mask, quiet_bits}
 use Rattle.apfloat_model.specs.formats.Datum.{Datum, finite, infinite, nan}
-use Rattle.apfloat_model.specs.rounding.Rounding.{ok_bits}
-use Rattle.apfloat_model.specs.rounding.Answer.{IsAnswer}
+use Rattle.apfloat_model.specs.rounding.{Rounding.ok_bits, Answer.IsAnswer}
 
 -- the flag of an invalid operation (7.2)
 abbrev pub invalid_bit : ℕ

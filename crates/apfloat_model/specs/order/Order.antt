@@ -3,8 +3,7 @@ use Rattle.std.specs.Prelude.{ℕ, Bool, ◌&&◌, ℤ, pos, Option, Some, None,
 use Rattle.std.specs.declared.cmp.Ordering.{Ordering}
 use Rattle.std.specs.Ordering.{nat_cmp, int_cmp, ordering_then, is_some_and, is_lt, is_eq}
 use Rattle.apfloat_model.specs.formats.Datum.{Datum, finite, infinite, nan}
-use Rattle.apfloat_model.specs.arithmetic.Exact.{signed}
-use Rattle.apfloat_model.specs.declared.kinds.Category.TheVariants.{Normal}
+use Rattle.apfloat_model.specs.{arithmetic.Exact.signed, declared.kinds.Category.TheVariants.Normal}
 use Rattle.apfloat_model.specs.order.Classes.{category_of, is_nan, is_zero, is_negative, quanta_of}
 
 -- whether a datum is below the numbers, among them, or above them

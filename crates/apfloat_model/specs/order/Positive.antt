@@ -1,8 +1,6 @@
 -- Positive values.
 use Rattle.std.specs.Prelude.{◌≡◌, ◌<◌, false}
-use Rattle.apfloat_model.specs.formats.Datum.{Datum, finite}
-use Rattle.apfloat_model.specs.formats.Format.{Format}
-use Rattle.apfloat_model.specs.formats.Members.{IsFiniteOf}
+use Rattle.apfloat_model.specs.formats.{Datum.Datum, Datum.finite, Format.Format, Members.IsFiniteOf}
 use Rattle.apfloat_model.specs.order.Classes.{quanta_of}
 
 -- a positive value of the format

@@ -2,12 +2,10 @@
 -- minima and maxima, from its order (5.3.1; 754-2019 9.6). On data they agree with the model:
 -- `proofs/order/PredicatesAgree.antt`.
 use Rattle.std.specs.Prelude.{Bool, true, false, not, ◌&&◌, Option, if◌then◌else◌}
-use Rattle.std.specs.declared.cmp.Ordering.{Ordering}
-use Rattle.std.specs.Ordering.{partial_lt}
+use Rattle.std.specs.{declared.cmp.Ordering.Ordering, Ordering.partial_lt}
 use Rattle.apfloat_model.specs.declared.kinds.Category.{Category}
 use Rattle.apfloat_model.specs.declared.kinds.Category.TheVariants.{Infinity, NaN, Normal, Zero}
-use Rattle.apfloat_model.specs.arithmetic.Exact.{same_sign}
-use Rattle.apfloat_model.specs.order.Classes.{is_nan_category}
+use Rattle.apfloat_model.specs.{arithmetic.Exact.same_sign, order.Classes.is_nan_category}
 
 abbrev pub is_infinite_category : Category → Bool
 is_infinite_category Infinity = true

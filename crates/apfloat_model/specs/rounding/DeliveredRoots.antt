@@ -3,12 +3,12 @@
 -- No root is computed here: a number is compared with the root by their squares. The root is that of an integer,
 -- `square`, divided by `parts`. The root of n quanta is the number of quanta whose square is n * 2 ^ scale, since the
 -- quantum is 2 ^ -scale; the root of a number of another format need not be that of an integer, so there are parts.
-use Rattle.std.specs.Prelude.{◌≡◌, ℕ, ◌+◌, ◌-◌, ◌*◌, ◌/◌, ◌%◌, ◌^◌, ◌≤◌, Bool, true, false, not, ◌&&◌, ◌||◌, ltb, leb, eqb, if◌then◌else◌}
+use Rattle.std.specs.Prelude.{◌≡◌, ℕ, ◌+◌, ◌-◌, ◌*◌, ◌/◌, ◌%◌, ◌^◌, ◌≤◌, Bool, true, false, not, ◌&&◌, ◌||◌, ltb, leb}
+use Rattle.std.specs.Prelude.{eqb, if◌then◌else◌}
 use Rattle.apfloat_model.specs.declared.kinds.Round.{Round}
-use Rattle.apfloat_model.specs.formats.Format.{Format, smallest_normalized, largest}
-use Rattle.apfloat_model.specs.formats.Datum.{Datum}
-use Rattle.apfloat_model.specs.rounding.Grid.{IsOnGrid}
-use Rattle.apfloat_model.specs.rounding.Rounding.{takes_above, ok_bits, overflow_bit, underflow_bit, inexact_bit, raises_overflow, delivered_value}
+use Rattle.apfloat_model.specs.formats.{Format.Format, Format.smallest_normalized, Format.largest, Datum.Datum}
+use Rattle.apfloat_model.specs.rounding.{Grid.IsOnGrid, Rounding.takes_above, Rounding.ok_bits, Rounding.overflow_bit}
+use Rattle.apfloat_model.specs.rounding.Rounding.{underflow_bit, inexact_bit, raises_overflow, delivered_value}
 
 -- the square of `point` times `parts`, which compares with `square` as the point with the root
 abbrev pub square_of : ℕ → ℕ → ℕ

@@ -1,7 +1,6 @@
 -- The bits of a status.
 use Rattle.std.specs.Prelude.{ℕ}
-use Rattle.apfloat_model.specs.declared.status.Status.{Status}
-use Rattle.apfloat_model.specs.declared.status.StatusAnd.{StatusAnd}
+use Rattle.apfloat_model.specs.declared.status.{Status.Status, StatusAnd.StatusAnd}
 
 abbrev pub bits_of : Status → ℕ
 bits_of status = status.0

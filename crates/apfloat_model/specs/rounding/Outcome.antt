@@ -1,14 +1,11 @@
 -- The exact result of an operation, before it is delivered in a mode.
 use Rattle.std.specs.Prelude.{ℕ, ◌<◌, ◌||◌, Bool, ℤ}
 use Rattle.apfloat_model.specs.declared.kinds.Round.{Round}
-use Rattle.apfloat_model.specs.formats.Format.{Format}
-use Rattle.apfloat_model.specs.formats.Datum.{Datum, nan}
+use Rattle.apfloat_model.specs.formats.{Format.Format, Datum.Datum, Datum.nan}
 use Rattle.apfloat_model.specs.formats.Nan.{invalid_bit, invalid_if, is_signaling, is_signaling_nan, quieted, qnan}
 use Rattle.apfloat_model.specs.arithmetic.Exact.{zero_sum_sign, IsRounded}
-use Rattle.apfloat_model.specs.rounding.Answer.{IsAnswer}
-use Rattle.apfloat_model.specs.rounding.RaisedFlags.{FlagsGoTogether}
-use Rattle.apfloat_model.specs.rounding.Rounding.{ok_bits, IsDelivered}
-use Rattle.apfloat_model.specs.rounding.DeliveredRoots.{IsDeliveredRoot}
+use Rattle.apfloat_model.specs.rounding.{Answer.IsAnswer, RaisedFlags.FlagsGoTogether, Rounding.ok_bits}
+use Rattle.apfloat_model.specs.rounding.{Rounding.IsDelivered, DeliveredRoots.IsDeliveredRoot}
 
 pub data Outcome : Type 0 where
   -- a datum with its flags, as they are

@@ -1,5 +1,6 @@
 -- What a significand and its loss state about a magnitude.
-use Rattle.std.specs.Prelude.{◌≡◌, ℕ, ◌+◌, ◌-◌, ◌*◌, ◌^◌, ◌<◌, ◌≤◌, ◌⊎◌, ℤ, pos, ◌+ℤ◌, ◌≤ℤ◌, Bool, not, ◌&&◌, if◌then◌else◌}
+use Rattle.std.specs.Prelude.{◌≡◌, ℕ, ◌+◌, ◌-◌, ◌*◌, ◌^◌, ◌<◌, ◌≤◌, ◌⊎◌, ℤ, pos, ◌+ℤ◌, ◌≤ℤ◌, Bool, not, ◌&&◌}
+use Rattle.std.specs.Prelude.{if◌then◌else◌}
 -- 2 to the power of an integer z is the fraction 2 ^ up z / 2 ^ down z
 pub use borrow.Author.Differences.{up, down}
 use Rattle.apfloat_model.specs.declared.loss.Loss.{Loss}

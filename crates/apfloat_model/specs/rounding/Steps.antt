@@ -1,10 +1,7 @@
 -- Chains of roundings: each step's result decides the next one.
 use Rattle.std.specs.Prelude.{◌≡◌, ℕ}
-use Rattle.apfloat_model.specs.declared.kinds.Round.{Round}
-use Rattle.apfloat_model.specs.formats.Format.{Format}
-use Rattle.apfloat_model.specs.formats.Datum.{Datum}
-use Rattle.apfloat_model.specs.rounding.RaisedFlags.{FlagsGoTogether}
-use Rattle.apfloat_model.specs.rounding.Outcome.{Outcome, Yields, IsSound}
+use Rattle.apfloat_model.specs.{declared.kinds.Round.Round, formats.Format.Format, formats.Datum.Datum}
+use Rattle.apfloat_model.specs.rounding.{RaisedFlags.FlagsGoTogether, Outcome.Outcome, Outcome.Yields, Outcome.IsSound}
 
 pub data Steps (A : Type 0) : Type 0 where
   -- a result with its flags

@@ -1,14 +1,10 @@
 -- Two results of the same operation on the same operands: in any two modes, and rounded downward and upward.
 use Rattle.std.specs.Prelude.{◌≡◌, ℕ, ◌⊎◌, true, false}
 use Rattle.std.specs.Bool.{Decides}
-use Rattle.apfloat_model.specs.declared.kinds.Round.{Round}
-use Rattle.apfloat_model.specs.declared.kinds.Round.TheVariants.{TowardPositive, TowardNegative}
-use Rattle.apfloat_model.specs.declared.status.StatusAnd.{StatusAnd}
-use Rattle.apfloat_model.specs.formats.Datum.{Datum}
-use Rattle.apfloat_model.specs.order.Classes.{is_nan, is_zero}
-use Rattle.apfloat_model.specs.order.Order.{is_equal, AtMost}
-use Rattle.apfloat_model.specs.rounding.Flags.{bits_of}
-use Rattle.apfloat_model.specs.rounding.Rounding.{ok_bits}
+use Rattle.apfloat_model.specs.declared.kinds.Round.{Round, TheVariants.TowardPositive, TheVariants.TowardNegative}
+use Rattle.apfloat_model.specs.{declared.status.StatusAnd.StatusAnd, formats.Datum.Datum}
+use Rattle.apfloat_model.specs.order.{Classes.is_nan, Classes.is_zero, Order.is_equal, Order.AtMost}
+use Rattle.apfloat_model.specs.rounding.{Flags.bits_of, Rounding.ok_bits}
 
 -- ---- in any two modes
 

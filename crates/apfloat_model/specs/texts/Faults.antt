@@ -1,7 +1,10 @@
 -- The first fault, from the left, of a text that has no meaning.
-use Rattle.std.specs.Prelude.{ℕ, Bool, not, ◌&&◌, ◌||◌, ltb, eqb, if◌then◌else◌, List, [], ◌∷◌, length, take, drop, filter, codes, Option, Some, None, is_some}
+use Rattle.std.specs.Prelude.{ℕ, Bool, not, ◌&&◌, ◌||◌, ltb, eqb, if◌then◌else◌, List, [], ◌∷◌, length, take, drop}
+use Rattle.std.specs.Prelude.{filter, codes, Option, Some, None, is_some}
 use Rattle.apfloat_model.specs.declared.parse_error.Fault.{Fault}
-use Rattle.apfloat_model.specs.declared.parse_error.Fault.TheVariants.{EmptyText, LoneMark, NoLiteral, LonePrefix, SecondDot, WrongInSignificand, NoDigits, WrongInExponent, NoExponentDigits, NoExponent}
+use Rattle.apfloat_model.specs.declared.parse_error.Fault.TheVariants.{EmptyText, LoneMark, NoLiteral, LonePrefix}
+use Rattle.apfloat_model.specs.declared.parse_error.Fault.TheVariants.{SecondDot, WrongInSignificand, NoDigits}
+use Rattle.apfloat_model.specs.declared.parse_error.Fault.TheVariants.{WrongInExponent, NoExponentDigits, NoExponent}
 use Rattle.apfloat_model.specs.texts.Digits.{same, every, begins, is_empty, run, after_run, is_decimal, is_hexadecimal}
 use Rattle.apfloat_model.specs.texts.Specials.{after_mark, special_of}
 

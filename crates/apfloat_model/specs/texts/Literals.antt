@@ -1,9 +1,7 @@
 -- The parts of a hexadecimal text after its prefix (IEEE 754-2019 5.12.3).
 use Rattle.std.specs.Prelude.{ℕ, ℤ, List, length, drop, filter}
-use Rattle.apfloat_model.specs.texts.Digits.{after_run, is_hexadecimal, number}
-use Rattle.apfloat_model.specs.texts.Specials.{mark_of, after_mark}
-use Rattle.apfloat_model.specs.texts.Texts.{marked}
-use Rattle.apfloat_model.specs.texts.Faults.{significand_of, after_significand}
+use Rattle.apfloat_model.specs.texts.{Texts.marked, Faults.significand_of, Faults.after_significand, Digits.after_run}
+use Rattle.apfloat_model.specs.texts.{Digits.is_hexadecimal, Digits.number, Specials.mark_of, Specials.after_mark}
 
 -- the digits on both sides of the dot, as one integer
 abbrev pub digits_number : List ℕ → ℕ

@@ -1,12 +1,8 @@
 -- What a function that reads a text returns (IEEE 754-2019 5.12).
 use Rattle.std.specs.Prelude.{ℕ, List, Result, Ok, Err}
-use Rattle.apfloat_model.specs.declared.kinds.Round.{Round}
-use Rattle.apfloat_model.specs.declared.parse_error.ParseError.{ParseError}
-use Rattle.apfloat_model.specs.declared.status.StatusAnd.{StatusAnd}
-use Rattle.apfloat_model.specs.rounding.Flags.{Gives}
-use Rattle.apfloat_model.specs.formats.Format.{Format}
-use Rattle.apfloat_model.specs.formats.Datum.{Datum}
-use Rattle.apfloat_model.specs.texts.Readings.{IsReading, IsRefusal}
+use Rattle.apfloat_model.specs.declared.{kinds.Round.Round, parse_error.ParseError.ParseError}
+use Rattle.apfloat_model.specs.{declared.status.StatusAnd.StatusAnd, rounding.Flags.Gives, formats.Format.Format}
+use Rattle.apfloat_model.specs.{formats.Datum.Datum, texts.Readings.IsReading, texts.Readings.IsRefusal}
 
 -- the value and the status of the text's meaning, or a refusal with the message for its first fault
 abbrev pub IsRead : Format → Round → List ℕ → Result (StatusAnd Datum) ParseError → Type 0

@@ -1,17 +1,11 @@
 -- The results of reading a text (IEEE 754-2019 5.12).
 use Rattle.std.specs.Prelude.{◌≡◌, ℕ, ◌*◌, ◌^◌, ℤ, pos, ◌+ℤ◌, ◌-ℤ◌, Bool, if◌then◌else◌, List, Some}
-use Rattle.apfloat_model.specs.declared.parse_error.Fault.{Fault}
-use Rattle.apfloat_model.specs.declared.kinds.Round.{Round}
-use Rattle.apfloat_model.specs.formats.Format.{Format}
-use Rattle.apfloat_model.specs.formats.Datum.{Datum, nan}
-use Rattle.apfloat_model.specs.rounding.Rounding.{IsDelivered, ok_bits}
-use Rattle.apfloat_model.specs.formats.Constants.{infinity_of}
-use Rattle.apfloat_model.specs.rounding.Answer.{IsAnswer}
-use Rattle.apfloat_model.specs.formats.Nan.{quiet_significand, signaling_significand, nan_sign}
-use Rattle.apfloat_model.specs.arithmetic.Exact.{up, down}
+use Rattle.apfloat_model.specs.{declared.parse_error.Fault.Fault, declared.kinds.Round.Round, formats.Format.Format}
+use Rattle.apfloat_model.specs.formats.{Datum.Datum, Datum.nan, Constants.infinity_of, Nan.quiet_significand}
+use Rattle.apfloat_model.specs.{formats.Nan.signaling_significand, formats.Nan.nan_sign, rounding.Rounding.IsDelivered}
+use Rattle.apfloat_model.specs.{rounding.Rounding.ok_bits, rounding.Answer.IsAnswer, arithmetic.Exact.up}
+use Rattle.apfloat_model.specs.{arithmetic.Exact.down, texts.Texts.Means, texts.Faults.words, texts.Faults.fault_of}
 use Rattle.apfloat_model.specs.texts.Specials.{TextMeaning, infinity, not_a_number, hexadecimal}
-use Rattle.apfloat_model.specs.texts.Texts.{Means}
-use Rattle.apfloat_model.specs.texts.Faults.{words, fault_of}
 
 abbrev pub read_nan : Format → Bool → Bool → ℕ → Datum
 read_nan f negative signaling payload =

@@ -1,10 +1,10 @@
 -- The texts of infinities and NaNs (IEEE 754-2019 5.12.1), and the meanings that a text can have.
-use Rattle.std.specs.Prelude.{ℕ, ◌-◌, ◌^◌, ℤ, Bool, true, false, ◌&&◌, ◌||◌, not, ltb, eqb, if◌then◌else◌, List, [], ◌∷◌, ◌++◌, length, take, drop, codes, Option, Some, None}
-use Rattle.apfloat_model.specs.declared.marks.Mark.{Mark}
-use Rattle.apfloat_model.specs.declared.marks.Mark.TheVariants.{Unmarked, Plus, Minus}
-use Rattle.apfloat_model.specs.declared.marks.Radix.{Radix}
-use Rattle.apfloat_model.specs.declared.marks.Radix.TheVariants.{Sixteen, Eight, Ten}
-use Rattle.apfloat_model.specs.texts.Digits.{same, every, begins, is_empty, is_decimal, is_octal, is_hexadecimal, number}
+use Rattle.std.specs.Prelude.{ℕ, ◌-◌, ◌^◌, ℤ, Bool, true, false, ◌&&◌, ◌||◌, not, ltb, eqb, if◌then◌else◌, List, []}
+use Rattle.std.specs.Prelude.{◌∷◌, ◌++◌, length, take, drop, codes, Option, Some, None}
+use Rattle.apfloat_model.specs.declared.marks.Mark.{Mark, TheVariants.Unmarked, TheVariants.Plus, TheVariants.Minus}
+use Rattle.apfloat_model.specs.declared.marks.Radix.{Radix, TheVariants.Sixteen, TheVariants.Eight, TheVariants.Ten}
+use Rattle.apfloat_model.specs.texts.Digits.{same, every, begins, is_empty, is_decimal, is_octal, is_hexadecimal}
+use Rattle.apfloat_model.specs.texts.Digits.{number}
 
 -- negative; negative, signaling and payload; negative and h, f, e of h * 2 ^ (e - 4 * f)
 pub data TextMeaning : Type 0 where

@@ -1,9 +1,9 @@
 -- What texts mean (IEEE 754-2019 5.12).
 use Rattle.std.specs.Prelude.{◌≡◌, ◌⊎◌, ℕ, ◌≤◌, ℤ, pos, neg_ℤ, IsTrue, List, [], ◌++◌, length, codes, Some}
-use Rattle.apfloat_model.specs.declared.marks.Mark.{Mark}
-use Rattle.apfloat_model.specs.declared.marks.Mark.TheVariants.{Unmarked, Plus, Minus}
+use Rattle.apfloat_model.specs.declared.marks.Mark.{Mark, TheVariants.Unmarked, TheVariants.Plus, TheVariants.Minus}
 use Rattle.apfloat_model.specs.texts.Digits.{every, is_decimal, is_hexadecimal, number}
-use Rattle.apfloat_model.specs.texts.Specials.{TextMeaning, infinity, not_a_number, hexadecimal, mark_of, after_mark, is_minus, special_of}
+use Rattle.apfloat_model.specs.texts.Specials.{TextMeaning, infinity, not_a_number, hexadecimal, mark_of, after_mark}
+use Rattle.apfloat_model.specs.texts.Specials.{is_minus, special_of}
 
 -- an integer with the sign of its mark
 abbrev pub marked : Mark → ℕ → ℤ

@@ -1,7 +1,6 @@
 -- From integers, and rounding to an integer (IEEE 754-2019 5.4.1 convertFromInt, 5.3.1 and 5.9 roundToIntegral).
 use Rattle.std.specs.Prelude.{ℕ, ◌+◌, ◌*◌, ◌/◌, ◌%◌, ◌^◌, Bool, false, eqb, ℤ, if◌then◌else◌}
-use Rattle.apfloat_model.specs.declared.kinds.Round.{Round}
-use Rattle.apfloat_model.specs.formats.Format.{Format}
+use Rattle.apfloat_model.specs.{declared.kinds.Round.Round, formats.Format.Format}
 use Rattle.apfloat_model.specs.formats.Datum.{Datum, finite, infinite, nan}
 use Rattle.apfloat_model.specs.rounding.Rounding.{ok_bits, inexact_bit, pick_between, signed_quanta}
 use Rattle.apfloat_model.specs.rounding.Outcome.{Outcome, settled, rounded, exactly, of_nan, Yields}

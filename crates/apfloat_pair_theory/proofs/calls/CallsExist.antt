@@ -1,28 +1,27 @@
 -- Joins, splits and the calls in the wide format have results.
 use Rattle.std.proofs.Common.{◌≡◌, ℕ, ◌*◌, ◌^◌, ◌<◌, Bool, false, not, ◌||◌, eqb, refl, lit<}
-use Rattle.std.specs.Prelude.{ℤ, pos, unsigned_abs, int_lt}
 use Rattle.std.proofs.lemmas.Nat.{pow_pos}
-use Rattle.apfloat_model.specs.declared.kinds.Round.{Round}
-use Rattle.apfloat_model.specs.declared.kinds.Round.TheVariants.{NearestTiesToEven}
-use Rattle.apfloat_model.specs.formats.Format.{Format}
-use Rattle.apfloat_model.specs.formats.Datum.{Datum, finite, infinite, nan}
-use Rattle.apfloat_model.specs.rounding.Rounding.{ok_bits}
-use Rattle.apfloat_model.specs.rounding.Negation.{swapped}
-use Rattle.apfloat_model.specs.order.Classes.{is_finite_non_zero, is_denormal}
-use Rattle.apfloat_model.specs.order.Order.{is_equal}
+use Rattle.std.specs.Prelude.{ℤ, pos, unsigned_abs, int_lt}
+use Rattle.apfloat_model.specs.declared.kinds.Round.{Round, TheVariants.NearestTiesToEven}
+use Rattle.apfloat_model.specs.formats.{Format.Format, Datum.Datum, Datum.finite, Datum.infinite, Datum.nan}
+use Rattle.apfloat_model.specs.rounding.{Rounding.ok_bits, Negation.swapped}
+use Rattle.apfloat_model.specs.order.{Classes.is_finite_non_zero, Classes.is_denormal, Order.is_equal}
 use Rattle.apfloat_model.specs.arithmetic.Conversions.{IsConverted, IsConvertedNumber, IsConversion}
-use Rattle.apfloat_model.specs.arithmetic.Quotients.{IsQuotient}
-use Rattle.apfloat_model.specs.arithmetic.Remainders.{IsTruncatedRemainder, IsNearestRemainder, truncated_quotient, nearest_quotient}
-use Rattle.apfloat_model.specs.whole_numbers.WholeNumbers.{IsFromUnsigned, IsRoundToIntegral}
+use Rattle.apfloat_model.specs.arithmetic.{Quotients.IsQuotient, Remainders.IsTruncatedRemainder}
+use Rattle.apfloat_model.specs.arithmetic.Remainders.{IsNearestRemainder, truncated_quotient, nearest_quotient}
 use Rattle.apfloat_model.specs.arithmetic.NextUp.{IsNextUp}
+use Rattle.apfloat_model.specs.whole_numbers.WholeNumbers.{IsFromUnsigned, IsRoundToIntegral}
 use Rattle.apfloat_model.proofs.rounding.Laws.{delivered_exists}
-use Rattle.apfloat_model.proofs.AnswersExist.{HasAnswer, sum_exists, quotient_exists, scaling_exists, round_to_integral_exists, remainder_exists, next_up_exists}
+use Rattle.apfloat_model.proofs.AnswersExist.{HasAnswer, sum_exists, quotient_exists, scaling_exists}
+use Rattle.apfloat_model.proofs.AnswersExist.{round_to_integral_exists, remainder_exists, next_up_exists}
 use Rattle.apfloat_model.proofs.general.Choices.{match_one, match_case, match_three}
-use Rattle.apfloat_pair_theory.specs.PairFormats.{double, wide}
-use Rattle.apfloat_pair_theory.specs.Pairs.{Pair, negated_pair, IsWidened, IsSumOfParts, IsJoined, low_part, IsSplit, IsSplitAnswer, IsWideAnswer, IsWideAnswerOfTwo}
-use Rattle.apfloat_pair_theory.specs.PairParts.{IsDenormalByParts, IsDenormalPair, IsPairScaling}
-use Rattle.apfloat_pair_theory.specs.PairCalls.{IsPairQuotient, IsPairTruncatedRemainder, IsPairNearestRemainder, IsPairRoundToIntegral, IsPairNextUp, IsPairNextDown, IsPairFromUnsigned, IsPairFromNegative, IsPairFromSigned}
-use Rattle.apfloat_pair_theory.specs.PairAnswers.{HasPairAnswer}
+use Rattle.apfloat_pair_theory.specs.{PairFormats.double, PairFormats.wide, Pairs.Pair, Pairs.negated_pair}
+use Rattle.apfloat_pair_theory.specs.Pairs.{IsWidened, IsSumOfParts, IsJoined, low_part, IsSplit, IsSplitAnswer}
+use Rattle.apfloat_pair_theory.specs.{Pairs.IsWideAnswer, Pairs.IsWideAnswerOfTwo, PairParts.IsDenormalByParts}
+use Rattle.apfloat_pair_theory.specs.{PairParts.IsDenormalPair, PairParts.IsPairScaling, PairCalls.IsPairQuotient}
+use Rattle.apfloat_pair_theory.specs.PairCalls.{IsPairTruncatedRemainder, IsPairNearestRemainder, IsPairRoundToIntegral}
+use Rattle.apfloat_pair_theory.specs.PairCalls.{IsPairNextUp, IsPairNextDown, IsPairFromUnsigned, IsPairFromNegative}
+use Rattle.apfloat_pair_theory.specs.{PairCalls.IsPairFromSigned, PairAnswers.HasPairAnswer}
 
 -- both formats have digits
 some_double : 0 < double.precision

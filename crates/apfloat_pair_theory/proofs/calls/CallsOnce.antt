@@ -1,32 +1,31 @@
 -- The calls by parts and in the wide format determine their results.
-use Rattle.std.proofs.Common.{◌≡◌, ℕ, ◌-◌, ◌^◌, ◌<◌, ◌≤◌, ◌∙◌, Bool, true, false, not, ◌||◌, refl, sym, ap, subst, ⊎_elim, lit<}
+use Rattle.std.proofs.Common.{◌≡◌, ℕ, ◌-◌, ◌^◌, ◌<◌, ◌≤◌, ◌∙◌, Bool, true, false, not, ◌||◌, refl, sym, ap, subst}
+use Rattle.std.proofs.{Common.⊎_elim, Common.lit<, lemmas.Bool.cases_lt}
 use Rattle.std.specs.Prelude.{ℤ, pos, neg_ℤ, unsigned_abs, int_lt, List, Option, Some, None}
 use Rattle.std.specs.Bool.{MatchBool}
-use Rattle.std.proofs.lemmas.Bool.{cases_lt}
-use Rattle.apfloat_model.specs.declared.kinds.Round.{Round}
-use Rattle.apfloat_model.specs.declared.kinds.Round.TheVariants.{NearestTiesToEven}
-use Rattle.apfloat_model.specs.formats.Datum.{Datum}
-use Rattle.apfloat_model.specs.rounding.Negation.{swapped}
-use Rattle.apfloat_model.specs.order.Classes.{is_negative, is_zero, is_finite_non_zero, is_denormal}
-use Rattle.apfloat_model.specs.order.Order.{is_equal}
-use Rattle.apfloat_model.specs.arithmetic.Quotients.{IsQuotient}
-use Rattle.apfloat_model.specs.arithmetic.Remainders.{IsTruncatedRemainder, IsNearestRemainder, truncated_quotient, nearest_quotient}
+use Rattle.apfloat_model.specs.declared.kinds.Round.{Round, TheVariants.NearestTiesToEven}
+use Rattle.apfloat_model.specs.{formats.Datum.Datum, rounding.Negation.swapped, order.Classes.is_negative}
+use Rattle.apfloat_model.specs.order.{Classes.is_zero, Classes.is_finite_non_zero, Classes.is_denormal, Order.is_equal}
+use Rattle.apfloat_model.specs.arithmetic.{Quotients.IsQuotient, Remainders.IsTruncatedRemainder}
+use Rattle.apfloat_model.specs.arithmetic.Remainders.{IsNearestRemainder, truncated_quotient, nearest_quotient}
+use Rattle.apfloat_model.specs.arithmetic.{Scaling.IsScaling, Exponents.IsExactInverse, NextUp.IsNextUp}
 use Rattle.apfloat_model.specs.whole_numbers.WholeNumbers.{IsFromUnsigned, IsRoundToIntegral}
 use Rattle.apfloat_model.specs.whole_numbers.WholeNumbersOut.{to_unsigned, IsToUnsigned}
-use Rattle.apfloat_model.specs.whole_numbers.SignedWholes.{IsNegatedWhole}
-use Rattle.apfloat_model.specs.arithmetic.Scaling.{IsScaling}
-use Rattle.apfloat_model.specs.arithmetic.Exponents.{IsExactInverse}
-use Rattle.apfloat_model.specs.texts.Readings.{IsReading}
-use Rattle.apfloat_model.specs.arithmetic.NextUp.{IsNextUp}
-use Rattle.apfloat_model.proofs.Once.{sum_once, quotient_once, remainder_once, scaling_once, from_unsigned_once, round_to_integral_once, whole_once, next_up_once}
+use Rattle.apfloat_model.specs.{whole_numbers.SignedWholes.IsNegatedWhole, texts.Readings.IsReading}
+use Rattle.apfloat_model.proofs.Once.{sum_once, quotient_once, remainder_once, scaling_once, from_unsigned_once}
+use Rattle.apfloat_model.proofs.Once.{round_to_integral_once, whole_once, next_up_once}
 use Rattle.apfloat_model.proofs.Determined.{exponent_once, frexp_once, exact_inverse_once, reading_once}
 use Rattle.apfloat_model.proofs.general.Choices.{match_one, match_case, match_three}
 use Rattle.apfloat_pair_theory.specs.PairFormats.{double, wide}
-use Rattle.apfloat_pair_theory.specs.Pairs.{Pair, negated_pair}
-use Rattle.apfloat_pair_theory.specs.PairAnswers.{OncePair}
-use Rattle.apfloat_pair_theory.specs.PairParts.{IsPairIlogb, IsDenormalByParts, IsDenormalPair, IsPairScaling, IsPairFraction}
-use Rattle.apfloat_pair_theory.specs.PairCalls.{IsPairQuotient, IsPairTruncatedRemainder, IsPairNearestRemainder, IsPairRoundToIntegral, IsPairNextUp, IsPairNextDown, IsSplitOption, IsPairExactInverse, IsPairReading, IsPairFromUnsigned, IsPairFromNegative, IsPairFromSigned, IsPairToUnsigned, IsPairToNegative, IsPairToNatural, IsPairToSigned}
-use Rattle.apfloat_pair_theory.proofs.calls.PairsOnce.{parts_same, joined_once, split_once, split_answer_once, wide_answer_once, wide_answer_of_two_once}
+use Rattle.apfloat_pair_theory.specs.{Pairs.Pair, Pairs.negated_pair, PairAnswers.OncePair, PairParts.IsPairIlogb}
+use Rattle.apfloat_pair_theory.specs.PairParts.{IsDenormalByParts, IsDenormalPair, IsPairScaling, IsPairFraction}
+use Rattle.apfloat_pair_theory.specs.PairCalls.{IsPairQuotient, IsPairTruncatedRemainder, IsPairNearestRemainder}
+use Rattle.apfloat_pair_theory.specs.PairCalls.{IsPairRoundToIntegral, IsPairNextUp, IsPairNextDown, IsSplitOption}
+use Rattle.apfloat_pair_theory.specs.PairCalls.{IsPairExactInverse, IsPairReading, IsPairFromUnsigned}
+use Rattle.apfloat_pair_theory.specs.PairCalls.{IsPairFromNegative, IsPairFromSigned, IsPairToUnsigned}
+use Rattle.apfloat_pair_theory.specs.PairCalls.{IsPairToNegative, IsPairToNatural, IsPairToSigned}
+use Rattle.apfloat_pair_theory.proofs.calls.PairsOnce.{parts_same, joined_once, split_once, split_answer_once}
+use Rattle.apfloat_pair_theory.proofs.calls.PairsOnce.{wide_answer_once, wide_answer_of_two_once}
 
 -- ---- in the wide format
 

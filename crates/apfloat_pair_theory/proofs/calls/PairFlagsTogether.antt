@@ -1,28 +1,27 @@
 -- OVERFLOW and UNDERFLOW are raised only together with INEXACT, by each operation on pairs.
 use Rattle.std.proofs.Common.{ℕ, ◌-◌, Bool}
 use Rattle.std.specs.Prelude.{ℤ, pos, unsigned_abs, int_lt, List}
-use Rattle.apfloat_model.specs.declared.kinds.Round.{Round}
-use Rattle.apfloat_model.specs.formats.Datum.{Datum}
-use Rattle.apfloat_model.specs.rounding.Negation.{swapped}
-use Rattle.apfloat_model.specs.rounding.RaisedFlags.{FlagsGoTogether}
-use Rattle.apfloat_model.specs.order.Classes.{is_negative, is_zero}
-use Rattle.apfloat_model.specs.arithmetic.Quotients.{IsQuotient}
-use Rattle.apfloat_model.specs.arithmetic.Roots.{IsRoot}
-use Rattle.apfloat_model.specs.arithmetic.Remainders.{IsTruncatedRemainder, IsNearestRemainder, truncated_quotient, nearest_quotient}
-use Rattle.apfloat_model.specs.arithmetic.NextUp.{IsNextUp}
-use Rattle.apfloat_model.specs.whole_numbers.WholeNumbers.{IsFromUnsigned, IsRoundToIntegral}
-use Rattle.apfloat_model.specs.texts.Readings.{IsReading}
+use Rattle.apfloat_model.specs.{declared.kinds.Round.Round, formats.Datum.Datum, rounding.Negation.swapped}
+use Rattle.apfloat_model.specs.{rounding.RaisedFlags.FlagsGoTogether, order.Classes.is_negative, order.Classes.is_zero}
+use Rattle.apfloat_model.specs.arithmetic.{Quotients.IsQuotient, Roots.IsRoot, Remainders.IsTruncatedRemainder}
+use Rattle.apfloat_model.specs.arithmetic.Remainders.{IsNearestRemainder, truncated_quotient, nearest_quotient}
+use Rattle.apfloat_model.specs.{arithmetic.NextUp.IsNextUp, whole_numbers.WholeNumbers.IsFromUnsigned}
+use Rattle.apfloat_model.specs.{whole_numbers.WholeNumbers.IsRoundToIntegral, texts.Readings.IsReading}
 use Rattle.apfloat_model.proofs.general.Choices.{match_case, match_three}
-use Rattle.apfloat_model.proofs.rounding.FlagsTogether.{Together, quotient_together, root_together, remainder_together, round_to_integral_together, next_up_together, reading_together, from_unsigned_together, to_unsigned_together, negated_whole_together}
+use Rattle.apfloat_model.proofs.rounding.FlagsTogether.{Together, quotient_together, root_together, remainder_together}
+use Rattle.apfloat_model.proofs.rounding.FlagsTogether.{round_to_integral_together, next_up_together, reading_together}
+use Rattle.apfloat_model.proofs.rounding.FlagsTogether.{from_unsigned_together, to_unsigned_together}
+use Rattle.apfloat_model.proofs.{rounding.FlagsTogether.negated_whole_together, Steps.leads_together}
 use Rattle.apfloat_pair_theory.specs.PairFormats.{double, wide}
 use Rattle.apfloat_pair_theory.specs.Pairs.{Pair, negated_pair, IsSplitAnswer, IsWideAnswer, IsWideAnswerOfTwo}
-use Rattle.apfloat_model.proofs.Steps.{leads_together}
-use Rattle.apfloat_pair_theory.proofs.sums.SumsSound.{pair_sum_sound}
-use Rattle.apfloat_pair_theory.proofs.products.ProductsSound.{pair_product_sound}
 use Rattle.apfloat_pair_theory.specs.PairSums.{pair_sum, IsPairSum, IsPairDifference}
 use Rattle.apfloat_pair_theory.specs.PairProducts.{pair_product, IsPairProduct}
-use Rattle.apfloat_pair_theory.specs.PairCalls.{IsPairQuotient, IsPairTruncatedRemainder, IsPairNearestRemainder, IsPairRoundToIntegral, IsPairNextUp, IsPairNextDown, IsPairReading, IsPairFromUnsigned, IsPairFromNegative, IsPairFromSigned, IsPairToUnsigned, IsPairToNegative, IsPairToNatural, IsPairToSigned}
+use Rattle.apfloat_pair_theory.specs.PairCalls.{IsPairQuotient, IsPairTruncatedRemainder, IsPairNearestRemainder}
+use Rattle.apfloat_pair_theory.specs.PairCalls.{IsPairRoundToIntegral, IsPairNextUp, IsPairNextDown, IsPairReading}
+use Rattle.apfloat_pair_theory.specs.PairCalls.{IsPairFromUnsigned, IsPairFromNegative, IsPairFromSigned}
+use Rattle.apfloat_pair_theory.specs.PairCalls.{IsPairToUnsigned, IsPairToNegative, IsPairToNatural, IsPairToSigned}
 use Rattle.apfloat_pair_theory.specs.PairRoots.{IsPairRoot}
+use Rattle.apfloat_pair_theory.proofs.{sums.SumsSound.pair_sum_sound, products.ProductsSound.pair_product_sound}
 
 -- ---- chains of steps
 

@@ -1,21 +1,27 @@
 -- The calls on pairs determine their results.
 use Rattle.std.proofs.Common.{ℕ, Bool, List, Result, Ok, Err}
-use Rattle.apfloat_model.specs.declared.kinds.Round.{Round}
-use Rattle.apfloat_model.specs.declared.parse_error.ParseError.{ParseError}
-use Rattle.apfloat_model.specs.declared.status.StatusAnd.{StatusAnd}
-use Rattle.apfloat_model.specs.rounding.Flags.{Gives, bits_of}
+use Rattle.apfloat_model.specs.declared.{kinds.Round.Round, parse_error.ParseError.ParseError}
+use Rattle.apfloat_model.specs.{declared.status.StatusAnd.StatusAnd, rounding.Flags.Gives, rounding.Flags.bits_of}
 use Rattle.apfloat_model.specs.Determined.{Determines, DeterminesBoth, AreOneReading, IsDetermined}
 use Rattle.apfloat_model.proofs.Determined.{same_answer, refusal_once, reading_or_refusal}
 use Rattle.apfloat_model.proofs.Steps.{leads_once}
 use Rattle.apfloat_pair_theory.specs.PairFormats.{double, wide}
-use Rattle.apfloat_pair_theory.specs.Pairs.{Pair, negated_pair, IsPairEncodedBy}
-use Rattle.apfloat_pair_theory.specs.PairAnswers.{OncePair}
+use Rattle.apfloat_pair_theory.specs.{Pairs.Pair, Pairs.negated_pair, Pairs.IsPairEncodedBy, PairAnswers.OncePair}
 use Rattle.apfloat_pair_theory.specs.PairSums.{pair_sum, IsPairSum, IsPairDifference}
 use Rattle.apfloat_pair_theory.specs.PairProducts.{pair_product, IsPairProduct}
 use Rattle.apfloat_pair_theory.specs.PairParts.{IsPairIlogb, IsPairScaling, IsPairFraction}
-use Rattle.apfloat_pair_theory.specs.PairCalls.{IsPairQuotient, IsPairTruncatedRemainder, IsPairNearestRemainder, IsPairRoundToIntegral, IsPairNextUp, IsPairNextDown, IsPairExactInverse, IsPairReading, IsPairRead, IsPairFromUnsigned, IsPairFromSigned, IsPairToUnsigned, IsPairToSigned}
+use Rattle.apfloat_pair_theory.specs.PairCalls.{IsPairQuotient, IsPairTruncatedRemainder, IsPairNearestRemainder}
+use Rattle.apfloat_pair_theory.specs.PairCalls.{IsPairRoundToIntegral, IsPairNextUp, IsPairNextDown, IsPairExactInverse}
+use Rattle.apfloat_pair_theory.specs.PairCalls.{IsPairReading, IsPairRead, IsPairFromUnsigned, IsPairFromSigned}
+use Rattle.apfloat_pair_theory.specs.PairCalls.{IsPairToUnsigned, IsPairToSigned}
 use Rattle.apfloat_pair_theory.proofs.pairs.PairBits.{pair_encoded_once}
-use Rattle.apfloat_pair_theory.proofs.calls.CallsOnce.{OnceWhole, pair_quotient_once, pair_truncated_remainder_once, pair_nearest_remainder_once, pair_round_to_integral_once, pair_next_up_once, pair_next_down_once, pair_reading_once, pair_exact_inverse_once, pair_from_unsigned_once, pair_from_signed_once, pair_to_unsigned_once, pair_to_signed_once, pair_ilogb_once, pair_scaling_once, pair_fraction_once}
+use Rattle.apfloat_pair_theory.proofs.calls.CallsOnce.{OnceWhole, pair_quotient_once, pair_truncated_remainder_once}
+use Rattle.apfloat_pair_theory.proofs.calls.CallsOnce.{pair_nearest_remainder_once, pair_round_to_integral_once}
+use Rattle.apfloat_pair_theory.proofs.calls.CallsOnce.{pair_next_up_once, pair_next_down_once, pair_reading_once}
+use Rattle.apfloat_pair_theory.proofs.calls.CallsOnce.{pair_exact_inverse_once, pair_from_unsigned_once}
+use Rattle.apfloat_pair_theory.proofs.calls.CallsOnce.{pair_from_signed_once, pair_to_unsigned_once}
+use Rattle.apfloat_pair_theory.proofs.calls.CallsOnce.{pair_to_signed_once, pair_ilogb_once, pair_scaling_once}
+use Rattle.apfloat_pair_theory.proofs.calls.CallsOnce.{pair_fraction_once}
 
 -- a relation that determines the pair and the status bits determines the pair and the status
 pair_gives_once : (Says : Pair → ℕ → Type 0) → OncePair Says

@@ -1,14 +1,11 @@
 -- Joins and splits, and the calls in the wide format, determine their results.
 use Rattle.std.proofs.Common.{◌≡◌, ℕ, ◌∙◌, sym, ap, subst}
-use Rattle.apfloat_model.specs.declared.kinds.Round.TheVariants.{NearestTiesToEven}
-use Rattle.apfloat_model.specs.formats.Datum.{Datum}
-use Rattle.apfloat_model.specs.order.Classes.{is_finite_non_zero}
-use Rattle.apfloat_model.specs.arithmetic.Sums.{IsSum}
-use Rattle.apfloat_model.proofs.Once.{Once, sum_once, conversion_once}
-use Rattle.apfloat_model.proofs.general.Choices.{match_one}
+use Rattle.apfloat_model.specs.{declared.kinds.Round.TheVariants.NearestTiesToEven, formats.Datum.Datum}
+use Rattle.apfloat_model.specs.{order.Classes.is_finite_non_zero, arithmetic.Sums.IsSum}
+use Rattle.apfloat_model.proofs.{Once.Once, Once.sum_once, Once.conversion_once, general.Choices.match_one}
 use Rattle.apfloat_pair_theory.specs.PairFormats.{double, wide}
-use Rattle.apfloat_pair_theory.specs.Pairs.{Pair, IsWidened, IsSumOfParts, IsJoined, low_part, IsSplit, IsSplitAnswer, IsWideAnswer, IsWideAnswerOfTwo}
-use Rattle.apfloat_pair_theory.specs.PairAnswers.{OncePair}
+use Rattle.apfloat_pair_theory.specs.Pairs.{Pair, IsWidened, IsSumOfParts, IsJoined, low_part, IsSplit, IsSplitAnswer}
+use Rattle.apfloat_pair_theory.specs.{Pairs.IsWideAnswer, Pairs.IsWideAnswerOfTwo, PairAnswers.OncePair}
 
 -- pairs with equal parts are equal
 pub parts_same : (pair other : Pair) → pair.high ≡ other.high → pair.low ≡ other.low → pair ≡ other

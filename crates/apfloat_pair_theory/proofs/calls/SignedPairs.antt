@@ -1,17 +1,15 @@
 -- Conversions of signed integers and pairs, from the unsigned conversions of magnitudes.
 use Rattle.std.proofs.Common.{◌≡◌, ℕ, zero, suc, ◌-◌, ◌<◌, Bool, true, false, refl, subst, arith}
-use Rattle.std.specs.Prelude.{ℤ, pos, neg_ℤ, int_lt}
 use Rattle.std.proofs.lemmas.Int.{ints}
-use Rattle.apfloat_model.specs.declared.kinds.Round.{Round}
-use Rattle.apfloat_model.specs.rounding.Negation.{swapped}
+use Rattle.std.specs.Prelude.{ℤ, pos, neg_ℤ, int_lt}
+use Rattle.apfloat_model.specs.{declared.kinds.Round.Round, rounding.Negation.swapped}
 use Rattle.apfloat_model.specs.order.Classes.{category_of, is_negative}
-use Rattle.apfloat_model.specs.order.Predicates.{is_zero_category}
-use Rattle.apfloat_model.proofs.order.PredicatesAgree.{zero_agrees}
-use Rattle.apfloat_model.proofs.general.Choices.{match_true, match_false}
-use Rattle.apfloat_model.proofs.whole_numbers.SignedTests.{less_not}
-use Rattle.apfloat_model.specs.whole_numbers.SignedWholes.{IsNegatedWhole}
+use Rattle.apfloat_model.specs.{order.Predicates.is_zero_category, whole_numbers.SignedWholes.IsNegatedWhole}
+use Rattle.apfloat_model.proofs.{order.PredicatesAgree.zero_agrees, general.Choices.match_true}
+use Rattle.apfloat_model.proofs.{general.Choices.match_false, whole_numbers.SignedTests.less_not}
 use Rattle.apfloat_pair_theory.specs.Pairs.{Pair, negated_pair}
-use Rattle.apfloat_pair_theory.specs.PairCalls.{IsPairFromUnsigned, IsPairFromNegative, IsPairFromSigned, IsPairToUnsigned, IsPairToNegative, IsPairToNatural, IsPairToSigned}
+use Rattle.apfloat_pair_theory.specs.PairCalls.{IsPairFromUnsigned, IsPairFromNegative, IsPairFromSigned}
+use Rattle.apfloat_pair_theory.specs.PairCalls.{IsPairToUnsigned, IsPairToNegative, IsPairToNatural, IsPairToSigned}
 
 -- a natural number is not below 0
 not_below : (n : ℕ) → int_lt (pos n) (pos 0) ≡ false

@@ -1,16 +1,13 @@
 -- The error of a rounded fraction: at most half a unit in the last place, or half a quantum.
 use Rattle.std.proofs.Common.{◌≡◌, ℕ, ◌+◌, ◌-◌, ◌*◌, ◌/◌, ◌^◌, ◌<◌, ◌≤◌, ◌⊎◌, inl, inr, sym, ap, subst, arith}
-use Rattle.std.specs.Prelude.{ℤ, pos, ◌-ℤ◌, ◌*ℤ◌, false}
 use Rattle.std.proofs.Math.Nat.{mul-le-mul_right, mul-le-mul_left}
-use Rattle.apfloat_model.specs.rounding.Grid.{IsOnGrid}
+use Rattle.std.specs.Prelude.{ℤ, pos, ◌-ℤ◌, ◌*ℤ◌, false}
+use Rattle.apfloat_model.specs.rounding.{Grid.IsOnGrid, Enclosure.IsEnclosed}
 use Rattle.apfloat_model.specs.arithmetic.Exact.{magnitude, signed, sign_of}
-use Rattle.apfloat_model.specs.rounding.Enclosure.{IsEnclosed}
-use Rattle.apfloat_model.proofs.rounding.NeighboursExist.{enclosed_at}
-use Rattle.apfloat_model.proofs.rounding.Neighbours.{multiple_on_grid, next_on_grid}
-use Rattle.apfloat_model.proofs.general.Powers.{twice_half}
-use Rattle.apfloat_model.proofs.arithmetic.Signs.{magnitude_signed}
+use Rattle.apfloat_model.proofs.{rounding.Neighbours.next_on_grid, general.Powers.twice_half}
+use Rattle.apfloat_model.proofs.{arithmetic.Signs.magnitude_signed, whole_numbers.SignedProducts.magnitude-times}
+use Rattle.apfloat_model.proofs.rounding.{NeighboursExist.enclosed_at, Neighbours.multiple_on_grid}
 use Rattle.apfloat_pair_theory.proofs.numbers.Signed.{grown, on_grid_as}
-use Rattle.apfloat_model.proofs.whole_numbers.SignedProducts.{magnitude-times}
 use Rattle.apfloat_pair_theory.proofs.numbers.Roundings.{apart, signed_exact, signed_away, IsNearestFraction}
 
 -- z quanta differ from exact / parts quanta by at most 2 ^ -precision of these plus half a quantum

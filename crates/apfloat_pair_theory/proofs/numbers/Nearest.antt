@@ -1,19 +1,15 @@
 -- A grid number nearest to an integer, whichever way ties go; the error of a rounded sum, and exact subtractions.
 use Rattle.std.proofs.Common.{◌≡◌, ℕ, ◌+◌, ◌-◌, ◌*◌, ◌/◌, ◌^◌, ◌<◌, ◌≤◌, ◌⊎◌, sym, ap, inl, inr, ⊎_elim, arith, lit<}
-use Rattle.std.specs.Prelude.{ℤ, pos, negsuc, ◌+ℤ◌, ◌-ℤ◌, ◌≤ℤ◌, neg_ℤ}
 use Rattle.std.proofs.Math.Nat.{mul-le-mul_right, mul-le-mul_left}
-use Rattle.std.proofs.lemmas.Nat.{pow_pos}
-use Rattle.std.proofs.lemmas.Bool.{cases_lt}
-use Rattle.std.proofs.lemmas.Int.{ints}
-use Rattle.apfloat_model.specs.rounding.Grid.{IsOnGrid}
-use Rattle.apfloat_model.specs.arithmetic.Exact.{magnitude}
+use Rattle.std.proofs.lemmas.{Nat.pow_pos, Bool.cases_lt, Int.ints}
+use Rattle.std.specs.Prelude.{ℤ, pos, negsuc, ◌+ℤ◌, ◌-ℤ◌, ◌≤ℤ◌, neg_ℤ}
+use Rattle.apfloat_model.specs.{rounding.Grid.IsOnGrid, rounding.Enclosure.IsEnclosed, arithmetic.Exact.magnitude}
+use Rattle.apfloat_model.proofs.{rounding.Laws.zero_on_grid, general.Powers.twice_half, arithmetic.Signs.one_side}
 use Rattle.apfloat_model.proofs.rounding.NeighboursExist.{enclosed_at}
-use Rattle.apfloat_model.specs.rounding.Enclosure.{IsEnclosed}
 use Rattle.apfloat_model.proofs.rounding.Neighbours.{multiple_on_grid, next_on_grid}
-use Rattle.apfloat_model.proofs.general.Powers.{twice_half}
-use Rattle.apfloat_model.proofs.arithmetic.Signs.{one_side}
-use Rattle.apfloat_model.proofs.rounding.Laws.{zero_on_grid}
-use Rattle.apfloat_pair_theory.proofs.numbers.Signed.{IsMultiple, sum_multiple, difference_multiple, finer_multiple, coarse_multiple, grid_bound_at, on_grid_from, bound_on_grid, neg_on_grid, IsGridNumber, on_grid_as, common}
+use Rattle.apfloat_pair_theory.proofs.numbers.Signed.{IsMultiple, sum_multiple, difference_multiple, finer_multiple}
+use Rattle.apfloat_pair_theory.proofs.numbers.Signed.{coarse_multiple, grid_bound_at, on_grid_from, bound_on_grid}
+use Rattle.apfloat_pair_theory.proofs.numbers.Signed.{neg_on_grid, IsGridNumber, on_grid_as, common}
 
 -- no grid number is nearer to `exact` than z
 pub record IsNearest (precision : ℕ) (exact z : ℤ) : Type 0 where

@@ -1,33 +1,24 @@
 -- Operations on finite data, to nearest, as roundings of signed integers.
-use Rattle.std.proofs.Common.{◌≡◌, ℕ, zero, suc, ◌+◌, ◌-◌, ◌*◌, ◌^◌, ◌<◌, ◌≤◌, Bool, true, false, not, cond, ltb, sym, refl, ap, ◌∙◌, subst, ⊎_elim, le_trans, arith, lit<}
+use Rattle.std.proofs.Common.{◌≡◌, ℕ, zero, suc, ◌+◌, ◌-◌, ◌*◌, ◌^◌, ◌<◌, ◌≤◌, Bool}
+use Rattle.std.proofs.Common.{true, false, not, cond, ltb, sym, refl, ap, ◌∙◌, subst, ⊎_elim, le_trans, arith}
+use Rattle.std.proofs.{Common.lit<, Math.Nat.mul-le-mul_right, Math.Nat.le_of_mul-le-mul_right}
+use Rattle.std.proofs.lemmas.{Nat.pow_pos, Bool.cases_lt, Bool.false≢true, Bool.le-ltb, Bool.lt-ltb, Int.ints}
 use Rattle.std.specs.Prelude.{ℤ, pos, negsuc, neg_ℤ, ◌+ℤ◌, ◌-ℤ◌, ◌*ℤ◌}
-use Rattle.std.proofs.Math.Nat.{mul-le-mul_right, le_of_mul-le-mul_right}
-use Rattle.std.proofs.lemmas.Nat.{pow_pos}
-use Rattle.std.proofs.lemmas.Bool.{cases_lt, false≢true, le-ltb, lt-ltb}
-use Rattle.std.proofs.lemmas.Int.{ints}
-use Rattle.apfloat_model.specs.declared.kinds.Round.TheVariants.{NearestTiesToEven}
-use Rattle.apfloat_model.specs.declared.kinds.NonfiniteBehavior.{NonfiniteBehavior}
-use Rattle.apfloat_model.specs.declared.kinds.NonfiniteBehavior.TheVariants.{IEEE754}
-use Rattle.apfloat_model.specs.formats.Format.{Format, largest, greatest_significand, nan_base}
-use Rattle.apfloat_model.specs.formats.Datum.{Datum, finite, infinite, nan}
-use Rattle.apfloat_model.specs.rounding.Grid.{IsOnGrid}
+use Rattle.apfloat_model.specs.declared.kinds.{Round.TheVariants.NearestTiesToEven, NonfiniteBehavior.NonfiniteBehavior}
+use Rattle.apfloat_model.specs.{declared.kinds.NonfiniteBehavior.TheVariants.IEEE754, formats.Format.Format}
+use Rattle.apfloat_model.specs.formats.{Format.largest, Format.greatest_significand, Format.nan_base, Datum.Datum}
+use Rattle.apfloat_model.specs.{formats.Datum.finite, formats.Datum.infinite, formats.Datum.nan, rounding.Grid.IsOnGrid}
 use Rattle.apfloat_model.specs.rounding.Rounding.{IsPick, IsDelivered, delivered_value, signed_quanta, past_largest}
-use Rattle.apfloat_model.specs.rounding.Negation.{negated}
-use Rattle.apfloat_model.specs.order.Classes.{is_finite}
+use Rattle.apfloat_model.specs.{rounding.Negation.negated, order.Classes.is_finite, order.Order.number}
 use Rattle.apfloat_model.specs.arithmetic.Exact.{magnitude, signed, sign_of, IsRounded}
-use Rattle.apfloat_model.specs.order.Order.{number}
 use Rattle.apfloat_model.specs.arithmetic.Sums.{IsSum, IsDifference, zero_sum_sign}
-use Rattle.apfloat_model.proofs.whole_numbers.SignedNumbers.{negated_is}
-use Rattle.apfloat_model.proofs.rounding.Neighbours.{multiple_on_grid}
-use Rattle.apfloat_model.proofs.rounding.Laws.{pick_within}
-use Rattle.apfloat_model.proofs.arithmetic.Signs.{magnitude_signed, one_side}
-use Rattle.apfloat_model.proofs.general.Choices.{cond_times}
-use Rattle.apfloat_model.proofs.arithmetic.SumLaws.{signed_quanta_is}
-use Rattle.apfloat_model.proofs.rounding.ModesAgree.{either_on_grid}
+use Rattle.apfloat_model.proofs.whole_numbers.{SignedNumbers.negated_is, SignedProducts.difference_times}
+use Rattle.apfloat_model.proofs.whole_numbers.SignedProducts.{magnitude-times, times_one, signed_times}
+use Rattle.apfloat_model.proofs.rounding.{Neighbours.multiple_on_grid, Laws.pick_within, ModesAgree.either_on_grid}
 use Rattle.apfloat_model.proofs.rounding.Picks.{even_farther, even_nearer}
-use Rattle.apfloat_pair_theory.proofs.numbers.Signed.{IsGridNumber, on_grid_as}
-use Rattle.apfloat_model.proofs.whole_numbers.SignedProducts.{difference_times, magnitude-times, times_one, signed_times}
-use Rattle.apfloat_pair_theory.proofs.numbers.Nearest.{IsNearest}
+use Rattle.apfloat_model.proofs.arithmetic.{Signs.magnitude_signed, Signs.one_side, SumLaws.signed_quanta_is}
+use Rattle.apfloat_model.proofs.general.Choices.{cond_times}
+use Rattle.apfloat_pair_theory.proofs.numbers.{Signed.IsGridNumber, Signed.on_grid_as, Nearest.IsNearest}
 
 -- the distance of two numbers
 abbrev pub apart : ℕ → ℕ → ℕ

@@ -1,23 +1,19 @@
 -- A finite sum of finite data raises no flag other than INEXACT.
-use Rattle.std.proofs.Common.{◌≡◌, ℕ, ◌-◌, ◌*◌, ◌^◌, ◌<◌, ◌≤◌, Bool, true, false, eqb, ltb, leb, inl, inr, sym, refl, ap, ◌∙◌, ⊎_elim, arith, lit<}
-use Rattle.std.specs.Prelude.{ℤ, ◌+ℤ◌}
-use Rattle.std.proofs.Math.Nat.{pow-le-pow_right}
-use Rattle.std.proofs.lemmas.Nat.{pow_pos}
+use Rattle.std.proofs.Common.{◌≡◌, ℕ, ◌-◌, ◌*◌, ◌^◌, ◌<◌, ◌≤◌, Bool, true, false, eqb}
+use Rattle.std.proofs.Common.{ltb, leb, inl, inr, sym, refl, ap, ◌∙◌, ⊎_elim, arith, lit<}
+use Rattle.std.proofs.{Math.Nat.pow-le-pow_right, lemmas.Nat.pow_pos}
 use Rattle.std.proofs.lemmas.Bool.{cases_lt, cases_eq, false≢true, le-ltb, lt-leb, eq-eqb, ne_eqb}
+use Rattle.std.specs.Prelude.{ℤ, ◌+ℤ◌}
 use Rattle.apfloat_model.specs.declared.kinds.NonfiniteBehavior.TheVariants.{IEEE754}
-use Rattle.apfloat_model.specs.declared.kinds.Round.TheVariants.{NearestTiesToEven}
-use Rattle.apfloat_model.specs.formats.Format.{Format, largest, smallest_normalized}
-use Rattle.apfloat_model.specs.formats.Datum.{Datum, finite, infinite, nan}
-use Rattle.apfloat_model.specs.rounding.Grid.{IsOnGrid}
+use Rattle.apfloat_model.specs.{declared.kinds.Round.TheVariants.NearestTiesToEven, formats.Format.Format}
+use Rattle.apfloat_model.specs.formats.{Format.largest, Format.smallest_normalized, Datum.Datum, Datum.finite}
+use Rattle.apfloat_model.specs.{formats.Datum.infinite, formats.Datum.nan, rounding.Grid.IsOnGrid}
 use Rattle.apfloat_model.specs.rounding.Rounding.{IsPick, delivered_status, is_tiny, ok_bits, inexact_bit}
-use Rattle.apfloat_model.specs.rounding.Negation.{negated}
-use Rattle.apfloat_model.specs.order.Classes.{is_finite}
+use Rattle.apfloat_model.specs.{rounding.Negation.negated, order.Classes.is_finite}
 use Rattle.apfloat_model.specs.arithmetic.Exact.{magnitude, signed, sign_of, IsRounded}
 use Rattle.apfloat_model.specs.arithmetic.Sums.{IsSum, IsDifference, zero_sum_sign}
-use Rattle.apfloat_model.proofs.general.Powers.{two_pos}
-use Rattle.apfloat_model.proofs.rounding.Laws.{exact_is_picked, pick_within}
-use Rattle.apfloat_model.proofs.rounding.Picks.{pick_unique}
-use Rattle.apfloat_model.proofs.general.Choices.{either_false}
+use Rattle.apfloat_model.proofs.general.{Powers.two_pos, Choices.either_false}
+use Rattle.apfloat_model.proofs.rounding.{Laws.exact_is_picked, Laws.pick_within, Picks.pick_unique}
 use Rattle.apfloat_pair_theory.specs.PairSums.{◌∪◌}
 use Rattle.apfloat_pair_theory.specs.PairAccuracy.{IsOkOrInexact}
 use Rattle.apfloat_pair_theory.proofs.numbers.Roundings.{beyond_is, negated_finite, difference_is}

@@ -1,16 +1,17 @@
 -- Error-free sums, each a rounded sum with its exact error: TwoSum (Møller, Knuth) by six roundings, for operands in
 -- any order, and the subtraction of Fast2Sum (Dekker), for a first operand of greater magnitude.
 use Rattle.std.proofs.Common.{◌≡◌, ℕ, zero, suc, ◌+◌, ◌*◌, ◌^◌, ◌<◌, ◌≤◌, sym, ap, subst, ⊎_elim, arith}
-use Rattle.std.specs.Prelude.{ℤ, ◌+ℤ◌, ◌-ℤ◌, neg_ℤ}
 use Rattle.std.proofs.Math.Nat.{mul-le-mul_right, lt_of_mul-lt-mul_left, lt_of_mul-lt-mul_right}
-use Rattle.std.proofs.lemmas.Nat.{pow-add, pow_pos}
-use Rattle.std.proofs.lemmas.Bool.{cases_lt}
-use Rattle.std.proofs.lemmas.Int.{ints}
+use Rattle.std.proofs.lemmas.{Nat.pow-add, Nat.pow_pos, Bool.cases_lt, Int.ints}
+use Rattle.std.specs.Prelude.{ℤ, ◌+ℤ◌, ◌-ℤ◌, neg_ℤ}
 use Rattle.apfloat_model.specs.arithmetic.Exact.{magnitude}
-use Rattle.apfloat_model.proofs.arithmetic.Signs.{one_side}
-use Rattle.apfloat_model.proofs.rounding.Laws.{zero_on_grid}
-use Rattle.apfloat_pair_theory.proofs.numbers.Signed.{magnitude-neg, magnitude-sub, magnitude_le, IsMultiple, sum_multiple, difference_multiple, finer_multiple, coarse_multiple, grid_bound_at, on_grid_from, bound_on_grid, neg_on_grid, cancelled, IsGridNumber, on_grid_as, common}
-use Rattle.apfloat_pair_theory.proofs.numbers.Nearest.{IsNearest, nearest_exact, nearest_reaches, error_le_second, relative_error, nearest_cases, error_on_grid}
+use Rattle.apfloat_model.proofs.{arithmetic.Signs.one_side, rounding.Laws.zero_on_grid}
+use Rattle.apfloat_pair_theory.proofs.numbers.Signed.{magnitude-neg, magnitude-sub, magnitude_le, IsMultiple}
+use Rattle.apfloat_pair_theory.proofs.numbers.Signed.{sum_multiple, difference_multiple, finer_multiple}
+use Rattle.apfloat_pair_theory.proofs.numbers.Signed.{coarse_multiple, grid_bound_at, on_grid_from, bound_on_grid}
+use Rattle.apfloat_pair_theory.proofs.numbers.Signed.{neg_on_grid, cancelled, IsGridNumber, on_grid_as, common}
+use Rattle.apfloat_pair_theory.proofs.numbers.Nearest.{IsNearest, nearest_exact, nearest_reaches, error_le_second}
+use Rattle.apfloat_pair_theory.proofs.numbers.Nearest.{relative_error, nearest_cases, error_on_grid}
 
 -- the precision is at least one digit
 pub positive : (precision : ℕ) → 8 ≤ 2 ^ precision → 0 < precision

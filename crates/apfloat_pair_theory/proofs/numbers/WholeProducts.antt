@@ -1,29 +1,24 @@
 -- Products that are an integral number of quanta: the rounded product, and its exact error by a fused multiply-add.
 use Rattle.std.proofs.Common.{◌≡◌, ℕ, ◌+◌, ◌-◌, ◌*◌, ◌^◌, ◌<◌, ◌≤◌, true, false, refl, sym, ap, ◌∙◌, subst, arith}
-use Rattle.std.specs.Prelude.{ℤ, pos, neg_ℤ, ◌+ℤ◌, ◌-ℤ◌, ◌*ℤ◌}
 use Rattle.std.proofs.Math.Nat.{mul-le-mul_right, lt_of_mul-lt-mul_left, mul-lt-mul_of_pos_right}
-use Rattle.std.proofs.lemmas.Nat.{pow-add, pow_pos, mul-lt}
-use Rattle.std.proofs.lemmas.Bool.{false≢true}
-use Rattle.std.proofs.lemmas.Int.{ints}
+use Rattle.std.proofs.lemmas.{Nat.pow-add, Nat.pow_pos, Nat.mul-lt, Bool.false≢true, Int.ints}
+use Rattle.std.specs.Prelude.{ℤ, pos, neg_ℤ, ◌+ℤ◌, ◌-ℤ◌, ◌*ℤ◌}
+use Rattle.apfloat_model.specs.{declared.kinds.NonfiniteBehavior.TheVariants.IEEE754, formats.Format.Format}
 use Rattle.apfloat_model.specs.declared.kinds.Round.TheVariants.{NearestTiesToEven}
-use Rattle.apfloat_model.specs.declared.kinds.NonfiniteBehavior.TheVariants.{IEEE754}
-use Rattle.apfloat_model.specs.formats.Format.{Format, largest}
-use Rattle.apfloat_model.specs.formats.Datum.{Datum, finite, infinite, nan}
-use Rattle.apfloat_model.specs.rounding.Grid.{IsOnGrid}
-use Rattle.apfloat_model.specs.rounding.Negation.{negated}
-use Rattle.apfloat_model.specs.order.Classes.{is_finite}
+use Rattle.apfloat_model.specs.formats.{Format.largest, Datum.Datum, Datum.finite, Datum.infinite, Datum.nan}
+use Rattle.apfloat_model.specs.rounding.{Grid.IsOnGrid, Negation.negated}
+use Rattle.apfloat_model.specs.order.{Classes.is_finite, Order.number}
+use Rattle.apfloat_model.specs.arithmetic.{Sums.zero_sum_sign, Products.IsProduct, FusedSums.IsFusedSum}
 use Rattle.apfloat_model.specs.arithmetic.Exact.{magnitude, signed, sign_of, product_sign}
-use Rattle.apfloat_model.specs.order.Order.{number}
-use Rattle.apfloat_model.specs.arithmetic.Sums.{zero_sum_sign}
-use Rattle.apfloat_model.specs.arithmetic.Products.{IsProduct}
-use Rattle.apfloat_model.specs.arithmetic.FusedSums.{IsFusedSum}
 use Rattle.apfloat_model.proofs.arithmetic.Signs.{magnitude_signed}
+use Rattle.apfloat_model.proofs.whole_numbers.SignedProducts.{difference_times, neg_times, magnitude-mul}
+use Rattle.apfloat_model.proofs.whole_numbers.SignedProducts.{magnitude-times, signed_product, signed_times}
+use Rattle.apfloat_pair_theory.proofs.{numbers.Roundings.negated_number, sums.PairRoundings.error_eighth}
 use Rattle.apfloat_pair_theory.proofs.numbers.Signed.{magnitude-sub, IsMultiple, IsGridNumber, on_grid_as}
-use Rattle.apfloat_model.proofs.whole_numbers.SignedProducts.{difference_times, neg_times, magnitude-mul, magnitude-times, signed_product, signed_times}
 use Rattle.apfloat_pair_theory.proofs.numbers.Nearest.{IsNearest, nearest_exact, relative_error, error_at}
 use Rattle.apfloat_pair_theory.proofs.numbers.TwoSums.{positive}
-use Rattle.apfloat_pair_theory.proofs.sums.PairRoundings.{error_eighth}
-use Rattle.apfloat_pair_theory.proofs.numbers.Roundings.{signed_exact, IsRoundedTo, IsFractionRoundedTo, whole_rounded, fraction_delivered, fraction_within, negated_finite, negated_number}
+use Rattle.apfloat_pair_theory.proofs.numbers.Roundings.{signed_exact, IsRoundedTo, IsFractionRoundedTo, whole_rounded}
+use Rattle.apfloat_pair_theory.proofs.numbers.Roundings.{fraction_delivered, fraction_within, negated_finite}
 
 -- ---- products and fused sums of finite data, in parts of a quantum
 

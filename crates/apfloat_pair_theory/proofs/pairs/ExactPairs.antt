@@ -1,13 +1,11 @@
 -- The parts of a split wide result add up exactly to that result whenever the high part is finite.
 use Rattle.std.specs.Prelude.{ℕ}
-use Rattle.apfloat_model.specs.declared.kinds.Round.{Round}
-use Rattle.apfloat_model.specs.formats.Datum.{Datum}
-use Rattle.apfloat_model.specs.arithmetic.Quotients.{IsQuotient}
+use Rattle.apfloat_model.specs.{declared.kinds.Round.Round, formats.Datum.Datum, arithmetic.Quotients.IsQuotient}
 use Rattle.apfloat_model.specs.arithmetic.Remainders.{IsTruncatedRemainder, IsNearestRemainder}
-use Rattle.apfloat_pair_theory.specs.PairFormats.{wide}
-use Rattle.apfloat_pair_theory.specs.Pairs.{Pair, IsWideAnswerOfTwo}
+use Rattle.apfloat_pair_theory.specs.{PairFormats.wide, Pairs.Pair, Pairs.IsWideAnswerOfTwo}
 use Rattle.apfloat_pair_theory.specs.PairCalls.{IsPairQuotient, IsPairTruncatedRemainder, IsPairNearestRemainder}
-use Rattle.apfloat_pair_theory.specs.PairAccuracy.{IsExactAnswerOfTwo, IsExactQuotient, IsExactTruncatedRemainder, IsExactNearestRemainder}
+use Rattle.apfloat_pair_theory.specs.PairAccuracy.{IsExactAnswerOfTwo, IsExactQuotient, IsExactTruncatedRemainder}
+use Rattle.apfloat_pair_theory.specs.PairAccuracy.{IsExactNearestRemainder}
 use Rattle.apfloat_pair_theory.proofs.pairs.SplitLaws.{exact_split}
 
 -- for a call of two pairs, the parts add up exactly to the wide result

@@ -1,23 +1,17 @@
 -- A pair whose low part is a zero is joined to its high part.
+use Rattle.std.proofs.{lemmas.Bool.false≢true, lemmas.Bool.lt-ltb, lemmas.Bool.ne_eqb, Math.IntN.+ℤ_idr}
 use Rattle.std.proofs.Common.{◌≡◌, ℕ, zero, suc, Bool, true, false, refl, sym, ◌∙◌, subst, le_trans, lit≤, arith}
 use Rattle.std.specs.Prelude.{◌+ℤ◌}
-use Rattle.std.proofs.lemmas.Bool.{false≢true, lt-ltb, ne_eqb}
-use Rattle.std.proofs.Math.IntN.{+ℤ_idr}
-use Rattle.apfloat_model.specs.declared.kinds.Round.TheVariants.{NearestTiesToEven}
-use Rattle.apfloat_model.specs.formats.Datum.{Datum, finite, infinite, nan}
-use Rattle.apfloat_model.specs.rounding.Rounding.{ok_bits}
-use Rattle.apfloat_model.specs.order.Classes.{category_of, is_finite_non_zero, is_zero}
-use Rattle.apfloat_model.specs.order.Predicates.{is_zero_category}
-use Rattle.apfloat_model.specs.arithmetic.Exact.{signed, IsRounded}
-use Rattle.apfloat_model.specs.formats.Members.{IsMember, IsFiniteOf}
-use Rattle.apfloat_model.specs.arithmetic.Sums.{IsSum, zero_sum_sign}
-use Rattle.apfloat_model.proofs.arithmetic.Signs.{magnitude_signed}
-use Rattle.apfloat_model.proofs.general.Choices.{match_true}
+use Rattle.apfloat_model.specs.{declared.kinds.Round.TheVariants.NearestTiesToEven, formats.Datum.Datum}
+use Rattle.apfloat_model.specs.{rounding.Rounding.ok_bits, order.Classes.category_of}
+use Rattle.apfloat_model.specs.formats.{Datum.finite, Datum.infinite, Datum.nan, Members.IsMember, Members.IsFiniteOf}
+use Rattle.apfloat_model.specs.order.{Classes.is_finite_non_zero, Classes.is_zero, Predicates.is_zero_category}
+use Rattle.apfloat_model.specs.arithmetic.{Exact.signed, Exact.IsRounded, Sums.IsSum, Sums.zero_sum_sign}
+use Rattle.apfloat_model.proofs.{arithmetic.Signs.magnitude_signed, general.Choices.match_true}
 use Rattle.apfloat_model.proofs.order.PredicatesAgree.{zero_agrees}
 use Rattle.apfloat_pair_theory.specs.PairFormats.{double, wide}
 use Rattle.apfloat_pair_theory.specs.Pairs.{Pair, IsJoined, IsSumOfParts, IsWidened}
-use Rattle.apfloat_pair_theory.proofs.numbers.Signed.{on_grid_as}
-use Rattle.apfloat_pair_theory.proofs.pairs.Normalised.{rounded_exactly}
+use Rattle.apfloat_pair_theory.proofs.{numbers.Signed.on_grid_as, pairs.Normalised.rounded_exactly}
 use Rattle.apfloat_pair_theory.proofs.pairs.SplitSteps.{more_digits, widened_same}
 
 -- a zero in the wide format

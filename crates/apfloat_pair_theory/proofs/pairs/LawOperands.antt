@@ -1,21 +1,16 @@
 -- The operands of the laws: doubles alone, and normalized pairs.
 use Rattle.std.proofs.Common.{◌≡◌, ℕ, ◌+◌, ◌*◌, ◌≤◌, true, sym, ap, arith}
-use Rattle.std.specs.Prelude.{pos, ◌+ℤ◌}
 use Rattle.std.proofs.lemmas.Bool.{false≢true}
-use Rattle.apfloat_model.specs.formats.Datum.{Datum, finite, infinite, nan}
+use Rattle.std.specs.Prelude.{pos, ◌+ℤ◌}
+use Rattle.apfloat_model.specs.formats.{Datum.Datum, Datum.finite, Datum.infinite, Datum.nan, Members.IsMember}
 use Rattle.apfloat_model.specs.order.Classes.{is_finite, quanta_of}
-use Rattle.apfloat_model.specs.arithmetic.Exact.{magnitude}
-use Rattle.apfloat_model.specs.formats.Members.{IsMember}
-use Rattle.apfloat_model.specs.order.Order.{number}
+use Rattle.apfloat_model.specs.{order.Order.number, arithmetic.Exact.magnitude}
 use Rattle.apfloat_model.proofs.arithmetic.Signs.{magnitude_signed}
-use Rattle.apfloat_pair_theory.specs.PairFormats.{double}
-use Rattle.apfloat_pair_theory.specs.Pairs.{Pair, positive_zero, IsNormalised}
+use Rattle.apfloat_pair_theory.specs.{PairFormats.double, Pairs.Pair, Pairs.positive_zero, Pairs.IsNormalised}
 use Rattle.apfloat_pair_theory.specs.PairAccuracy.{HasZeroLow}
-use Rattle.apfloat_pair_theory.proofs.numbers.Signed.{IsGridNumber, on_grid_as}
-use Rattle.apfloat_pair_theory.proofs.numbers.Nearest.{IsNearest}
-use Rattle.apfloat_pair_theory.proofs.sums.PairRoundings.{low_eighth}
+use Rattle.apfloat_pair_theory.proofs.numbers.{Signed.IsGridNumber, Signed.on_grid_as, Nearest.IsNearest}
+use Rattle.apfloat_pair_theory.proofs.sums.{PairRoundings.low_eighth, ClosingSums.is_ieee, ClosingSums.wide_enough}
 use Rattle.apfloat_pair_theory.proofs.pairs.Normalised.{high_nearest}
-use Rattle.apfloat_pair_theory.proofs.sums.ClosingSums.{is_ieee, wide_enough}
 
 -- ---- doubles
 

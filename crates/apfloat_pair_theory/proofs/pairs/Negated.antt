@@ -1,28 +1,21 @@
 -- The negation of a normalized pair is normalized, and has the negated number.
-use Rattle.std.proofs.Common.{◌≡◌, ℕ, zero, suc, ◌<◌, Bool, true, false, not, ltb, cond, sym, refl, ap, ◌∙◌, subst, arith, lit<}
+use Rattle.std.proofs.Common.{◌≡◌, ℕ, zero, suc, ◌<◌, Bool, true, false, not, ltb, cond, sym, refl, ap}
+use Rattle.std.proofs.Common.{◌∙◌, subst, arith, lit<}
+use Rattle.std.proofs.{lemmas.Int.ints, lemmas.Bool.false≢true, lemmas.Bool.lt-ltb, Math.Bool.not-not}
 use Rattle.std.specs.Prelude.{ℤ, pos, negsuc, neg_ℤ, ◌+ℤ◌}
-use Rattle.std.proofs.lemmas.Int.{ints}
-use Rattle.std.proofs.lemmas.Bool.{false≢true, lt-ltb}
-use Rattle.std.proofs.Math.Bool.{not-not}
-use Rattle.apfloat_model.specs.declared.kinds.NonfiniteBehavior.{NonfiniteBehavior}
-use Rattle.apfloat_model.specs.declared.kinds.NonfiniteBehavior.TheVariants.{IEEE754}
+use Rattle.apfloat_model.specs.declared.kinds.NonfiniteBehavior.{NonfiniteBehavior, TheVariants.IEEE754}
 use Rattle.apfloat_model.specs.declared.kinds.Round.TheVariants.{NearestTiesToEven}
 use Rattle.apfloat_model.specs.formats.Format.{Format, largest}
-use Rattle.apfloat_model.specs.formats.Datum.{Datum, finite, infinite, nan}
-use Rattle.apfloat_model.specs.rounding.Rounding.{zero_sign, ok_bits, IsDelivered}
-use Rattle.apfloat_model.specs.rounding.Negation.{negated}
+use Rattle.apfloat_model.specs.formats.{Datum.Datum, Datum.finite, Datum.infinite, Datum.nan, Members.IsMember}
+use Rattle.apfloat_model.specs.rounding.{Rounding.zero_sign, Rounding.ok_bits, Rounding.IsDelivered, Negation.negated}
 use Rattle.apfloat_model.specs.order.Classes.{is_finite, is_finite_non_zero, quanta_of}
-use Rattle.apfloat_model.specs.arithmetic.Exact.{magnitude, signed, IsRounded}
-use Rattle.apfloat_model.specs.formats.Members.{IsMember}
-use Rattle.apfloat_model.specs.order.Order.{number, is_equal}
-use Rattle.apfloat_model.specs.arithmetic.Sums.{IsSum, zero_sum_sign}
+use Rattle.apfloat_model.specs.{order.Order.number, order.Order.is_equal, arithmetic.Exact.magnitude}
+use Rattle.apfloat_model.specs.arithmetic.{Exact.signed, Exact.IsRounded, Sums.IsSum, Sums.zero_sum_sign}
 use Rattle.apfloat_model.proofs.rounding.Laws.{delivered_once, zero_delivered, delivered_swapped}
-use Rattle.apfloat_model.proofs.arithmetic.Signs.{no_sign}
+use Rattle.apfloat_model.proofs.{arithmetic.Signs.no_sign, whole_numbers.SignedNumbers.negated_is}
 use Rattle.apfloat_pair_theory.specs.PairFormats.{double}
 use Rattle.apfloat_pair_theory.specs.Pairs.{Pair, pair_number, negated_pair, IsNormalised}
-use Rattle.apfloat_pair_theory.proofs.numbers.Signed.{magnitude-neg}
-use Rattle.apfloat_model.proofs.whole_numbers.SignedNumbers.{negated_is}
-use Rattle.apfloat_pair_theory.proofs.numbers.Roundings.{negated_finite, negated_number}
+use Rattle.apfloat_pair_theory.proofs.numbers.{Signed.magnitude-neg, Roundings.negated_finite, Roundings.negated_number}
 use Rattle.apfloat_pair_theory.proofs.calls.PairsOnce.{parts_same}
 use Rattle.apfloat_pair_theory.proofs.pairs.Normalised.{IsSameAnswer, IsHighOf, equal_finite, equal_number, is_equal_by}
 

@@ -1,29 +1,20 @@
 -- Consequences of a pair being normalized, and conditions for it.
-use Rattle.std.proofs.Common.{◌≡◌, ℕ, zero, suc, ◌≤◌, Bool, true, false, sym, refl, ap, ◌∙◌, subst, arith, lit<}
+use Rattle.std.proofs.Common.{◌≡◌, ℕ, zero, suc, ◌≤◌, Bool, true, false, sym, refl, ap, ◌∙◌, subst}
+use Rattle.std.proofs.{Common.arith, Common.lit<, lemmas.Bool.false≢true, Math.IntN.+ℤ_idr}
 use Rattle.std.specs.Prelude.{ℤ, pos, negsuc, ◌+ℤ◌}
-use Rattle.std.proofs.lemmas.Bool.{false≢true}
-use Rattle.std.proofs.Math.IntN.{+ℤ_idr}
-use Rattle.std.specs.declared.cmp.Ordering.{Ordering}
-use Rattle.std.specs.declared.cmp.Ordering.TheVariants.{Less, Equal, Greater}
-use Rattle.std.specs.Ordering.{int_cmp, is_eq, MatchOrdering}
-use Rattle.std.specs.Cmp.{int_cmp_is, int_ranks}
-use Rattle.apfloat_model.specs.declared.kinds.NonfiniteBehavior.{NonfiniteBehavior}
-use Rattle.apfloat_model.specs.declared.kinds.NonfiniteBehavior.TheVariants.{IEEE754}
-use Rattle.apfloat_model.specs.declared.kinds.Round.TheVariants.{NearestTiesToEven}
-use Rattle.apfloat_model.specs.formats.Format.{Format, largest}
-use Rattle.apfloat_model.specs.formats.Datum.{Datum, finite, infinite, nan}
+use Rattle.std.specs.declared.cmp.Ordering.{Ordering, TheVariants.Less, TheVariants.Equal, TheVariants.Greater}
+use Rattle.std.specs.{Ordering.int_cmp, Ordering.is_eq, Ordering.MatchOrdering, Cmp.int_cmp_is, Cmp.int_ranks}
+use Rattle.apfloat_model.specs.declared.kinds.NonfiniteBehavior.{NonfiniteBehavior, TheVariants.IEEE754}
+use Rattle.apfloat_model.specs.{declared.kinds.Round.TheVariants.NearestTiesToEven, formats.Format.Format}
+use Rattle.apfloat_model.specs.formats.{Format.largest, Datum.Datum, Datum.finite, Datum.infinite, Datum.nan}
 use Rattle.apfloat_model.specs.rounding.Rounding.{zero_sign, ok_bits, signed_quanta}
-use Rattle.apfloat_model.specs.order.Classes.{is_finite}
+use Rattle.apfloat_model.specs.order.{Classes.is_finite, Order.number, Order.is_equal}
 use Rattle.apfloat_model.specs.arithmetic.Exact.{magnitude, signed, sign_of, IsRounded}
-use Rattle.apfloat_model.specs.order.Order.{number, is_equal}
 use Rattle.apfloat_model.specs.arithmetic.Sums.{IsSum, zero_sum_sign}
 use Rattle.apfloat_model.proofs.rounding.Laws.{delivered_once, zero_delivered, exact_delivered}
-use Rattle.apfloat_model.proofs.arithmetic.Signs.{no_sign}
-use Rattle.apfloat_model.proofs.arithmetic.SumLaws.{signed_quanta_is}
-use Rattle.apfloat_pair_theory.specs.PairFormats.{double}
-use Rattle.apfloat_pair_theory.specs.Pairs.{Pair, IsNormalised}
-use Rattle.apfloat_pair_theory.proofs.numbers.Signed.{IsGridNumber, on_grid_as}
-use Rattle.apfloat_pair_theory.proofs.numbers.Nearest.{IsNearest}
+use Rattle.apfloat_model.proofs.arithmetic.{Signs.no_sign, SumLaws.signed_quanta_is}
+use Rattle.apfloat_pair_theory.specs.{PairFormats.double, Pairs.Pair, Pairs.IsNormalised}
+use Rattle.apfloat_pair_theory.proofs.numbers.{Signed.IsGridNumber, Signed.on_grid_as, Nearest.IsNearest}
 use Rattle.apfloat_pair_theory.proofs.numbers.Roundings.{sum_finite, signed_exact}
 
 -- ---- equal data

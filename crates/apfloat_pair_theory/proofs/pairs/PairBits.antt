@@ -1,17 +1,14 @@
 -- The bits of a pair: its low part above its high part. A pair has one encoding, and bits encode one pair.
 use Rattle.std.proofs.Common.{◌≡◌, ℕ, ◌+◌, ◌*◌, ◌/◌, ◌%◌, ◌^◌, ◌<◌, Bool, eqb, refl, sym, ap, ◌∙◌, subst, arith, lit<}
+use Rattle.std.proofs.lemmas.Nat.{pow_pos, pow-add, mod_below, div_below, mod_low, shr_high, shr_split, mod-pow-add}
+use Rattle.std.proofs.lemmas.Nat.{field_of, shl_whole, mul-add-lt, or_comm, or_shifted}
 use Rattle.std.specs.Prelude.{bit_or}
-use Rattle.std.proofs.lemmas.Nat.{pow_pos, pow-add, mod_below, div_below, mod_low, shr_high, shr_split, mod-pow-add, field_of, shl_whole, mul-add-lt, or_comm, or_shifted}
-use Rattle.apfloat_model.specs.formats.Datum.{Datum}
-use Rattle.apfloat_model.specs.formats.Formats.{double_constants}
-use Rattle.apfloat_model.specs.formats.Lawful.{IsLawful, layout_with}
-use Rattle.apfloat_model.proofs.formats.LawTest.{lawful_from_test}
+use Rattle.apfloat_model.specs.formats.{Datum.Datum, Formats.double_constants, Lawful.IsLawful, Lawful.layout_with}
 use Rattle.apfloat_model.specs.bits.Layout.{Fields, datum_of, datum_of_fields, fields_of, IsEncodedBy}
 use Rattle.apfloat_model.specs.bits.Interchange.{IsInterchange}
-use Rattle.apfloat_model.proofs.bits.Encodings.{lawful_interchange}
+use Rattle.apfloat_model.proofs.{formats.LawTest.lawful_from_test, bits.Encodings.lawful_interchange}
 use Rattle.apfloat_model.proofs.bits.EncodedOnce.{encoded_once, fields_with}
-use Rattle.apfloat_pair_theory.specs.PairFormats.{double}
-use Rattle.apfloat_pair_theory.specs.Pairs.{Pair, pair_of, IsPairEncodedBy}
+use Rattle.apfloat_pair_theory.specs.{PairFormats.double, Pairs.Pair, Pairs.pair_of, Pairs.IsPairEncodedBy}
 use Rattle.apfloat_pair_theory.proofs.calls.PairsOnce.{parts_same}
 
 pub double_is_lawful : IsLawful double_constants

@@ -1,34 +1,32 @@
 -- A split loses nothing: within the largest double, the pair is normalized and has the number of the wide datum.
-use Rattle.std.proofs.Common.{◌≡◌, ℕ, zero, suc, ◌-◌, ◌*◌, ◌/◌, ◌%◌, ◌^◌, ◌<◌, ◌≤◌, Bool, true, false, not, ◌&&◌, cond, eqb, ltb, refl, sym, ap, ◌∙◌, subst, ⊎_elim, arith, lit<, mul_assoc}
-use Rattle.std.specs.Prelude.{ℤ, pos, neg_ℤ, ◌+ℤ◌, ◌-ℤ◌}
+use Rattle.std.proofs.Common.{◌≡◌, ℕ, zero, suc, ◌-◌, ◌*◌, ◌/◌, ◌%◌, ◌^◌, ◌<◌, ◌≤◌, Bool, true, false, not, ◌&&◌, cond}
+use Rattle.std.proofs.Common.{eqb, ltb, refl, sym, ap, ◌∙◌, subst, ⊎_elim, arith, lit<, mul_assoc}
 use Rattle.std.proofs.Math.Nat.{mul-le-mul_right, le_of_mul-le-mul_right, eq_of_mul-eq-mul_right}
-use Rattle.std.proofs.lemmas.Nat.{pow-add, pow_pos}
-use Rattle.std.proofs.lemmas.Bool.{MatchBool-at_false, cases_lt, cases_eq, false≢true, lt-ltb, le-ltb, ne_eqb, eqb-true, ltb-true}
+use Rattle.std.proofs.lemmas.{Nat.pow-add, Nat.pow_pos, Bool.MatchBool-at_false}
+use Rattle.std.proofs.lemmas.Bool.{cases_lt, cases_eq, false≢true, lt-ltb, le-ltb, ne_eqb, eqb-true, ltb-true}
 use Rattle.std.proofs.lemmas.Int.{ints}
+use Rattle.std.specs.Prelude.{ℤ, pos, neg_ℤ, ◌+ℤ◌, ◌-ℤ◌}
 use Rattle.apfloat_model.specs.declared.kinds.Round.TheVariants.{NearestTiesToEven}
+use Rattle.apfloat_model.specs.formats.{Datum.Datum, Datum.finite, Datum.infinite, Datum.nan, Members.IsMember}
 use Rattle.apfloat_model.specs.formats.Format.{Format, largest}
-use Rattle.apfloat_model.specs.formats.Datum.{Datum, finite, infinite, nan}
-use Rattle.apfloat_model.specs.rounding.Rounding.{takes_above, pick_between, IsPick, IsDelivered, delivered_value, delivered_status, is_tiny, ok_bits}
-use Rattle.apfloat_model.specs.order.Classes.{is_finite, is_finite_non_zero}
-use Rattle.apfloat_model.specs.arithmetic.Exact.{magnitude, signed, IsRounded}
-use Rattle.apfloat_model.specs.order.Order.{number}
-use Rattle.apfloat_model.specs.rounding.Grid.{IsOnGrid}
-use Rattle.apfloat_model.specs.formats.Members.{IsMember}
-use Rattle.apfloat_model.specs.arithmetic.Sums.{IsSum, zero_sum_sign}
-use Rattle.apfloat_model.specs.arithmetic.Conversions.{IsConversion, IsConvertedNumber}
-use Rattle.apfloat_model.proofs.rounding.Picks.{takes_scaled}
-use Rattle.apfloat_model.proofs.general.Scaled.{less_scaled}
+use Rattle.apfloat_model.specs.rounding.{Rounding.delivered_status, Rounding.is_tiny, Rounding.ok_bits, Grid.IsOnGrid}
+use Rattle.apfloat_model.specs.rounding.Rounding.{takes_above, pick_between, IsPick, IsDelivered, delivered_value}
+use Rattle.apfloat_model.specs.order.{Classes.is_finite, Classes.is_finite_non_zero, Order.number}
+use Rattle.apfloat_model.specs.arithmetic.{Exact.magnitude, Exact.signed, Exact.IsRounded, Sums.IsSum}
+use Rattle.apfloat_model.specs.arithmetic.{Sums.zero_sum_sign, Conversions.IsConversion, Conversions.IsConvertedNumber}
+use Rattle.apfloat_model.proofs.{rounding.Picks.takes_scaled, general.Scaled.less_scaled}
 use Rattle.apfloat_model.proofs.arithmetic.Signs.{magnitude_signed, no_sign, one_side}
+use Rattle.apfloat_model.proofs.whole_numbers.SignedProducts.{times_one}
 use Rattle.apfloat_pair_theory.specs.PairFormats.{double, wide}
 use Rattle.apfloat_pair_theory.specs.Pairs.{Pair, pair_number, IsSplit, left_over, low_part, positive_zero}
 use Rattle.apfloat_pair_theory.specs.PairAccuracy.{IsExactPair, IsExactSplit, IsLosslessSplit}
-use Rattle.apfloat_pair_theory.proofs.numbers.Signed.{magnitude-sub, IsGridNumber, on_grid_as, IsMultiple, coarse_multiple, grid_bound}
-use Rattle.apfloat_model.proofs.whole_numbers.SignedProducts.{times_one}
-use Rattle.apfloat_pair_theory.proofs.sums.PairRoundings.{error_eighth}
-use Rattle.apfloat_pair_theory.proofs.pairs.Normalised.{is_equal_by}
-use Rattle.apfloat_pair_theory.proofs.sums.ClosingSums.{wide_enough}
+use Rattle.apfloat_pair_theory.proofs.numbers.Signed.{magnitude-sub, IsGridNumber, on_grid_as, IsMultiple}
+use Rattle.apfloat_pair_theory.proofs.numbers.Signed.{coarse_multiple, grid_bound}
 use Rattle.apfloat_pair_theory.proofs.numbers.WholeProducts.{IsWholeProduct, product_error_on_grid, IsWholeNumberAt}
-use Rattle.apfloat_pair_theory.proofs.numbers.Roundings.{signed_exact, IsRoundedTo, within_nearest, finite_nearest, within_is, beyond_is}
+use Rattle.apfloat_pair_theory.proofs.numbers.Roundings.{signed_exact, IsRoundedTo, within_nearest, finite_nearest}
+use Rattle.apfloat_pair_theory.proofs.numbers.Roundings.{within_is, beyond_is}
+use Rattle.apfloat_pair_theory.proofs.sums.{PairRoundings.error_eighth, ClosingSums.wide_enough}
+use Rattle.apfloat_pair_theory.proofs.pairs.Normalised.{is_equal_by}
 
 -- ---- an integral number of quanta, in parts of a quantum
 

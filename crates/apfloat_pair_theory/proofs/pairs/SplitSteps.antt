@@ -1,34 +1,25 @@
 -- The rest of a wide number beyond its high part, in three steps: the high part is widened again, subtracted in the
 -- wide format, and the difference is converted to a double. Each step is exact.
-use Rattle.std.proofs.Common.{◌≡◌, ℕ, zero, suc, ◌*◌, ◌^◌, ◌<◌, ◌≤◌, Bool, true, false, not, refl, sym, ap, ◌∙◌, subst, le_trans, arith, lit≤}
+use Rattle.std.proofs.Common.{◌≡◌, ℕ, zero, suc, ◌*◌, ◌^◌, ◌<◌, ◌≤◌, Bool, true, false, not}
+use Rattle.std.proofs.Common.{refl, sym, ap, ◌∙◌, subst, le_trans, arith, lit≤}
+use Rattle.std.proofs.lemmas.{Nat.pow_pos, Bool.false≢true, Int.ints}
 use Rattle.std.specs.Prelude.{ℤ, pos, ◌+ℤ◌, ◌-ℤ◌}
-use Rattle.std.proofs.lemmas.Nat.{pow_pos}
-use Rattle.std.proofs.lemmas.Bool.{false≢true}
-use Rattle.std.proofs.lemmas.Int.{ints}
-use Rattle.apfloat_model.specs.declared.kinds.Round.TheVariants.{NearestTiesToEven}
-use Rattle.apfloat_model.specs.formats.Format.{largest}
-use Rattle.apfloat_model.specs.formats.Datum.{Datum, finite, infinite, nan}
-use Rattle.apfloat_model.specs.rounding.Rounding.{ok_bits}
+use Rattle.apfloat_model.specs.{declared.kinds.Round.TheVariants.NearestTiesToEven, formats.Format.largest}
+use Rattle.apfloat_model.specs.formats.{Datum.Datum, Datum.finite, Datum.infinite, Datum.nan, Members.IsMember}
+use Rattle.apfloat_model.specs.{formats.Members.IsFiniteOf, rounding.Rounding.ok_bits, rounding.Grid.IsOnGrid}
 use Rattle.apfloat_model.specs.order.Classes.{is_finite, is_finite_non_zero}
 use Rattle.apfloat_model.specs.arithmetic.Exact.{magnitude, signed, sign_of, IsRounded}
-use Rattle.apfloat_model.specs.rounding.Grid.{IsOnGrid}
-use Rattle.apfloat_model.specs.formats.Members.{IsMember, IsFiniteOf}
-use Rattle.apfloat_model.specs.arithmetic.Sums.{IsSum, IsDifference, zero_sum_sign}
-use Rattle.apfloat_model.specs.arithmetic.Conversions.{IsConversion}
-use Rattle.apfloat_model.proofs.arithmetic.ExactConversions.{exactly_converted}
-use Rattle.apfloat_model.proofs.rounding.Laws.{delivered_once}
-use Rattle.apfloat_model.proofs.arithmetic.Signs.{magnitude_signed}
-use Rattle.apfloat_pair_theory.specs.PairFormats.{double, wide}
-use Rattle.apfloat_pair_theory.specs.Pairs.{IsWidened, left_over}
+use Rattle.apfloat_model.specs.arithmetic.{Sums.IsSum, Sums.IsDifference, Sums.zero_sum_sign, Conversions.IsConversion}
+use Rattle.apfloat_model.proofs.arithmetic.{ExactConversions.exactly_converted, Signs.magnitude_signed}
+use Rattle.apfloat_model.proofs.{rounding.Laws.delivered_once, whole_numbers.SignedNumbers.negated_is}
+use Rattle.apfloat_pair_theory.specs.{PairFormats.double, PairFormats.wide, Pairs.IsWidened, Pairs.left_over}
 use Rattle.apfloat_pair_theory.proofs.numbers.Signed.{magnitude-sub, IsGridNumber, on_grid_as}
-use Rattle.apfloat_pair_theory.proofs.sums.PairRoundings.{error_eighth}
-use Rattle.apfloat_pair_theory.proofs.sums.ClosingSums.{wide_enough}
 use Rattle.apfloat_pair_theory.proofs.numbers.WholeProducts.{product_error_on_grid}
-use Rattle.apfloat_pair_theory.proofs.pairs.Normalised.{rounded_exactly}
-use Rattle.apfloat_model.proofs.whole_numbers.SignedNumbers.{negated_is}
 use Rattle.apfloat_pair_theory.proofs.numbers.Roundings.{finite_is, signed_not, IsRoundedTo}
-use Rattle.apfloat_pair_theory.proofs.products.ProductAnswers.{finite_number}
+use Rattle.apfloat_pair_theory.proofs.sums.{PairRoundings.error_eighth, ClosingSums.wide_enough}
+use Rattle.apfloat_pair_theory.proofs.pairs.Normalised.{rounded_exactly}
 use Rattle.apfloat_pair_theory.proofs.pairs.SplitLaws.{delivered_whole, high_rounded_to, number_converted, wide_number}
+use Rattle.apfloat_pair_theory.proofs.products.ProductAnswers.{finite_number}
 
 -- the rest of a wide number beyond its high part, in three steps
 pub record IsRestBySteps (x high low : Datum) (status : ℕ) : Type 0 where

@@ -1,14 +1,11 @@
 -- The function that decides whether a pair is denormal agrees with the relation, and its value for a given sum.
 use Rattle.std.proofs.Common.{◌≡◌, ℕ, Bool, true, false, not, ◌&&◌, ◌||◌, refl, ap}
 use Rattle.std.specs.Bool.{MatchBool}
-use Rattle.apfloat_model.specs.declared.kinds.Round.TheVariants.{NearestTiesToEven}
-use Rattle.apfloat_model.specs.formats.Datum.{Datum}
+use Rattle.apfloat_model.specs.{declared.kinds.Round.TheVariants.NearestTiesToEven, formats.Datum.Datum}
 use Rattle.apfloat_model.specs.order.Classes.{is_finite_non_zero, is_denormal}
-use Rattle.apfloat_model.specs.order.Order.{is_equal}
-use Rattle.apfloat_model.specs.arithmetic.Sums.{IsSum}
+use Rattle.apfloat_model.specs.{order.Order.is_equal, arithmetic.Sums.IsSum}
 use Rattle.apfloat_model.proofs.Once.{sum_once}
-use Rattle.apfloat_pair_theory.specs.PairFormats.{double}
-use Rattle.apfloat_pair_theory.specs.Pairs.{Pair}
+use Rattle.apfloat_pair_theory.specs.{PairFormats.double, Pairs.Pair}
 use Rattle.apfloat_pair_theory.specs.NearestSums.{nearest_sum, nearest_sum_is}
 use Rattle.apfloat_pair_theory.specs.PairParts.{is_denormal_pair, IsDenormalByParts, IsDenormalPair}
 

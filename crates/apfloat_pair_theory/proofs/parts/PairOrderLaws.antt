@@ -1,8 +1,7 @@
 -- The order of pairs is a partial order, and equality a partial equivalence, since those of their parts are.
 use Rattle.std.specs.Cmp.{IsPartialEquivalence, IsPartialOrder, on_per, on_po, and_per, then_po}
 use Rattle.apfloat_model.proofs.order.OrderLaws.{equal_laws, compared_laws}
-use Rattle.apfloat_pair_theory.specs.Pairs.{Pair}
-use Rattle.apfloat_pair_theory.specs.PairParts.{is_equal_pair, compared_pairs}
+use Rattle.apfloat_pair_theory.specs.{Pairs.Pair, PairParts.is_equal_pair, PairParts.compared_pairs}
 
 -- equality of pairs is symmetric and transitive
 pub equal_pair_laws : IsPartialEquivalence is_equal_pair

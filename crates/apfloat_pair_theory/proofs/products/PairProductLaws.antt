@@ -1,31 +1,24 @@
 -- The product of two pairs of doubles, rounded to nearest: that of two doubles is exact, and that of normalized pairs
 -- is normalized, and close to the exact product.
 use Rattle.std.proofs.Common.{◌≡◌, ℕ, ◌+◌, ◌*◌, ◌^◌, ◌<◌, ◌≤◌, true, sym, ap, ◌∙◌, subst, arith, lit≤}
-use Rattle.std.specs.Prelude.{ℤ, pos, neg_ℤ, ◌+ℤ◌, ◌-ℤ◌, ◌*ℤ◌}
 use Rattle.std.proofs.Math.Nat.{mul-le-mul_right, le_of_mul-le-mul_left, le_of_mul-le-mul_right}
-use Rattle.std.proofs.lemmas.Nat.{pow_pos, mul-le}
-use Rattle.std.proofs.lemmas.Int.{ints}
+use Rattle.std.proofs.lemmas.{Nat.pow_pos, Nat.mul-le, Int.ints}
+use Rattle.std.specs.Prelude.{ℤ, pos, neg_ℤ, ◌+ℤ◌, ◌-ℤ◌, ◌*ℤ◌}
+use Rattle.apfloat_model.specs.{order.Order.number, arithmetic.Exact.magnitude, formats.Members.IsMember}
 use Rattle.apfloat_model.specs.declared.kinds.Round.TheVariants.{NearestTiesToEven}
 use Rattle.apfloat_model.specs.order.Classes.{is_finite, is_finite_non_zero}
-use Rattle.apfloat_model.specs.arithmetic.Exact.{magnitude}
-use Rattle.apfloat_model.specs.formats.Members.{IsMember}
-use Rattle.apfloat_model.specs.order.Order.{number}
-use Rattle.apfloat_model.proofs.rounding.Laws.{zero_on_grid}
-use Rattle.apfloat_pair_theory.specs.PairFormats.{double}
-use Rattle.apfloat_pair_theory.specs.Pairs.{Pair, pair_number, IsNormalised}
+use Rattle.apfloat_model.proofs.{rounding.Laws.zero_on_grid, whole_numbers.SignedProducts.magnitude-mul}
+use Rattle.apfloat_pair_theory.specs.{PairFormats.double, Pairs.Pair, Pairs.pair_number, Pairs.IsNormalised}
 use Rattle.apfloat_pair_theory.specs.PairProducts.{IsPairProduct}
 use Rattle.apfloat_pair_theory.specs.PairAccuracy.{HaveExponents, IsExactPair, IsErrorFreeProduct, IsAccurateProduct}
 use Rattle.apfloat_pair_theory.proofs.numbers.Signed.{magnitude-sub, magnitude_le, first_most, IsGridNumber, on_grid_as}
-use Rattle.apfloat_model.proofs.whole_numbers.SignedProducts.{magnitude-mul}
 use Rattle.apfloat_pair_theory.proofs.numbers.Nearest.{IsNearest, nearest_exact}
-use Rattle.apfloat_pair_theory.proofs.sums.PairRoundings.{low_small}
-use Rattle.apfloat_pair_theory.proofs.sums.SumSteps.{size}
-use Rattle.apfloat_pair_theory.proofs.pairs.LawOperands.{IsDoubleAlone, double_alone, member_on_grid, single_low, normalised_nearest}
-use Rattle.apfloat_pair_theory.proofs.sums.ClosingSums.{wide_enough}
 use Rattle.apfloat_pair_theory.proofs.numbers.WholeProducts.{IsWholeProduct, whole_size, product_error_on_grid}
 use Rattle.apfloat_pair_theory.proofs.numbers.FractionErrors.{IsCloseFraction, fraction_size}
-use Rattle.apfloat_pair_theory.proofs.products.ProductSteps.{IsLostNumber}
-use Rattle.apfloat_pair_theory.proofs.products.ProductBounds.{product_bound}
+use Rattle.apfloat_pair_theory.proofs.sums.{PairRoundings.low_small, SumSteps.size, ClosingSums.wide_enough}
+use Rattle.apfloat_pair_theory.proofs.pairs.LawOperands.{IsDoubleAlone, double_alone, member_on_grid, single_low}
+use Rattle.apfloat_pair_theory.proofs.pairs.LawOperands.{normalised_nearest}
+use Rattle.apfloat_pair_theory.proofs.products.{ProductSteps.IsLostNumber, ProductBounds.product_bound}
 use Rattle.apfloat_pair_theory.proofs.products.ProductRanges.{fewer, lengths_of, product_low, in_range}
 use Rattle.apfloat_pair_theory.proofs.products.ProductAnswers.{IsFactor, product_numbers}
 

@@ -1,32 +1,24 @@
 -- The written product of two pairs of doubles whose high parts are not zero: its steps are roundings, and they leave a
 -- normalized pair.
-use Rattle.std.proofs.Common.{◌≡◌, ℕ, ◌+◌, ◌*◌, ◌^◌, ◌<◌, ◌≤◌, true, false, eqb, refl, subst, arith, lit≤}
-use Rattle.std.proofs.Math.Path.{subst₂}
-use Rattle.std.specs.Prelude.{ℤ, ◌+ℤ◌, ◌-ℤ◌, ◌*ℤ◌}
+use Rattle.std.proofs.{Common.subst, Common.arith, Common.lit≤, Math.Path.subst₂}
+use Rattle.std.proofs.Common.{◌≡◌, ℕ, ◌+◌, ◌*◌, ◌^◌, ◌<◌, ◌≤◌, true, false, eqb, refl}
 use Rattle.std.proofs.lemmas.Bool.{ne_eqb, lt-ltb, ltb-true, false≢true}
-use Rattle.apfloat_model.specs.declared.kinds.Round.TheVariants.{NearestTiesToEven}
-use Rattle.apfloat_model.specs.formats.Format.{largest}
+use Rattle.std.specs.Prelude.{ℤ, ◌+ℤ◌, ◌-ℤ◌, ◌*ℤ◌}
+use Rattle.apfloat_model.specs.{declared.kinds.Category.TheVariants.Normal, formats.Format.largest}
+use Rattle.apfloat_model.specs.{rounding.Steps.Leads, order.Classes.is_finite, order.Classes.is_finite_non_zero}
+use Rattle.apfloat_model.specs.{order.Classes.category_of, order.Order.number, arithmetic.Exact.magnitude}
+use Rattle.apfloat_model.specs.declared.kinds.{Round.TheVariants.NearestTiesToEven, Category.Category}
 use Rattle.apfloat_model.specs.formats.Datum.{Datum, finite, infinite, nan}
-use Rattle.apfloat_model.specs.rounding.Steps.{Leads}
-use Rattle.apfloat_model.specs.order.Classes.{is_finite, is_finite_non_zero, category_of}
-use Rattle.apfloat_model.specs.arithmetic.Exact.{magnitude}
-use Rattle.apfloat_model.specs.order.Order.{number}
 use Rattle.apfloat_model.proofs.arithmetic.Signs.{magnitude_signed}
-use Rattle.apfloat_pair_theory.specs.PairFormats.{double}
+use Rattle.apfloat_pair_theory.specs.{PairProducts.IsPairProduct, PairAccuracy.sum_reach, PairFormats.double}
 use Rattle.apfloat_pair_theory.specs.Pairs.{Pair, pair_number, IsNormalised, pair_category}
-use Rattle.apfloat_model.specs.declared.kinds.Category.{Category}
-use Rattle.apfloat_model.specs.declared.kinds.Category.TheVariants.{Normal}
-use Rattle.apfloat_pair_theory.specs.PairProducts.{number_product, product_of_numbers, product_of_categories, IsPairProduct}
-use Rattle.apfloat_pair_theory.specs.PairAccuracy.{sum_reach}
-use Rattle.apfloat_pair_theory.proofs.numbers.Signed.{grown, magnitude-sub}
-use Rattle.apfloat_pair_theory.proofs.numbers.Nearest.{IsNearest}
-use Rattle.apfloat_pair_theory.proofs.numbers.TwoSums.{shared}
-use Rattle.apfloat_pair_theory.proofs.sums.SumSteps.{size, within_largest}
-use Rattle.apfloat_pair_theory.proofs.numbers.WholeProducts.{high_rounded}
+use Rattle.apfloat_pair_theory.specs.PairProducts.{number_product, product_of_numbers, product_of_categories}
+use Rattle.apfloat_pair_theory.proofs.{numbers.WholeProducts.high_rounded, sums.SumSteps.size}
+use Rattle.apfloat_pair_theory.proofs.numbers.{Signed.grown, Signed.magnitude-sub, Nearest.IsNearest, TwoSums.shared}
+use Rattle.apfloat_pair_theory.proofs.sums.{SumSteps.within_largest, ClosingSums.is_ieee, ClosingSums.room}
+use Rattle.apfloat_pair_theory.proofs.sums.{ClosingSums.IsClosable, ClosingSums.closed_pair, SumsSound.at_test}
 use Rattle.apfloat_pair_theory.proofs.products.ProductSteps.{IsLostNumber, AreFactors, nearest_close, lost_numbers}
 use Rattle.apfloat_pair_theory.proofs.products.ProductRanges.{IsInRange}
-use Rattle.apfloat_pair_theory.proofs.sums.ClosingSums.{is_ieee, room, IsClosable, closed_pair}
-use Rattle.apfloat_pair_theory.proofs.sums.SumsSound.{at_test}
 
 -- ---- categories
 

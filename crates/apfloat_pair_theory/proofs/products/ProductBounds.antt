@@ -1,18 +1,15 @@
 -- The error of a product of two normalized pairs, in terms of numbers.
 use Rattle.std.proofs.Common.{◌≡◌, ℕ, ◌+◌, ◌*◌, ◌^◌, ◌≤◌, sym, ap, ◌∙◌, subst, arith}
+use Rattle.std.proofs.{Math.Nat.mul-le-mul_right, Math.Nat.mul-le-mul_left, lemmas.Nat.mul-le, lemmas.Int.ints}
 use Rattle.std.specs.Prelude.{ℤ, pos, ◌+ℤ◌, ◌-ℤ◌, ◌*ℤ◌}
-use Rattle.std.proofs.Math.Nat.{mul-le-mul_right, mul-le-mul_left}
-use Rattle.std.proofs.lemmas.Nat.{mul-le}
-use Rattle.std.proofs.lemmas.Int.{ints}
 use Rattle.apfloat_model.specs.arithmetic.Exact.{magnitude}
 use Rattle.apfloat_model.proofs.arithmetic.Signs.{one_side}
+use Rattle.apfloat_model.proofs.whole_numbers.SignedProducts.{sum_times, times_sum, difference_times, magnitude-mul}
+use Rattle.apfloat_model.proofs.whole_numbers.SignedProducts.{magnitude-times}
 use Rattle.apfloat_pair_theory.proofs.numbers.Signed.{magnitude-sub, magnitude_le, grown, first_most}
 use Rattle.apfloat_pair_theory.proofs.numbers.Nearest.{IsNearest, relative_error}
-use Rattle.apfloat_pair_theory.proofs.numbers.TwoSums.{positive}
-use Rattle.apfloat_pair_theory.proofs.sums.PairRoundings.{eighth}
-use Rattle.apfloat_model.proofs.whole_numbers.SignedProducts.{sum_times, times_sum, difference_times, magnitude-mul, magnitude-times}
-use Rattle.apfloat_pair_theory.proofs.numbers.FractionErrors.{fraction_size}
-use Rattle.apfloat_pair_theory.proofs.products.ProductSteps.{IsLostNumber}
+use Rattle.apfloat_pair_theory.proofs.numbers.{TwoSums.positive, FractionErrors.fraction_size}
+use Rattle.apfloat_pair_theory.proofs.{sums.PairRoundings.eighth, products.ProductSteps.IsLostNumber}
 
 -- ---- the total of the losses of the steps, in parts of a quantum, as magnitudes
 

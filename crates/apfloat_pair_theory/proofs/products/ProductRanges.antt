@@ -1,23 +1,19 @@
 -- From the exponents of two doubles to the range of their product.
-use Rattle.std.proofs.Common.{◌≡◌, ℕ, ◌+◌, ◌-◌, ◌*◌, ◌^◌, ◌<◌, ◌≤◌, true, sym, subst, ⊎_elim, arith, lit≤}
+use Rattle.std.proofs.Common.{◌≡◌, ℕ, ◌+◌, ◌-◌, ◌*◌, ◌^◌, ◌<◌, ◌≤◌, true, sym, subst}
+use Rattle.std.proofs.{Common.⊎_elim, Common.arith, Common.lit≤, Math.Nat.pow-le-pow_right}
+use Rattle.std.proofs.Math.Nat.{le_of_mul-le-mul_right, lt_of_mul-lt-mul_right, mul-lt-mul_of_pos_right}
+use Rattle.std.proofs.lemmas.{Nat.pow-add, Nat.pow_pos, Nat.mul-le, Nat.mul-lt, Bool.MatchBool-at_false, Bool.cases_lt}
+use Rattle.std.proofs.lemmas.{Bool.ne_eqb, Bool.false≢true, Bool.ltb-true, Int.ints}
 use Rattle.std.specs.Prelude.{ℤ, pos, neg_ℤ, ◌+ℤ◌, ◌-ℤ◌, ◌≤ℤ◌}
-use Rattle.std.proofs.Math.Nat.{pow-le-pow_right, le_of_mul-le-mul_right, lt_of_mul-lt-mul_right, mul-lt-mul_of_pos_right}
-use Rattle.std.proofs.lemmas.Nat.{pow-add, pow_pos, mul-le, mul-lt}
-use Rattle.std.proofs.lemmas.Bool.{MatchBool-at_false, cases_lt, ne_eqb, false≢true, ltb-true}
-use Rattle.std.proofs.lemmas.Int.{ints}
 use Rattle.apfloat_model.specs.formats.Datum.{Datum, finite, infinite, nan}
-use Rattle.apfloat_model.specs.rounding.Grid.{IsOnGrid}
-use Rattle.apfloat_model.specs.order.Classes.{is_finite_non_zero}
-use Rattle.apfloat_model.specs.arithmetic.Exact.{magnitude}
+use Rattle.apfloat_model.specs.{rounding.Grid.IsOnGrid, order.Classes.is_finite_non_zero, arithmetic.Exact.magnitude}
 use Rattle.apfloat_model.specs.arithmetic.Exponents.{IsIlogb, IsLogarithm, zero_exponent}
-use Rattle.apfloat_model.proofs.general.Powers.{two_pos}
-use Rattle.apfloat_model.proofs.arithmetic.Signs.{magnitude_signed}
-use Rattle.apfloat_pair_theory.specs.PairFormats.{double}
-use Rattle.apfloat_pair_theory.specs.Pairs.{Pair}
+use Rattle.apfloat_model.proofs.{general.Powers.two_pos, arithmetic.Signs.magnitude_signed}
+use Rattle.apfloat_pair_theory.specs.{PairFormats.double, Pairs.Pair}
 use Rattle.apfloat_pair_theory.specs.PairAccuracy.{HaveExponents, sum_reach}
 use Rattle.apfloat_pair_theory.proofs.numbers.Signed.{IsGridNumber}
-use Rattle.apfloat_pair_theory.proofs.sums.SumSteps.{size}
 use Rattle.apfloat_pair_theory.proofs.numbers.WholeProducts.{IsWholeProduct, whole_size, whole_product}
+use Rattle.apfloat_pair_theory.proofs.sums.SumSteps.{size}
 
 -- ---- exponents
 

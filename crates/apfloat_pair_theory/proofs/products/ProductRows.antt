@@ -1,22 +1,16 @@
 -- Worked products of pairs; and the laws for 3 times 5: their premises can be met, and they give 15.
 use Rattle.std.proofs.Common.{◌≡◌, ℕ, ◌*◌, ◌^◌, ◌≤◌, true, false, refl, lit<, lit≤}
 use Rattle.std.specs.Prelude.{pos, neg_ℤ, ◌*ℤ◌}
-use Rattle.apfloat_model.specs.declared.kinds.Round.TheVariants.{NearestTiesToEven}
-use Rattle.apfloat_model.specs.formats.Datum.{finite}
-use Rattle.apfloat_model.specs.rounding.Rounding.{ok_bits, inexact_bit}
-use Rattle.apfloat_model.proofs.rows.RowsIn.{rounded}
-use Rattle.apfloat_pair_theory.proofs.sums.SumsSound.{step}
-use Rattle.apfloat_model.specs.formats.Members.{IsFiniteOf}
-use Rattle.apfloat_pair_theory.specs.PairFormats.{double}
-use Rattle.apfloat_pair_theory.specs.Pairs.{Pair, alone, IsNormalised, pair_number}
-use Rattle.apfloat_pair_theory.specs.PairProducts.{pair_product, IsPairProduct}
-use Rattle.apfloat_pair_theory.specs.PairAccuracy.{HaveExponents, HasZeroLow}
-use Rattle.apfloat_model.proofs.Steps.{leads_somewhere}
+use Rattle.apfloat_model.specs.{declared.kinds.Round.TheVariants.NearestTiesToEven, formats.Datum.finite}
+use Rattle.apfloat_model.specs.{formats.Members.IsFiniteOf, rounding.Rounding.ok_bits, rounding.Rounding.inexact_bit}
+use Rattle.apfloat_model.proofs.{rows.RowsIn.rounded, Steps.leads_somewhere}
+use Rattle.apfloat_pair_theory.proofs.sums.{SumsSound.step, PairSumLaws.single_normalised}
 use Rattle.apfloat_pair_theory.proofs.pairs.LawOperands.{double_alone}
-use Rattle.apfloat_pair_theory.proofs.sums.PairSumLaws.{single_normalised}
-use Rattle.apfloat_pair_theory.proofs.products.ProductRanges.{have_exponents}
-use Rattle.apfloat_pair_theory.proofs.products.ProductsSound.{pair_product_sound}
+use Rattle.apfloat_pair_theory.proofs.products.{ProductRanges.have_exponents, ProductsSound.pair_product_sound}
 use Rattle.apfloat_pair_theory.proofs.products.PairProductLaws.{error_free_product, accurate_product}
+use Rattle.apfloat_pair_theory.specs.{PairFormats.double, Pairs.Pair, Pairs.alone, Pairs.IsNormalised}
+use Rattle.apfloat_pair_theory.specs.{Pairs.pair_number, PairProducts.pair_product, PairProducts.IsPairProduct}
+use Rattle.apfloat_pair_theory.specs.PairAccuracy.{HaveExponents, HasZeroLow}
 
 -- ---- products with 1 + 2 ^ -1074, which is one quantum above 1
 

@@ -1,27 +1,20 @@
 -- The steps of the product of two pairs, on finite data: each step is finite, and is a rounding of numbers.
 use Rattle.std.proofs.Common.{◌≡◌, ℕ, ◌+◌, ◌-◌, ◌*◌, ◌^◌, ◌<◌, ◌≤◌, true, sym, ap, ◌∙◌, subst, ⊎_elim, arith}
-use Rattle.std.specs.Prelude.{ℤ, ◌+ℤ◌, ◌-ℤ◌, ◌*ℤ◌}
 use Rattle.std.proofs.Math.Nat.{mul-le-mul_right, mul-le-mul_left, le_of_mul-le-mul_right}
-use Rattle.std.proofs.lemmas.Nat.{pow_pos}
-use Rattle.std.proofs.lemmas.Bool.{cases_lt}
+use Rattle.std.proofs.lemmas.{Nat.pow_pos, Bool.cases_lt}
+use Rattle.std.specs.Prelude.{ℤ, ◌+ℤ◌, ◌-ℤ◌, ◌*ℤ◌}
+use Rattle.apfloat_model.specs.{rounding.Negation.negated, order.Classes.is_finite, order.Order.number}
 use Rattle.apfloat_model.specs.declared.kinds.Round.TheVariants.{NearestTiesToEven}
 use Rattle.apfloat_model.specs.declared.kinds.NonfiniteBehavior.TheVariants.{IEEE754}
-use Rattle.apfloat_model.specs.formats.Format.{Format, largest}
-use Rattle.apfloat_model.specs.formats.Datum.{Datum}
-use Rattle.apfloat_model.specs.rounding.Negation.{negated}
-use Rattle.apfloat_model.specs.order.Classes.{is_finite}
-use Rattle.apfloat_model.specs.arithmetic.Exact.{magnitude}
-use Rattle.apfloat_model.specs.order.Order.{number}
-use Rattle.apfloat_model.specs.arithmetic.Products.{IsProduct}
-use Rattle.apfloat_model.specs.arithmetic.FusedSums.{IsFusedSum}
-use Rattle.apfloat_pair_theory.proofs.numbers.Signed.{grown, magnitude_le, magnitude-sub}
+use Rattle.apfloat_model.specs.formats.{Format.Format, Format.largest, Datum.Datum}
+use Rattle.apfloat_model.specs.arithmetic.{Exact.magnitude, Products.IsProduct, FusedSums.IsFusedSum}
 use Rattle.apfloat_model.proofs.whole_numbers.SignedProducts.{magnitude-mul}
+use Rattle.apfloat_pair_theory.proofs.numbers.{TwoSums.positive, Roundings.sum_within}
+use Rattle.apfloat_pair_theory.proofs.numbers.Signed.{grown, magnitude_le, magnitude-sub}
 use Rattle.apfloat_pair_theory.proofs.numbers.Nearest.{IsNearest, relative_error}
-use Rattle.apfloat_pair_theory.proofs.numbers.TwoSums.{positive}
-use Rattle.apfloat_pair_theory.proofs.numbers.Roundings.{sum_within}
-use Rattle.apfloat_pair_theory.proofs.sums.SumSteps.{HasFlags, IsSumStep, size}
 use Rattle.apfloat_pair_theory.proofs.numbers.WholeProducts.{IsWholeProduct, whole_size, product_within, two_product}
 use Rattle.apfloat_pair_theory.proofs.numbers.FractionErrors.{IsCloseFraction, fraction_error, fraction_size}
+use Rattle.apfloat_pair_theory.proofs.sums.SumSteps.{HasFlags, IsSumStep, size}
 
 -- ---- the losses, as numbers
 

@@ -1,19 +1,15 @@
 -- The chain of a product of pairs is sound, so that it leads to one result with one status, whose flags go together.
 use Rattle.std.proofs.Common.{ℕ}
-use Rattle.apfloat_model.specs.declared.kinds.NonfiniteBehavior.TheVariants.{IEEE754}
-use Rattle.apfloat_model.specs.declared.kinds.Category.{Category}
+use Rattle.apfloat_model.specs.declared.kinds.{NonfiniteBehavior.TheVariants.IEEE754, Category.Category}
 use Rattle.apfloat_model.specs.declared.kinds.Category.TheVariants.{Normal, NaN}
-use Rattle.apfloat_model.specs.formats.Datum.{Datum}
-use Rattle.apfloat_model.specs.rounding.Negation.{negated}
-use Rattle.apfloat_model.specs.rounding.RaisedFlags.{FlagsGoTogether}
-use Rattle.apfloat_model.specs.rounding.Steps.{ends, AreSound}
-use Rattle.apfloat_model.specs.order.Classes.{is_finite_non_zero}
+use Rattle.apfloat_model.specs.{formats.Datum.Datum, rounding.Negation.negated, rounding.RaisedFlags.FlagsGoTogether}
+use Rattle.apfloat_model.specs.{rounding.Steps.ends, rounding.Steps.AreSound, order.Classes.is_finite_non_zero}
 use Rattle.apfloat_model.proofs.Outcomes.{sum_sound, product_sound, fused_sum_sound}
 use Rattle.apfloat_model.proofs.rounding.StatusesTogether.{ok_together, union_together}
-use Rattle.apfloat_pair_theory.specs.PairFormats.{double}
-use Rattle.apfloat_pair_theory.specs.Pairs.{Pair, alone, pair_category}
+use Rattle.apfloat_pair_theory.specs.{PairFormats.double, Pairs.Pair, Pairs.alone, Pairs.pair_category}
 use Rattle.apfloat_pair_theory.specs.PairSums.{◌∪◌, closing}
-use Rattle.apfloat_pair_theory.specs.PairProducts.{lost_of_product, number_product, product_of_numbers, product_of_categories, pair_product}
+use Rattle.apfloat_pair_theory.specs.PairProducts.{lost_of_product, number_product, product_of_numbers}
+use Rattle.apfloat_pair_theory.specs.PairProducts.{product_of_categories, pair_product}
 use Rattle.apfloat_pair_theory.proofs.sums.SumsSound.{sound_after, sound_if, continued_sound, closing_sound}
 
 lost_of_product_sound : (a b c d t : Datum) → AreSound (lost_of_product a b c d t)

@@ -1,4 +1,5 @@
-use Rattle.apfloat_pair_theory.proofs.pairs.ExactPairs.{exact_quotient, exact_truncated_remainder, exact_nearest_remainder}
+use Rattle.apfloat_pair_theory.proofs.pairs.ExactPairs.{exact_quotient, exact_truncated_remainder}
+use Rattle.apfloat_pair_theory.proofs.pairs.ExactPairs.{exact_nearest_remainder}
 use Rattle.apfloat_pair_theory.proofs.quotient_laws.Goals as goal
 
 pub returns-clause-quotient : goal.returns-clause-quotient

@@ -3,13 +3,9 @@ use Rattle.std.proofs.Common.{lit<}
 use Rattle.apfloat_model.specs.declared.kinds.Round.{Round}
 use Rattle.apfloat_model.specs.rounding.Steps.{Steps, Leads, AreSound}
 use Rattle.apfloat_model.proofs.Steps.{leads_once, leads_somewhere}
-use Rattle.apfloat_pair_theory.specs.PairFormats.{double}
-use Rattle.apfloat_pair_theory.specs.Pairs.{Pair, negated_pair}
-use Rattle.apfloat_pair_theory.specs.PairSums.{pair_sum}
-use Rattle.apfloat_pair_theory.specs.PairProducts.{pair_product}
-use Rattle.apfloat_pair_theory.specs.PairAnswers.{HasOneAnswer}
-use Rattle.apfloat_pair_theory.proofs.sums.SumsSound.{pair_sum_sound}
-use Rattle.apfloat_pair_theory.proofs.products.ProductsSound.{pair_product_sound}
+use Rattle.apfloat_pair_theory.specs.{PairFormats.double, Pairs.Pair, Pairs.negated_pair, PairSums.pair_sum}
+use Rattle.apfloat_pair_theory.specs.{PairProducts.pair_product, PairAnswers.HasOneAnswer}
+use Rattle.apfloat_pair_theory.proofs.{sums.SumsSound.pair_sum_sound, products.ProductsSound.pair_product_sound}
 use Rattle.apfloat_pair_theory.proofs.steps_have_one_answer.Goals as goal
 
 one_answer : (mode : Round) (steps : Steps Pair) → AreSound steps → HasOneAnswer (Leads double mode steps)

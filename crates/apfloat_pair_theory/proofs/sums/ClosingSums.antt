@@ -1,29 +1,23 @@
 -- The closing sum of two doubles z and y, which ends each sum and each product of pairs: within reach, it is exact, and
 -- the result is normalized.
-use Rattle.std.proofs.Common.{◌≡◌, ℕ, ◌*◌, ◌^◌, ◌<◌, ◌≤◌, true, false, eqb, sym, refl, ap, ◌∙◌, subst, arith, inl, lit<, lit≤}
+use Rattle.std.proofs.Common.{◌≡◌, ℕ, ◌*◌, ◌^◌, ◌<◌, ◌≤◌, true, false, eqb, sym, refl, ap, ◌∙◌, subst, arith, inl, lit<}
+use Rattle.std.proofs.{Common.lit≤, lemmas.Bool.false≢true, lemmas.Bool.and_parts, lemmas.Bool.eqb-true}
 use Rattle.std.specs.Prelude.{ℤ, pos, ◌+ℤ◌}
-use Rattle.std.proofs.lemmas.Bool.{false≢true, and_parts, eqb-true}
+use Rattle.apfloat_model.specs.{declared.kinds.Round.TheVariants.NearestTiesToEven, formats.Format.largest}
 use Rattle.apfloat_model.specs.declared.kinds.NonfiniteBehavior.TheVariants.{IEEE754}
-use Rattle.apfloat_model.specs.declared.kinds.Round.TheVariants.{NearestTiesToEven}
-use Rattle.apfloat_model.specs.formats.Format.{largest}
 use Rattle.apfloat_model.specs.formats.Datum.{Datum, finite, infinite, nan}
-use Rattle.apfloat_model.specs.rounding.Rounding.{ok_bits}
-use Rattle.apfloat_model.specs.rounding.Steps.{Leads}
-use Rattle.apfloat_model.specs.order.Classes.{is_finite, is_infinite, same_datum}
-use Rattle.apfloat_model.specs.arithmetic.Exact.{same_sign, signed}
-use Rattle.apfloat_model.specs.order.Order.{number}
-use Rattle.apfloat_model.specs.arithmetic.Sums.{IsSum}
+use Rattle.apfloat_model.specs.rounding.{Rounding.ok_bits, Steps.Leads}
+use Rattle.apfloat_model.specs.order.{Classes.is_finite, Classes.is_infinite, Classes.same_datum, Order.number}
+use Rattle.apfloat_model.specs.arithmetic.{Exact.same_sign, Exact.signed, Sums.IsSum}
 use Rattle.apfloat_model.proofs.arithmetic.Signs.{no_sign}
 use Rattle.apfloat_pair_theory.specs.PairFormats.{double}
 use Rattle.apfloat_pair_theory.specs.Pairs.{Pair, positive_zero, alone, pair_number, IsNormalised}
 use Rattle.apfloat_pair_theory.specs.PairSums.{◌∪◌, closing_low, closing}
 use Rattle.apfloat_pair_theory.specs.PairAccuracy.{IsOkOrInexact, sum_reach}
-use Rattle.apfloat_pair_theory.proofs.numbers.Signed.{IsGridNumber}
-use Rattle.apfloat_pair_theory.proofs.numbers.TwoSums.{IsShared}
-use Rattle.apfloat_pair_theory.proofs.sums.PairRoundings.{fast_two_sum}
-use Rattle.apfloat_pair_theory.proofs.sums.SumSteps.{IsClosingSteps, IsAddend, size, closed, high_rounded}
-use Rattle.apfloat_pair_theory.proofs.sums.SumsSound.{at_test}
+use Rattle.apfloat_pair_theory.proofs.numbers.{Signed.IsGridNumber, TwoSums.IsShared}
 use Rattle.apfloat_pair_theory.proofs.numbers.Statuses.{sum_status, difference_status, union_status}
+use Rattle.apfloat_pair_theory.proofs.sums.{PairRoundings.fast_two_sum, SumSteps.IsClosingSteps, SumSteps.IsAddend}
+use Rattle.apfloat_pair_theory.proofs.sums.{SumSteps.size, SumSteps.closed, SumSteps.high_rounded, SumsSound.at_test}
 use Rattle.apfloat_pair_theory.proofs.pairs.Normalised.{IsHighOf, normalised_high, high_of_sum, high_alone}
 
 -- ---- doubles

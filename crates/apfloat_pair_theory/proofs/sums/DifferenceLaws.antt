@@ -1,18 +1,16 @@
 -- The difference of two pairs of doubles, to nearest: it is the sum with the negated pair, and as accurate.
 use Rattle.std.proofs.Common.{◌≡◌, ℕ, ◌+◌, ◌≤◌, sym, ap, ◌∙◌, subst, arith}
-use Rattle.std.specs.Prelude.{ℤ, neg_ℤ, ◌+ℤ◌, ◌-ℤ◌}
 use Rattle.std.proofs.lemmas.Int.{ints}
-use Rattle.apfloat_model.specs.declared.kinds.Round.TheVariants.{NearestTiesToEven}
-use Rattle.apfloat_model.specs.order.Classes.{is_finite}
-use Rattle.apfloat_model.specs.arithmetic.Exact.{magnitude}
-use Rattle.apfloat_model.specs.formats.Members.{IsMember}
-use Rattle.apfloat_pair_theory.specs.PairFormats.{double}
-use Rattle.apfloat_pair_theory.specs.Pairs.{Pair, pair_number, negated_pair}
-use Rattle.apfloat_pair_theory.specs.PairSums.{IsPairDifference}
-use Rattle.apfloat_pair_theory.specs.PairAccuracy.{sum_reach, HasZeroLow, AreWithinReach, IsExactPair, IsClosePair, total_size, IsErrorFreeDifference, IsAccurateDifference, HasPlainStatus}
-use Rattle.apfloat_pair_theory.proofs.numbers.Signed.{magnitude-neg}
-use Rattle.apfloat_pair_theory.proofs.numbers.Roundings.{negated_finite}
-use Rattle.apfloat_pair_theory.proofs.pairs.Negated.{negated_low, negated_normalised, negated_pair_number, negated_quanta, negated_member}
+use Rattle.std.specs.Prelude.{ℤ, neg_ℤ, ◌+ℤ◌, ◌-ℤ◌}
+use Rattle.apfloat_model.specs.{declared.kinds.Round.TheVariants.NearestTiesToEven, order.Classes.is_finite}
+use Rattle.apfloat_model.specs.{arithmetic.Exact.magnitude, formats.Members.IsMember}
+use Rattle.apfloat_pair_theory.specs.{PairFormats.double, Pairs.Pair, Pairs.pair_number, Pairs.negated_pair}
+use Rattle.apfloat_pair_theory.specs.{PairSums.IsPairDifference, PairAccuracy.sum_reach}
+use Rattle.apfloat_pair_theory.specs.PairAccuracy.{HasZeroLow, AreWithinReach, IsExactPair, IsClosePair, total_size}
+use Rattle.apfloat_pair_theory.specs.PairAccuracy.{IsErrorFreeDifference, IsAccurateDifference, HasPlainStatus}
+use Rattle.apfloat_pair_theory.proofs.numbers.{Signed.magnitude-neg, Roundings.negated_finite}
+use Rattle.apfloat_pair_theory.proofs.pairs.Negated.{negated_low, negated_normalised, negated_pair_number}
+use Rattle.apfloat_pair_theory.proofs.pairs.Negated.{negated_quanta, negated_member}
 use Rattle.apfloat_pair_theory.proofs.sums.PairSumLaws.{error_free_sum, accurate_sum, plain_sum}
 
 -- the negation of a double alone is a double alone

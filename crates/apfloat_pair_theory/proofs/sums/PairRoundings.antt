@@ -1,15 +1,16 @@
 -- Sums of pairs: TwoSum of the high parts, the two low parts, and Fast2Sum, which closes the sum.
 use Rattle.std.proofs.Common.{◌≡◌, ℕ, ◌+◌, ◌-◌, ◌*◌, ◌^◌, ◌<◌, ◌≤◌, sym, ap, subst, ⊎_elim, arith}
-use Rattle.std.specs.Prelude.{ℤ, pos, ◌+ℤ◌, ◌-ℤ◌}
 use Rattle.std.proofs.Math.Nat.{mul-le-mul_right}
-use Rattle.std.proofs.lemmas.Nat.{pow-add, pow_pos}
-use Rattle.std.proofs.lemmas.Bool.{cases_lt}
-use Rattle.std.proofs.lemmas.Int.{ints}
+use Rattle.std.proofs.lemmas.{Nat.pow-add, Nat.pow_pos, Bool.cases_lt, Int.ints}
+use Rattle.std.specs.Prelude.{ℤ, pos, ◌+ℤ◌, ◌-ℤ◌}
 use Rattle.apfloat_model.specs.arithmetic.Exact.{magnitude}
 use Rattle.apfloat_model.proofs.arithmetic.Signs.{one_side}
-use Rattle.apfloat_pair_theory.proofs.numbers.Signed.{magnitude-sub, magnitude_le, IsMultiple, sum_multiple, finer_multiple, coarse_multiple, grid_bound, IsGridNumber, on_grid_as, common}
-use Rattle.apfloat_pair_theory.proofs.numbers.Nearest.{IsNearest, nearest_exact, relative_error, nearest_cases, error_on_grid}
-use Rattle.apfloat_pair_theory.proofs.numbers.TwoSums.{positive, IsShared, shared, fast_two_sum_difference, IsTwoSum, two_sum}
+use Rattle.apfloat_pair_theory.proofs.numbers.Signed.{magnitude-sub, magnitude_le, IsMultiple, sum_multiple}
+use Rattle.apfloat_pair_theory.proofs.numbers.Signed.{finer_multiple, coarse_multiple, grid_bound, IsGridNumber}
+use Rattle.apfloat_pair_theory.proofs.numbers.Signed.{on_grid_as, common}
+use Rattle.apfloat_pair_theory.proofs.numbers.Nearest.{IsNearest, nearest_exact, relative_error, nearest_cases}
+use Rattle.apfloat_pair_theory.proofs.numbers.{Nearest.error_on_grid, TwoSums.positive}
+use Rattle.apfloat_pair_theory.proofs.numbers.TwoSums.{IsShared, shared, fast_two_sum_difference, IsTwoSum, two_sum}
 
 -- the three roundings of Fast2Sum of z and w, which closes a sum: h, its error l, and g between them
 pub record IsFastTwoSum (precision : ℕ) (z w h g l : ℤ) : Type 0 where

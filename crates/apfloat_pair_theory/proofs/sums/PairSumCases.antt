@@ -2,20 +2,15 @@
 -- the other; otherwise it is the sum of numbers.
 use Rattle.std.proofs.Common.{◌≡◌, ℕ, ◌⊎◌, true, false, eqb, inl, inr, refl, ap, ◌∙◌, ⊎_elim}
 use Rattle.std.proofs.Math.Path.{subst₂}
-use Rattle.std.specs.Prelude.{pos}
 use Rattle.std.proofs.lemmas.Bool.{cases_eq, false≢true, ne_eqb, eq-eqb}
-use Rattle.apfloat_model.specs.declared.kinds.Round.TheVariants.{NearestTiesToEven}
-use Rattle.apfloat_model.specs.formats.Datum.{Datum, finite, infinite, nan}
-use Rattle.apfloat_model.specs.rounding.Rounding.{ok_bits}
-use Rattle.apfloat_model.specs.rounding.Steps.{Leads}
-use Rattle.apfloat_pair_theory.specs.PairFormats.{double}
-use Rattle.apfloat_model.specs.order.Classes.{is_finite, category_of}
-use Rattle.apfloat_model.specs.arithmetic.Exact.{signed}
-use Rattle.apfloat_model.specs.order.Order.{number}
-use Rattle.apfloat_model.proofs.arithmetic.Signs.{no_sign}
-use Rattle.apfloat_pair_theory.specs.Pairs.{Pair, pair_category}
-use Rattle.apfloat_model.specs.declared.kinds.Category.{Category}
+use Rattle.std.specs.Prelude.{pos}
+use Rattle.apfloat_model.specs.declared.kinds.{Round.TheVariants.NearestTiesToEven, Category.Category}
 use Rattle.apfloat_model.specs.declared.kinds.Category.TheVariants.{Zero, Normal}
+use Rattle.apfloat_model.specs.formats.Datum.{Datum, finite, infinite, nan}
+use Rattle.apfloat_model.specs.{rounding.Rounding.ok_bits, rounding.Steps.Leads, order.Classes.is_finite}
+use Rattle.apfloat_model.specs.{order.Classes.category_of, order.Order.number, arithmetic.Exact.signed}
+use Rattle.apfloat_model.proofs.arithmetic.Signs.{no_sign}
+use Rattle.apfloat_pair_theory.specs.{PairFormats.double, Pairs.Pair, Pairs.pair_category}
 use Rattle.apfloat_pair_theory.specs.PairSums.{sum_of_categories, sum_of_numbers, IsPairSum}
 
 -- a zero of either sign

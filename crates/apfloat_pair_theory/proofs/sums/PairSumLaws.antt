@@ -1,31 +1,26 @@
 -- The sum of two pairs of doubles, rounded to nearest: that of two doubles is exact, and that of normalized pairs is
 -- normalized, and close to the exact sum.
-use Rattle.std.proofs.Common.{◌≡◌, ℕ, ◌+◌, ◌*◌, ◌^◌, ◌≤◌, true, sym, ap, ◌∙◌, subst, inl, ⊎_elim, arith}
+use Rattle.std.proofs.Common.{◌≡◌, ℕ, ◌+◌, ◌*◌, ◌^◌, ◌≤◌, true, sym, ap, ◌∙◌, subst}
+use Rattle.std.proofs.{Common.inl, Common.⊎_elim, Common.arith, lemmas.Int.ints}
 use Rattle.std.specs.Prelude.{ℤ, pos, ◌+ℤ◌, ◌-ℤ◌, ◌*ℤ◌}
-use Rattle.std.proofs.lemmas.Int.{ints}
 use Rattle.apfloat_model.specs.declared.kinds.Round.TheVariants.{NearestTiesToEven}
-use Rattle.apfloat_model.specs.formats.Format.{largest}
-use Rattle.apfloat_model.specs.formats.Datum.{Datum}
-use Rattle.apfloat_model.specs.rounding.Steps.{Leads}
-use Rattle.apfloat_model.specs.order.Classes.{is_finite, quanta_of}
-use Rattle.apfloat_model.specs.arithmetic.Exact.{magnitude}
-use Rattle.apfloat_model.specs.formats.Members.{IsMember}
-use Rattle.apfloat_model.specs.order.Order.{number}
-use Rattle.apfloat_model.proofs.arithmetic.Signs.{one_side}
-use Rattle.apfloat_pair_theory.specs.PairFormats.{double}
-use Rattle.apfloat_pair_theory.specs.Pairs.{Pair, pair_number, IsNormalised}
+use Rattle.apfloat_model.specs.formats.{Format.largest, Datum.Datum, Members.IsMember}
+use Rattle.apfloat_model.specs.{rounding.Steps.Leads, order.Classes.is_finite, order.Classes.quanta_of}
+use Rattle.apfloat_model.specs.{order.Order.number, arithmetic.Exact.magnitude}
+use Rattle.apfloat_model.proofs.{arithmetic.Signs.one_side, whole_numbers.SignedProducts.times_one}
+use Rattle.apfloat_pair_theory.specs.{PairFormats.double, Pairs.Pair, Pairs.pair_number, Pairs.IsNormalised}
 use Rattle.apfloat_pair_theory.specs.PairSums.{sum_of_numbers, IsPairSum}
-use Rattle.apfloat_pair_theory.specs.PairAccuracy.{sum_reach, AreWithinReach, IsExactPair, IsClosePair, total_size, IsErrorFreeSum, IsAccurateSum, HasPlainStatus}
-use Rattle.apfloat_model.proofs.whole_numbers.SignedProducts.{times_one}
-use Rattle.apfloat_pair_theory.proofs.sums.SumBounds.{opening_bound}
+use Rattle.apfloat_pair_theory.specs.PairAccuracy.{sum_reach, AreWithinReach, IsExactPair, IsClosePair, total_size}
+use Rattle.apfloat_pair_theory.specs.PairAccuracy.{IsErrorFreeSum, IsAccurateSum, HasPlainStatus}
+use Rattle.apfloat_pair_theory.proofs.sums.{SumBounds.opening_bound, PairRoundings.exact_opening}
+use Rattle.apfloat_pair_theory.proofs.sums.{PairRoundings.closing_shared, SumSteps.size, PairSumCases.IsGivenBack}
+use Rattle.apfloat_pair_theory.proofs.sums.{PairSumCases.sum_rows, ClosingSums.is_ieee, ClosingSums.wide_enough}
+use Rattle.apfloat_pair_theory.proofs.sums.{ClosingSums.room, SumAnswers.IsPairSummand}
+use Rattle.apfloat_pair_theory.proofs.sums.SumAnswers.{IsPairOpening, IsSharing, IsSummed, numbers_summed}
 use Rattle.apfloat_pair_theory.proofs.numbers.TwoSums.{IsShared, two_sum}
-use Rattle.apfloat_pair_theory.proofs.sums.PairRoundings.{exact_opening, closing_shared}
-use Rattle.apfloat_pair_theory.proofs.sums.SumSteps.{size}
-use Rattle.apfloat_pair_theory.proofs.sums.PairSumCases.{IsGivenBack, sum_rows}
 use Rattle.apfloat_pair_theory.proofs.pairs.Normalised.{IsHighOf, normalised_high, high_alone}
-use Rattle.apfloat_pair_theory.proofs.sums.ClosingSums.{is_ieee, wide_enough, room}
-use Rattle.apfloat_pair_theory.proofs.pairs.LawOperands.{IsDoubleAlone, double_alone, magnitude_quanta, member_on_grid, single_low, normalised_nearest, normalised_low}
-use Rattle.apfloat_pair_theory.proofs.sums.SumAnswers.{IsPairSummand, IsPairOpening, IsSharing, IsSummed, numbers_summed}
+use Rattle.apfloat_pair_theory.proofs.pairs.LawOperands.{IsDoubleAlone, double_alone, magnitude_quanta, member_on_grid}
+use Rattle.apfloat_pair_theory.proofs.pairs.LawOperands.{single_low, normalised_nearest, normalised_low}
 
 -- ---- two doubles
 

@@ -1,26 +1,20 @@
 -- The steps of the sum of two pairs of doubles: within reach, they are roundings that give a normalized pair.
 use Rattle.std.proofs.Common.{◌≡◌, ℕ, if◌then◌else◌, Bool, true, false, refl}
 use Rattle.std.specs.Prelude.{ℤ, ◌+ℤ◌}
+use Rattle.apfloat_model.specs.{declared.kinds.Round.TheVariants.NearestTiesToEven, formats.Datum.Datum}
+use Rattle.apfloat_model.specs.{order.Classes.same_datum, order.Order.number, arithmetic.Sums.IsSum}
 use Rattle.apfloat_model.specs.declared.kinds.NonfiniteBehavior.TheVariants.{IEEE754}
-use Rattle.apfloat_model.specs.declared.kinds.Round.TheVariants.{NearestTiesToEven}
-use Rattle.apfloat_model.specs.formats.Datum.{Datum}
-use Rattle.apfloat_model.specs.rounding.Rounding.{ok_bits}
-use Rattle.apfloat_model.specs.rounding.Steps.{ends, Leads}
-use Rattle.apfloat_model.specs.rounding.Negation.{negated}
-use Rattle.apfloat_model.specs.order.Classes.{same_datum}
-use Rattle.apfloat_model.specs.order.Order.{number}
-use Rattle.apfloat_model.specs.arithmetic.Sums.{IsSum}
+use Rattle.apfloat_model.specs.rounding.{Rounding.ok_bits, Steps.ends, Steps.Leads, Negation.negated}
 use Rattle.apfloat_pair_theory.specs.PairFormats.{double}
 use Rattle.apfloat_pair_theory.specs.Pairs.{Pair, positive_zero, alone, pair_number, IsNormalised}
 use Rattle.apfloat_pair_theory.specs.PairSums.{◌∪◌, closing, finite_sum, sum_of_numbers}
 use Rattle.apfloat_pair_theory.specs.PairAccuracy.{IsOkOrInexact, sum_reach}
-use Rattle.apfloat_pair_theory.proofs.numbers.TwoSums.{IsShared}
-use Rattle.apfloat_pair_theory.proofs.sums.PairRoundings.{IsOpening}
-use Rattle.apfloat_pair_theory.proofs.sums.SumSteps.{IsOpened, IsOpeningSteps, IsSummand, opened, first_finite}
-use Rattle.apfloat_pair_theory.proofs.numbers.Roundings.{negated_finite}
-use Rattle.apfloat_pair_theory.proofs.sums.SumsSound.{at_test}
+use Rattle.apfloat_pair_theory.proofs.numbers.{TwoSums.IsShared, Roundings.negated_finite}
 use Rattle.apfloat_pair_theory.proofs.numbers.Statuses.{sum_status, difference_status, union_status}
-use Rattle.apfloat_pair_theory.proofs.sums.ClosingSums.{is_ieee, wide_enough, digits, room, finite_is_not_infinite, IsClosable, IsPairOf, given_pair, closed_pair, alone_pair, zero_number}
+use Rattle.apfloat_pair_theory.proofs.sums.{SumsSound.at_test, ClosingSums.is_ieee, PairRoundings.IsOpening}
+use Rattle.apfloat_pair_theory.proofs.sums.SumSteps.{IsOpened, IsOpeningSteps, IsSummand, opened, first_finite}
+use Rattle.apfloat_pair_theory.proofs.sums.ClosingSums.{wide_enough, digits, room, finite_is_not_infinite, IsClosable}
+use Rattle.apfloat_pair_theory.proofs.sums.ClosingSums.{IsPairOf, given_pair, closed_pair, alone_pair, zero_number}
 
 -- ---- the sum of two numbers
 

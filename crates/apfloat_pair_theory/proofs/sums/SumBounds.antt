@@ -1,13 +1,11 @@
 -- The error of the sum of two normalized pairs.
 use Rattle.std.proofs.Common.{◌≡◌, ℕ, ◌+◌, ◌*◌, ◌^◌, ◌≤◌, arith}
+use Rattle.std.proofs.{Math.Nat.mul-le-mul_left, lemmas.Int.ints}
 use Rattle.std.specs.Prelude.{ℤ, ◌+ℤ◌, ◌-ℤ◌}
-use Rattle.std.proofs.Math.Nat.{mul-le-mul_left}
-use Rattle.std.proofs.lemmas.Int.{ints}
 use Rattle.apfloat_model.specs.arithmetic.Exact.{magnitude}
 use Rattle.apfloat_model.proofs.arithmetic.Signs.{one_side}
-use Rattle.apfloat_pair_theory.proofs.numbers.Signed.{first_most, magnitude_le}
-use Rattle.apfloat_pair_theory.proofs.numbers.Nearest.{IsNearest, relative_error}
-use Rattle.apfloat_pair_theory.proofs.numbers.TwoSums.{positive, two_sum}
+use Rattle.apfloat_pair_theory.proofs.numbers.{Signed.first_most, Signed.magnitude_le, Nearest.IsNearest}
+use Rattle.apfloat_pair_theory.proofs.numbers.{Nearest.relative_error, TwoSums.positive, TwoSums.two_sum}
 use Rattle.apfloat_pair_theory.proofs.sums.PairRoundings.{IsOpening, eighth, rest_small, low_small, rounded_low}
 
 -- the losses i and j are at most 8 / p ^ 2 of A + C, the magnitudes of the operands

@@ -1,14 +1,11 @@
 -- Worked sums of pairs, and operands to which the laws apply.
 use Rattle.std.proofs.Common.{ℕ, ◌+◌, ◌*◌, ◌^◌, Bool, true, false, refl, lit≤}
-use Rattle.apfloat_model.specs.declared.kinds.Round.TheVariants.{NearestTiesToEven}
-use Rattle.apfloat_model.specs.formats.Datum.{finite}
+use Rattle.apfloat_model.specs.{declared.kinds.Round.TheVariants.NearestTiesToEven, formats.Datum.finite}
 use Rattle.apfloat_model.specs.rounding.Rounding.{ok_bits, inexact_bit}
 use Rattle.apfloat_model.proofs.rows.RowsIn.{rounded}
-use Rattle.apfloat_pair_theory.proofs.sums.SumsSound.{step}
+use Rattle.apfloat_pair_theory.proofs.{sums.SumsSound.step, pairs.Normalised.normalised_by}
 use Rattle.apfloat_pair_theory.specs.Pairs.{Pair, alone, IsNormalised}
-use Rattle.apfloat_pair_theory.specs.PairSums.{IsPairSum}
-use Rattle.apfloat_pair_theory.specs.PairAccuracy.{AreWithinReach}
-use Rattle.apfloat_pair_theory.proofs.pairs.Normalised.{normalised_by}
+use Rattle.apfloat_pair_theory.specs.{PairSums.IsPairSum, PairAccuracy.AreWithinReach}
 
 abbrev parts_of : Bool → ℕ → Bool → ℕ → Pair
 parts_of b m c n = record { high = finite b m; low = finite c n }

@@ -1,23 +1,19 @@
 -- The written steps of a pair's sum, on finite data whose magnitudes are at most a third of the largest value: each
 -- step is finite, and is a rounding of numbers.
-use Rattle.std.proofs.Common.{◌≡◌, ℕ, ◌+◌, ◌*◌, ◌^◌, ◌≤◌, true, sym, ap, ◌∙◌, subst, arith}
+use Rattle.std.proofs.Common.{◌≡◌, ℕ, ◌+◌, ◌*◌, ◌^◌, ◌≤◌, true, sym, ap, ◌∙◌, subst}
+use Rattle.std.proofs.{Common.arith, lemmas.Int.ints}
 use Rattle.std.specs.Prelude.{ℤ, ◌+ℤ◌, ◌-ℤ◌}
-use Rattle.std.proofs.lemmas.Int.{ints}
 use Rattle.apfloat_model.specs.declared.kinds.Round.TheVariants.{NearestTiesToEven}
 use Rattle.apfloat_model.specs.declared.kinds.NonfiniteBehavior.TheVariants.{IEEE754}
-use Rattle.apfloat_model.specs.formats.Format.{Format, largest}
-use Rattle.apfloat_model.specs.formats.Datum.{Datum}
-use Rattle.apfloat_model.specs.rounding.Negation.{negated}
-use Rattle.apfloat_model.specs.order.Classes.{is_finite}
-use Rattle.apfloat_model.specs.arithmetic.Exact.{magnitude}
-use Rattle.apfloat_model.specs.order.Order.{number}
-use Rattle.apfloat_model.specs.arithmetic.Sums.{IsSum, IsDifference}
+use Rattle.apfloat_model.specs.formats.{Format.Format, Format.largest, Datum.Datum}
+use Rattle.apfloat_model.specs.{rounding.Negation.negated, order.Classes.is_finite, order.Order.number}
+use Rattle.apfloat_model.specs.arithmetic.{Exact.magnitude, Sums.IsSum, Sums.IsDifference}
 use Rattle.apfloat_model.proofs.arithmetic.Signs.{one_side}
 use Rattle.apfloat_pair_theory.proofs.numbers.Signed.{magnitude-neg, grown, magnitude_le, IsGridNumber}
-use Rattle.apfloat_pair_theory.proofs.numbers.Nearest.{IsNearest}
-use Rattle.apfloat_pair_theory.proofs.numbers.TwoSums.{IsTwoSum, two_sum, first_at, second_at}
+use Rattle.apfloat_pair_theory.proofs.numbers.{Nearest.IsNearest, TwoSums.IsTwoSum, TwoSums.two_sum, TwoSums.first_at}
+use Rattle.apfloat_pair_theory.proofs.numbers.{TwoSums.second_at, Roundings.IsRoundedTo}
+use Rattle.apfloat_pair_theory.proofs.numbers.Roundings.{sum_within, difference_within, negated_finite, negated_number}
 use Rattle.apfloat_pair_theory.proofs.sums.PairRoundings.{IsFastTwoSum, IsOpening, eighth, error_eighth, rest_small}
-use Rattle.apfloat_pair_theory.proofs.numbers.Roundings.{IsRoundedTo, sum_within, difference_within, negated_finite, negated_number}
 
 -- a step to nearest, with some flags
 abbrev pub HasFlags : (ℕ → Type 0) → Type 0

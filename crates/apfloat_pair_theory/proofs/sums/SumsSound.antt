@@ -1,14 +1,9 @@
 -- The chain of a sum of pairs is sound, so that it leads to one result with one status, whose flags go together.
 use Rattle.std.proofs.Common.{◌≡◌, ℕ, Bool, true, false, subst, if◌then◌else◌}
-use Rattle.apfloat_model.specs.declared.kinds.Round.{Round}
-use Rattle.apfloat_model.specs.declared.kinds.NonfiniteBehavior.TheVariants.{IEEE754}
-use Rattle.apfloat_model.specs.declared.kinds.Category.{Category}
+use Rattle.apfloat_model.specs.declared.kinds.{Round.Round, NonfiniteBehavior.TheVariants.IEEE754, Category.Category}
 use Rattle.apfloat_model.specs.declared.kinds.Category.TheVariants.{Normal, Infinity, NaN}
-use Rattle.apfloat_model.specs.formats.Datum.{Datum}
-use Rattle.apfloat_model.specs.formats.Format.{Format}
-use Rattle.apfloat_model.specs.rounding.Rounding.{ok_bits}
-use Rattle.apfloat_model.specs.rounding.Negation.{negated}
-use Rattle.apfloat_model.specs.rounding.RaisedFlags.{FlagsGoTogether}
+use Rattle.apfloat_model.specs.formats.{Datum.Datum, Format.Format}
+use Rattle.apfloat_model.specs.rounding.{Rounding.ok_bits, Negation.negated, RaisedFlags.FlagsGoTogether}
 use Rattle.apfloat_model.specs.rounding.Steps.{Steps, ends, after, Leads, AreSound}
 use Rattle.apfloat_model.specs.arithmetic.Exact.{same_sign}
 use Rattle.apfloat_model.specs.order.Classes.{is_negative, is_finite, is_infinite, same_datum}
@@ -16,7 +11,8 @@ use Rattle.apfloat_model.proofs.Outcomes.{sum_sound, difference_sound}
 use Rattle.apfloat_model.proofs.rounding.StatusesTogether.{ok_together, invalid_together, union_together}
 use Rattle.apfloat_pair_theory.specs.PairFormats.{double}
 use Rattle.apfloat_pair_theory.specs.Pairs.{Pair, alone, positive_zero, pair_category}
-use Rattle.apfloat_pair_theory.specs.PairSums.{◌∪◌, greater, lesser, continued, closing_low, closing, lost, finite_sum, sum_anew_low, sum_anew, sum_of_numbers, sum_of_categories, pair_sum}
+use Rattle.apfloat_pair_theory.specs.PairSums.{◌∪◌, greater, lesser, continued, closing_low, closing, lost, finite_sum}
+use Rattle.apfloat_pair_theory.specs.PairSums.{sum_anew_low, sum_anew, sum_of_numbers, sum_of_categories, pair_sum}
 
 -- ---- chains made of chains
 

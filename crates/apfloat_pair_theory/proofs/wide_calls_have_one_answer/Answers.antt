@@ -1,8 +1,14 @@
 use Rattle.std.specs.Prelude.{ℕ}
 use Rattle.apfloat_pair_theory.specs.Pairs.{Pair}
 use Rattle.apfloat_pair_theory.specs.PairAnswers.{HasPairAnswer, OncePair, HasOneAnswer}
-use Rattle.apfloat_pair_theory.proofs.calls.CallsOnce.{pair_quotient_once, pair_truncated_remainder_once, pair_nearest_remainder_once, pair_round_to_integral_once, pair_next_up_once, pair_next_down_once, pair_from_unsigned_once, pair_from_signed_once}
-use Rattle.apfloat_pair_theory.proofs.calls.CallsExist.{pair_quotient_exists, pair_truncated_remainder_exists, pair_nearest_remainder_exists, pair_round_to_integral_exists, pair_next_up_exists, pair_next_down_exists, pair_from_unsigned_exists, pair_from_signed_exists}
+use Rattle.apfloat_pair_theory.proofs.calls.CallsOnce.{pair_quotient_once, pair_truncated_remainder_once}
+use Rattle.apfloat_pair_theory.proofs.calls.CallsOnce.{pair_nearest_remainder_once, pair_round_to_integral_once}
+use Rattle.apfloat_pair_theory.proofs.calls.CallsOnce.{pair_next_up_once, pair_next_down_once, pair_from_unsigned_once}
+use Rattle.apfloat_pair_theory.proofs.calls.CallsOnce.{pair_from_signed_once}
+use Rattle.apfloat_pair_theory.proofs.calls.CallsExist.{pair_quotient_exists, pair_truncated_remainder_exists}
+use Rattle.apfloat_pair_theory.proofs.calls.CallsExist.{pair_nearest_remainder_exists, pair_round_to_integral_exists}
+use Rattle.apfloat_pair_theory.proofs.calls.CallsExist.{pair_next_up_exists, pair_next_down_exists}
+use Rattle.apfloat_pair_theory.proofs.calls.CallsExist.{pair_from_unsigned_exists, pair_from_signed_exists}
 use Rattle.apfloat_pair_theory.proofs.wide_calls_have_one_answer.Goals as goal
 
 one : {R : Pair → ℕ → Type 0} → HasPairAnswer R → OncePair R → HasOneAnswer R

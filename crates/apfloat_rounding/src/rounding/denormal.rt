@@ -7,8 +7,7 @@
 //! processor could not predict.
 
 ghost use Rattle.std.specs.Prelude.{◌≡◌, ◌⊎◌, ℕ, ◌+◌, ◌-◌, ◌*◌, ◌^◌, ◌<◌, ◌≤◌, pos, ◌+ℤ◌, ◌≤ℤ◌};
-ghost use Rattle.apfloat_model.specs.rounding.Bounds.{IsWithin, unit_bound};
-ghost use Rattle.apfloat_model.specs.rounding.RoundingToOdd.{IsRoundedToOdd};
+ghost use Rattle.apfloat_model.specs.rounding.{Bounds.IsWithin, Bounds.unit_bound, RoundingToOdd.IsRoundedToOdd};
 ghost use Rattle.apfloat_model.specs.rounding.Standing.{StandsFor, up, down};
 ghost use Rattle.apfloat_rounding.specs.Cuts.{IsCut, IsCutFinely};
 

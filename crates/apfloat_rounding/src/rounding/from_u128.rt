@@ -3,13 +3,10 @@
 //! The significand is moved up to the top of the `u128`, so that the cut is always at the same digit.
 
 ghost use Rattle.std.specs.Prelude.{◌≡◌, ℕ, ◌+◌, ◌-◌, ◌*◌, ◌^◌, ◌<◌, ◌≤◌, pos, ◌+ℤ◌, ◌≤ℤ◌};
+ghost use Rattle.apfloat_model.specs.rounding.{Rounding.IsDelivered, RoundingToOdd.IsRoundedToOdd};
 ghost use Rattle.apfloat_model.specs.rounding.Bounds.{IsWithin, exponent_bound, unit_bound, place_bound};
-ghost use Rattle.apfloat_model.specs.rounding.Rounding.{IsDelivered};
-ghost use Rattle.apfloat_model.specs.rounding.RoundingToOdd.{IsRoundedToOdd};
 ghost use Rattle.apfloat_model.specs.rounding.Standing.{up, down};
-ghost use Rattle.apfloat_rounding.specs.Cuts.{IsCut, loss_at};
-ghost use Rattle.apfloat_rounding.specs.Shapes.{format_at};
-ghost use Rattle.apfloat_rounding.specs.Stored.{IsStored, GivesAt};
+ghost use Rattle.apfloat_rounding.specs.{Cuts.IsCut, Cuts.loss_at, Shapes.format_at, Stored.IsStored, Stored.GivesAt};
 
 use super::{Cut, Known, deliver_any, full_place, round, split};
 use crate::exponents::unit_place;

@@ -5,13 +5,10 @@
 //! the top of a word, so that the cut is always at the same digit.
 
 ghost use Rattle.std.specs.Prelude.{◌≡◌, ℕ, ◌+◌, ◌-◌, ◌*◌, ◌%◌, ◌^◌, ◌<◌, ◌≤◌, pos, ◌+ℤ◌, ◌≤ℤ◌};
+ghost use Rattle.apfloat_model.specs.rounding.{Rounding.IsDelivered, RoundingToOdd.IsRoundedToOdd};
 ghost use Rattle.apfloat_model.specs.rounding.Bounds.{IsWithin, exponent_bound, unit_bound, place_bound};
-ghost use Rattle.apfloat_model.specs.rounding.Rounding.{IsDelivered};
-ghost use Rattle.apfloat_model.specs.rounding.RoundingToOdd.{IsRoundedToOdd};
 ghost use Rattle.apfloat_model.specs.rounding.Standing.{StandsFor, up, down};
-ghost use Rattle.apfloat_rounding.specs.Cuts.{IsCut};
-ghost use Rattle.apfloat_rounding.specs.Shapes.{format_at};
-ghost use Rattle.apfloat_rounding.specs.Stored.{IsStored, GivesAt};
+ghost use Rattle.apfloat_rounding.specs.{Cuts.IsCut, Shapes.format_at, Stored.IsStored, Stored.GivesAt};
 
 use super::denormal::{Word, cut_at_quantum, whole_quanta};
 use super::{Cut, Known, full_place, low_of_word, round, round_below, word_power};

@@ -1,24 +1,23 @@
 -- A scaled number, rounded, encoded and counted, is the answer of the model.
-use Rattle.std.proofs.Common.{◌≡◌, ℕ, ◌+◌, ◌-◌, ◌*◌, ◌/◌, ◌%◌, ◌^◌, ◌<◌, ◌≤◌, ◌⊎◌, Bool, true, false, cond, min, not, ◌&&◌, ◌||◌, eqb, ltb, leb, refl, sym, ap, ◌∙◌, subst, inl, inr, ⊎_elim, arith}
-use Rattle.std.specs.Prelude.{⊤}
+use Rattle.std.proofs.Common.{◌≡◌, ℕ, ◌+◌, ◌-◌, ◌*◌, ◌/◌, ◌%◌, ◌^◌, ◌<◌, ◌≤◌, ◌⊎◌, Bool, true, false, cond, min, not}
+use Rattle.std.proofs.Common.{◌&&◌, ◌||◌, eqb, ltb, leb, refl, sym, ap, ◌∙◌, subst, inl, inr, ⊎_elim, arith}
 use Rattle.std.proofs.Math.Nat.{min-eq_left, min-eq_right, mod-eq_of_lt, mod_self, mul-le-mul_right}
-use Rattle.std.proofs.lemmas.Nat.{pow-add, pow_pos}
-use Rattle.std.proofs.lemmas.Bool.{cases_eq, cases_lt, cond-false, eq-eqb, le-leb, le-ltb, lt-leb, lt-ltb, ltb-false, ltb-true, ne_eqb, true≢false}
+use Rattle.std.proofs.lemmas.{Nat.pow-add, Nat.pow_pos, Bool.cases_eq, Bool.cases_lt, Bool.cond-false}
+use Rattle.std.proofs.lemmas.Bool.{eq-eqb, le-leb, le-ltb, lt-leb, lt-ltb, ltb-false, ltb-true, ne_eqb, true≢false}
+use Rattle.std.specs.Prelude.{⊤}
+use Rattle.apfloat_model.specs.{declared.kinds.Round.Round, formats.Datum.Datum, formats.Datum.finite}
+use Rattle.apfloat_model.specs.{formats.Lawful.more_exponents, formats.Members.IsNanSignificand, order.Classes.is_nan}
 use Rattle.apfloat_model.specs.bits.Interchange.{IsInterchange, bits_of_fields, AreFieldsOf}
 use Rattle.apfloat_model.specs.bits.Layout.{IsEncodedBy, Layout, all_ones, trailing_bits}
 use Rattle.apfloat_model.specs.declared.kinds.NonfiniteBehavior.{NonfiniteBehavior}
 use Rattle.apfloat_model.specs.declared.kinds.NonfiniteBehavior.TheVariants.{IEEE754, NanOnly, NanNegativeZero}
-use Rattle.apfloat_model.specs.declared.kinds.Round.{Round}
-use Rattle.apfloat_model.specs.formats.Datum.{Datum, finite, infinite, nan}
-use Rattle.apfloat_model.specs.formats.Format.{Format, greatest_significand, largest, nan_base, nan_base_of, smallest_normalized}
-use Rattle.apfloat_model.specs.formats.Lawful.{more_exponents}
-use Rattle.apfloat_model.specs.formats.Members.{IsNanSignificand}
-use Rattle.apfloat_model.specs.order.Classes.{is_nan}
-use Rattle.apfloat_model.specs.rounding.Enclosure.{rounds_up}
-use Rattle.apfloat_model.specs.rounding.Rounding.{IsPick, delivered_status, delivered_value, is_tiny, leads_out, past_largest, raises_overflow, signed_quanta, zero_sign}
-use Rattle.apfloat_model.specs.rounding.Standing.{reads_halves}
-use Rattle.apfloat_model.proofs.bits.EncodedOnce.{fields_with}
-use Rattle.apfloat_model.proofs.bits.FieldsOf.{MayHaveSign, fields_encode, infinity_fields_of, nan_fields_of, one_nan_fields_of}
+use Rattle.apfloat_model.specs.formats.{Datum.infinite, Datum.nan, Format.Format, Format.greatest_significand}
+use Rattle.apfloat_model.specs.formats.Format.{largest, nan_base, nan_base_of, smallest_normalized}
+use Rattle.apfloat_model.specs.rounding.{Enclosure.rounds_up, Rounding.IsPick, Rounding.delivered_status}
+use Rattle.apfloat_model.specs.rounding.{Rounding.signed_quanta, Rounding.zero_sign, Standing.reads_halves}
+use Rattle.apfloat_model.specs.rounding.Rounding.{delivered_value, is_tiny, leads_out, past_largest, raises_overflow}
+use Rattle.apfloat_model.proofs.bits.{EncodedOnce.fields_with, FieldsOf.MayHaveSign}
+use Rattle.apfloat_model.proofs.bits.FieldsOf.{fields_encode, infinity_fields_of, nan_fields_of, one_nan_fields_of}
 use Rattle.apfloat_model.proofs.formats.Greatest.{greatest_fits, greatest_full}
 use Rattle.apfloat_model.proofs.general.Powers.{twice_half}
 use Rattle.apfloat_model.proofs.rounding.Deliveries.{exact_if, inexact_if, tiny_after, tiny_before}
@@ -26,14 +25,11 @@ use Rattle.apfloat_model.proofs.rounding.FarMagnitudes.{far_above}
 use Rattle.apfloat_rounding.specs.Cuts.{loss_at}
 use Rattle.apfloat_rounding.proofs.HalfQuanta.{picked_is}
 use Rattle.apfloat_rounding.proofs.CutRests.{loss_some, loss_zero, picked_if_moved}
-use Rattle.fast_bits.specs.declared.lanes.lanes.Lane.{Lane}
-use Rattle.fast_bits.specs.lanes.Lanes.{IsRounded, finished, flag_if, flags_of}
-use Rattle.fast_bits.specs.lanes.Scaled.{IsReachedLane, IsScaled}
-use Rattle.fast_bits.specs.Addends.{rounded_by}
-use Rattle.fast_bits.specs.lanes.Sides.{greatest_code}
-use Rattle.fast_bits.specs.lanes.Targets.{has_no_sign, is_ieee, largest_code, signed_code}
-use Rattle.fast_bits.proofs.lanes_lemmas.Interchanges.{spans}
-use Rattle.fast_bits.proofs.lanes_lemmas.Codes.{code_encoded, past_by_code}
+use Rattle.fast_bits.specs.{declared.lanes.lanes.Lane.Lane, lanes.Lanes.IsRounded, lanes.Targets.signed_code}
+use Rattle.fast_bits.specs.{Addends.rounded_by}
+use Rattle.fast_bits.specs.lanes.{Lanes.finished, Lanes.flag_if, Lanes.flags_of, Scaled.IsReachedLane, Scaled.IsScaled}
+use Rattle.fast_bits.specs.lanes.{Sides.greatest_code, Targets.has_no_sign, Targets.is_ieee, Targets.largest_code}
+use Rattle.fast_bits.proofs.lanes_lemmas.{Interchanges.spans, Codes.code_encoded, Codes.past_by_code}
 use Rattle.fast_bits.proofs.lanes_lemmas.Singles.{zero_factor}
 
 -- ---- what is picked

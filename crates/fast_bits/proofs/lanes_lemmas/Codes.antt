@@ -1,18 +1,15 @@
 -- Encodings without their sign, as numbers: a place and a significand, added.
-use Rattle.std.proofs.Common.{◌≡◌, ℕ, ◌+◌, ◌-◌, ◌*◌, ◌^◌, ◌<◌, ◌≤◌, ◌⊎◌, Bool, true, false, cond, ltb, sym, ap, ◌∙◌, subst, ⊎_elim, arith}
+use Rattle.std.proofs.Common.{◌≡◌, ℕ, ◌+◌, ◌-◌, ◌*◌, ◌^◌, ◌<◌, ◌≤◌, ◌⊎◌, Bool}
+use Rattle.std.proofs.Common.{true, false, cond, ltb, sym, ap, ◌∙◌, subst, ⊎_elim, arith}
 use Rattle.std.proofs.Math.Nat.{mul-le-mul_right, mul-le-mul_left, mul-lt-mul_of_pos_right, pow-le-pow_right}
-use Rattle.std.proofs.lemmas.Nat.{pow-add, pow_pos}
-use Rattle.std.proofs.lemmas.Bool.{cases_lt, cond-false, le-ltb, lt-ltb}
+use Rattle.std.proofs.lemmas.{Nat.pow-add, Nat.pow_pos, Bool.cases_lt, Bool.cond-false, Bool.le-ltb, Bool.lt-ltb}
 use Rattle.apfloat_model.specs.bits.Interchange.{IsInterchange, bits_of_fields}
 use Rattle.apfloat_model.specs.bits.Layout.{IsEncodedBy, Layout, trailing_bits}
-use Rattle.apfloat_model.specs.formats.Datum.{finite}
-use Rattle.apfloat_model.specs.formats.Format.{Format, greatest_significand, largest}
-use Rattle.apfloat_model.proofs.bits.EncodedOnce.{fields_with}
-use Rattle.apfloat_model.proofs.bits.FieldsOf.{MayHaveSign, fields_encode, high_fields_of, low_fields_of}
+use Rattle.apfloat_model.specs.formats.{Datum.finite, Format.Format, Format.greatest_significand, Format.largest}
+use Rattle.apfloat_model.proofs.bits.{EncodedOnce.fields_with, FieldsOf.MayHaveSign, FieldsOf.fields_encode}
+use Rattle.apfloat_model.proofs.bits.{FieldsOf.high_fields_of, FieldsOf.low_fields_of, Encodings.joined_bits}
 use Rattle.apfloat_model.proofs.formats.Greatest.{greatest_fits, greatest_full}
-use Rattle.apfloat_model.proofs.general.Powers.{two_pos, twice_half}
-use Rattle.apfloat_model.proofs.rounding.Neighbours.{carried}
-use Rattle.apfloat_model.proofs.bits.Encodings.{joined_bits}
+use Rattle.apfloat_model.proofs.{general.Powers.two_pos, general.Powers.twice_half, rounding.Neighbours.carried}
 use Rattle.fast_bits.specs.lanes.Targets.{largest_code}
 
 -- ---- past the largest value

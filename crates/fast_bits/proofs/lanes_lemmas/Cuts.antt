@@ -1,18 +1,16 @@
 -- A quotient rounded to odd and moved up: what is above some places, and the rest below them, stand for the exact
 -- number.
-use Rattle.std.proofs.Common.{◌≡◌, ℕ, ◌+◌, ◌-◌, ◌*◌, ◌/◌, ◌%◌, ◌^◌, ◌<◌, ◌≤◌, Bool, cond, sym, ap, ◌∙◌, subst, ⊎_elim, arith}
-use Rattle.std.proofs.Math.Nat.{div-eq_of_lt, lt-div-mul-add, mod-eq_of_lt, mul-le-mul_right, mul-lt-mul_of_pos_right, mul-pos, pow-le-pow_right}
-use Rattle.std.proofs.lemmas.Nat.{div-add-mod', mod_below, pow-add, pow_pos}
-use Rattle.std.proofs.lemmas.Bool.{cases_eq, eq-eqb, ne_eqb}
-use Rattle.apfloat_model.specs.declared.loss.Loss.{Loss}
-use Rattle.apfloat_model.specs.declared.loss.Loss.TheVariants.{LessThanHalf}
-use Rattle.apfloat_model.specs.rounding.RoundingToOdd.{odd_for_rest, odd_quotient}
-use Rattle.apfloat_model.specs.rounding.Standing.{StandsFor}
+use Rattle.std.proofs.Common.{◌≡◌, ℕ, ◌+◌, ◌-◌, ◌*◌, ◌/◌, ◌%◌, ◌^◌, ◌<◌, ◌≤◌}
+use Rattle.std.proofs.Common.{Bool, cond, sym, ap, ◌∙◌, subst, ⊎_elim, arith}
+use Rattle.std.proofs.Math.Nat.{div-eq_of_lt, lt-div-mul-add, mod-eq_of_lt, mul-le-mul_right, mul-lt-mul_of_pos_right}
+use Rattle.std.proofs.{Math.Nat.mul-pos, Math.Nat.pow-le-pow_right, lemmas.Nat.div-add-mod'}
+use Rattle.std.proofs.lemmas.{Nat.mod_below, Nat.pow-add, Nat.pow_pos, Bool.cases_eq, Bool.eq-eqb, Bool.ne_eqb}
+use Rattle.apfloat_model.specs.declared.loss.Loss.{Loss, TheVariants.LessThanHalf}
+use Rattle.apfloat_model.specs.rounding.{RoundingToOdd.odd_for_rest, RoundingToOdd.odd_quotient, Standing.StandsFor}
 use Rattle.apfloat_model.proofs.general.Powers.{pow3, twice_half, two_pos}
 use Rattle.apfloat_model.proofs.rounding.KeptDigits.{stands_cancel, stands_times}
 use Rattle.apfloat_rounding.specs.Cuts.{loss_at}
-use Rattle.apfloat_rounding.proofs.CutRests.{loss_less, rest_stands}
-use Rattle.apfloat_rounding.proofs.OddCuts.{odd_rest}
+use Rattle.apfloat_rounding.proofs.{CutRests.loss_less, CutRests.rest_stands, OddCuts.odd_rest}
 
 -- ---- the quotient rounded to odd
 

@@ -1,9 +1,9 @@
 -- The lowest bit of a number, set.
-use Rattle.std.proofs.Common.{◌≡◌, ℕ, ◌+◌, ◌-◌, ◌*◌, ◌/◌, ◌%◌, ◌^◌, ◌<◌, ◌≤◌, Bool, true, false, cond, not, eqb, sym, ap, ◌∙◌, ⊎_elim, lit<, arith}
-use Rattle.std.specs.Int.RustNames.{bit_or}
-use Rattle.std.specs.Int.Bits.{or_zero_r}
+use Rattle.std.proofs.Common.{◌≡◌, ℕ, ◌+◌, ◌-◌, ◌*◌, ◌/◌, ◌%◌, ◌^◌, ◌<◌, ◌≤◌, Bool, true, false, cond, not, eqb, sym}
+use Rattle.std.proofs.Common.{ap, ◌∙◌, ⊎_elim, lit<, arith}
 use Rattle.std.proofs.lemmas.Nat.{div-add-mod', mod_below, or_block}
 use Rattle.std.proofs.lemmas.Bool.{cases_eq, cases_lt, eq-eqb, ne_eqb}
+use Rattle.std.specs.Int.{RustNames.bit_or, Bits.or_zero_r}
 use Rattle.apfloat_model.specs.rounding.RoundingToOdd.{odd_for_rest}
 
 -- the bits above the lowest one are kept

@@ -1,15 +1,14 @@
 -- A constant that is added below the last kept digit carries into it exactly if the mode rounds up.
-use Rattle.std.proofs.Common.{◌≡◌, ℕ, ◌+◌, ◌-◌, ◌*◌, ◌/◌, ◌%◌, ◌^◌, ◌<◌, ◌≤◌, Bool, true, false, cond, eqb, refl, sym, ap, ◌∙◌, subst, ⊎_elim, arith}
-use Rattle.std.proofs.Math.Nat.{div-eq_of_lt, mul-add-div_right}
+use Rattle.std.proofs.Common.{◌≡◌, ℕ, ◌+◌, ◌-◌, ◌*◌, ◌/◌, ◌%◌, ◌^◌, ◌<◌, ◌≤◌}
+use Rattle.std.proofs.Common.{Bool, true, false, cond, eqb, refl, sym, ap, ◌∙◌, subst, ⊎_elim, arith}
+use Rattle.std.proofs.{Math.Nat.div-eq_of_lt, Math.Nat.mul-add-div_right, lemmas.Nat.and_mask, lemmas.Nat.div-add-mod'}
+use Rattle.std.proofs.lemmas.{Nat.mod_below, Nat.pow_pos, Bool.cases_lt, Bool.eqb-true, Bool.eqb-false}
 use Rattle.std.specs.Int.RustNames.{bit_and}
-use Rattle.std.proofs.lemmas.Nat.{and_mask, div-add-mod', mod_below, pow_pos}
-use Rattle.std.proofs.lemmas.Bool.{cases_lt, eqb-true, eqb-false}
-use Rattle.apfloat_model.specs.declared.kinds.Round.{Round}
-use Rattle.apfloat_model.specs.declared.kinds.Round.TheVariants.{NearestTiesToEven, NearestTiesToAway, TowardZero, TowardPositive, TowardNegative}
-use Rattle.apfloat_model.specs.declared.loss.Loss.{Loss}
+use Rattle.apfloat_model.specs.declared.kinds.Round.{Round, TheVariants.NearestTiesToEven}
+use Rattle.apfloat_model.specs.declared.kinds.Round.TheVariants.{NearestTiesToAway, TowardZero, TowardPositive}
+use Rattle.apfloat_model.specs.declared.{kinds.Round.TheVariants.TowardNegative, loss.Loss.Loss}
 use Rattle.apfloat_model.specs.declared.loss.Loss.TheVariants.{ExactlyZero, LessThanHalf, ExactlyHalf, MoreThanHalf}
-use Rattle.apfloat_model.specs.rounding.Enclosure.{rounds_up}
-use Rattle.apfloat_model.specs.rounding.Rounding.{points_away}
+use Rattle.apfloat_model.specs.rounding.{Enclosure.rounds_up, Rounding.points_away}
 use Rattle.apfloat_model.proofs.general.Powers.{twice_half}
 use Rattle.apfloat_rounding.specs.Cuts.{loss_at}
 use Rattle.apfloat_rounding.proofs.CutRests.{loss_half, loss_less, loss_more, loss_zero}

@@ -1,7 +1,7 @@
 -- A number and its place, rounded apart.
-use Rattle.std.proofs.Common.{◌≡◌, ℕ, ◌+◌, ◌-◌, ◌*◌, ◌/◌, ◌%◌, ◌^◌, ◌≤◌, Bool, true, false, cond, eqb, sym, ap, ◌∙◌, arith}
-use Rattle.apfloat_model.specs.declared.kinds.Round.{Round}
-use Rattle.apfloat_model.specs.rounding.Enclosure.{rounds_up}
+use Rattle.std.proofs.Common.{◌≡◌, ℕ, ◌+◌, ◌-◌, ◌*◌, ◌/◌, ◌%◌, ◌^◌, ◌≤◌, Bool, true, false, cond, eqb, sym, ap, ◌∙◌}
+use Rattle.std.proofs.Common.{arith}
+use Rattle.apfloat_model.specs.{declared.kinds.Round.Round, rounding.Enclosure.rounds_up}
 use Rattle.apfloat_model.proofs.general.Powers.{twice_half}
 use Rattle.apfloat_rounding.specs.Cuts.{loss_at}
 use Rattle.fast_bits.specs.Addends.{rounded_by}

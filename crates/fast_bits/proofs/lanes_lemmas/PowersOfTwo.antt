@@ -1,8 +1,6 @@
 -- A power of two by the binary digits of its exponent.
+use Rattle.std.proofs.{Math.Nat.max-eq_left, lemmas.Nat.pow-add, lemmas.Nat.pow_pos, lemmas.Bool.cases_lt}
 use Rattle.std.proofs.Common.{◌≡◌, ℕ, ◌+◌, ◌*◌, ◌/◌, ◌%◌, ◌^◌, ◌<◌, ◌≤◌, max, refl, sym, ap, ◌∙◌, subst, ⊎_elim, arith}
-use Rattle.std.proofs.Math.Nat.{max-eq_left}
-use Rattle.std.proofs.lemmas.Nat.{pow-add, pow_pos}
-use Rattle.std.proofs.lemmas.Bool.{cases_lt}
 
 -- that of one digit, which stands for `places` places
 of_digit : (digit places : ℕ) → digit < 2 → max (digit * 2 ^ places) 1 ≡ 2 ^ (digit * places)

@@ -1,21 +1,15 @@
 -- A single's significand at its place is scaled to a target.
-use Rattle.std.proofs.Common.{◌≡◌, ℕ, ◌+◌, ◌-◌, ◌*◌, ◌/◌, ◌%◌, ◌^◌, ◌<◌, ◌≤◌, ◌⊎◌, min, refl, sym, ap, ◌∙◌, subst, inl, inr, ⊎_elim, arith, ℤ, pos, ◌+ℤ◌, ◌-ℤ◌}
-use Rattle.std.proofs.Math.Nat.{min-eq_left, min-eq_right, mod-eq_of_lt, mul-le-mul_left, mul-le-mul_right, pow-le-pow_right, zero-div, zero-mod, min-le_right}
-use Rattle.std.proofs.lemmas.Int.{ints}
-use Rattle.std.proofs.lemmas.Nat.{pow-add, pow_pos}
-use Rattle.std.proofs.lemmas.Bool.{cases_lt}
-use Rattle.apfloat_model.specs.bits.Layout.{Layout}
-use Rattle.apfloat_model.specs.declared.loss.Loss.TheVariants.{ExactlyZero}
-use Rattle.apfloat_model.specs.formats.Format.{Format}
-use Rattle.apfloat_model.specs.rounding.RoundingToOdd.{odd_quotient}
-use Rattle.apfloat_model.specs.rounding.Standing.{StandsFor}
-use Rattle.apfloat_model.proofs.general.Powers.{pow3, two_pos}
-use Rattle.apfloat_model.proofs.rounding.KeptDigits.{enclosed_from}
+use Rattle.std.proofs.Common.{◌≡◌, ℕ, ◌+◌, ◌-◌, ◌*◌, ◌/◌, ◌%◌, ◌^◌, ◌<◌, ◌≤◌, ◌⊎◌, min, refl, sym, ap, ◌∙◌, subst, inl}
+use Rattle.std.proofs.Common.{inr, ⊎_elim, arith, ℤ, pos, ◌+ℤ◌, ◌-ℤ◌}
+use Rattle.std.proofs.Math.Nat.{min-eq_left, min-eq_right, mod-eq_of_lt, mul-le-mul_left, mul-le-mul_right}
+use Rattle.std.proofs.Math.Nat.{pow-le-pow_right, zero-div, zero-mod, min-le_right}
+use Rattle.std.proofs.lemmas.{Int.ints, Nat.pow-add, Nat.pow_pos, Bool.cases_lt}
+use Rattle.apfloat_model.specs.{bits.Layout.Layout, declared.loss.Loss.TheVariants.ExactlyZero, formats.Format.Format}
+use Rattle.apfloat_model.specs.rounding.{RoundingToOdd.odd_quotient, Standing.StandsFor}
+use Rattle.apfloat_model.proofs.{general.Powers.pow3, general.Powers.two_pos, rounding.KeptDigits.enclosed_from}
 use Rattle.apfloat_rounding.specs.Cuts.{loss_at}
-use Rattle.fast_bits.specs.lanes.Scaled.{IsPastTarget, IsReachedLane, IsScaled}
-use Rattle.fast_bits.specs.lanes.Targets.{IsTarget}
-use Rattle.fast_bits.proofs.lanes_lemmas.Cuts.{exact_odd}
-use Rattle.fast_bits.proofs.lanes_lemmas.Interchanges.{places_below}
+use Rattle.fast_bits.specs.lanes.{Scaled.IsPastTarget, Scaled.IsReachedLane, Scaled.IsScaled, Targets.IsTarget}
+use Rattle.fast_bits.proofs.lanes_lemmas.{Cuts.exact_odd, Interchanges.places_below}
 use Rattle.fast_bits.proofs.lanes_lemmas.ScaledNumbers.{odd_below, scaled_stands}
 
 -- zero is scaled to zero

@@ -1,11 +1,11 @@
 -- The lemma over plain numbers: what the steps make of m * 2 ^ e quanta of one format is that number's encoding in
 -- another one, with `low` more digits, as far as rounding can tell.
-use Rattle.std.proofs.Common.{◌≡◌, ℕ, ◌+◌, ◌-◌, ◌*◌, ◌/◌, ◌%◌, ◌^◌, ◌<◌, ◌≤◌, ◌⊎◌, refl, sym, ap, ◌∙◌, subst, inl, inr, ⊎_elim, arith}
-use Rattle.std.proofs.Math.Nat.{add-mul-mod_self_right, div-eq_of_lt, mul-add-div_right, mul-le-mul_right, mul-lt-mul_of_pos_right, pow-le-pow_right}
+use Rattle.std.proofs.Common.{◌≡◌, ℕ, ◌+◌, ◌-◌, ◌*◌, ◌/◌, ◌%◌, ◌^◌, ◌<◌, ◌≤◌, ◌⊎◌, refl, sym, ap, ◌∙◌, subst, inl, inr}
+use Rattle.std.proofs.{Common.⊎_elim, Common.arith, Math.Nat.add-mul-mod_self_right, Math.Nat.div-eq_of_lt}
+use Rattle.std.proofs.Math.Nat.{mul-add-div_right, mul-le-mul_right, mul-lt-mul_of_pos_right, pow-le-pow_right}
 use Rattle.std.proofs.lemmas.Nat.{div-add-mod', div_below, le-div, pow-add, pow_pos}
 use Rattle.std.proofs.lemmas.Bool.{cases_eq, cases_lt}
-use Rattle.apfloat_model.specs.rounding.RoundingToOdd.{odd_quotient}
-use Rattle.apfloat_model.specs.rounding.Standing.{StandsFor}
+use Rattle.apfloat_model.specs.rounding.{RoundingToOdd.odd_quotient, Standing.StandsFor}
 use Rattle.apfloat_model.proofs.general.Powers.{two_pos}
 use Rattle.apfloat_model.proofs.rounding.KeptDigits.{enclosed_from, fits_cut, full_cut}
 use Rattle.apfloat_rounding.specs.Cuts.{loss_at}

@@ -1,21 +1,19 @@
 -- Finite singles, read from their bits, and their conversions.
-use Rattle.std.proofs.Common.{◌≡◌, ℕ, ◌+◌, ◌-◌, ◌*◌, ◌/◌, ◌%◌, ◌^◌, ◌<◌, ◌≤◌, min, Bool, true, false, cond, not, ◌&&◌, ◌||◌, eqb, refl, sym, ap, ◌∙◌, subst, ⊎_elim, arith}
+use Rattle.std.proofs.Common.{◌≡◌, ℕ, ◌+◌, ◌-◌, ◌*◌, ◌/◌, ◌%◌, ◌^◌, ◌<◌, ◌≤◌, min, Bool, true, false, cond, not, ◌&&◌}
+use Rattle.std.proofs.Common.{◌||◌, eqb, refl, sym, ap, ◌∙◌, subst, ⊎_elim, arith}
 use Rattle.std.proofs.Math.Nat.{min-eq_right, le_of_mul-le-mul_right}
-use Rattle.std.proofs.lemmas.Nat.{pow_pos}
-use Rattle.std.proofs.lemmas.Bool.{cases_eq, cond-false, eq-eqb, ne_eqb}
+use Rattle.std.proofs.lemmas.{Nat.pow_pos, Bool.cases_eq, Bool.cond-false, Bool.eq-eqb, Bool.ne_eqb}
+use Rattle.apfloat_model.specs.{bits.Layout.trailing_bits, declared.kinds.NonfiniteBehavior.NonfiniteBehavior}
 use Rattle.apfloat_model.specs.arithmetic.Conversions.{loses_zero_sign}
-use Rattle.apfloat_model.specs.bits.Layout.{Layout, all_ones, datum_of, datum_of_fields, implied_datum, implied_number, trailing_bits}
-use Rattle.apfloat_model.specs.declared.kinds.NonfiniteBehavior.{NonfiniteBehavior}
+use Rattle.apfloat_model.specs.bits.Layout.{Layout, all_ones, datum_of, datum_of_fields, implied_datum, implied_number}
 use Rattle.apfloat_model.specs.declared.kinds.NonfiniteBehavior.TheVariants.{IEEE754, NanOnly, NanNegativeZero}
 use Rattle.apfloat_model.specs.declared.kinds.Round.{Round}
-use Rattle.apfloat_model.specs.formats.Datum.{finite}
-use Rattle.apfloat_model.specs.formats.Format.{Format, smallest_normalized}
+use Rattle.apfloat_model.specs.formats.{Datum.finite, Format.Format, Format.smallest_normalized}
 use Rattle.apfloat_model.specs.rounding.Rounding.{ok_bits, zero_sign}
 use Rattle.apfloat_model.proofs.bits.EncodedOnce.{fields_with}
 use Rattle.apfloat_model.proofs.rounding.Laws.{delivered_once, zero_delivered}
-use Rattle.fast_bits.specs.declared.lanes.lanes.Lane.{Lane}
-use Rattle.fast_bits.specs.lanes.Lanes.{IsConvertedLane, IsRounded, flag_if, flags_of}
-use Rattle.fast_bits.specs.lanes.Targets.{IsSingleFormat, has_one_zero}
+use Rattle.fast_bits.specs.{declared.lanes.lanes.Lane.Lane, lanes.Lanes.IsConvertedLane, lanes.Lanes.IsRounded}
+use Rattle.fast_bits.specs.lanes.{Lanes.flag_if, Lanes.flags_of, Targets.IsSingleFormat, Targets.has_one_zero}
 
 -- ---- from bits
 

@@ -1,36 +1,30 @@
 -- Infinities and NaNs of singles, read from their bits, and their conversions.
-use Rattle.std.proofs.Common.{◌≡◌, ℕ, ◌+◌, ◌-◌, ◌*◌, ◌/◌, ◌%◌, ◌^◌, ◌<◌, ◌≤◌, Bool, true, false, cond, not, ◌&&◌, ◌||◌, eqb, leb, ltb, refl, sym, ap, ◌∙◌, subst, ⊎_elim, arith, pos, ◌-ℤ◌}
-use Rattle.std.proofs.Math.Arith.{mod-mul}
-use Rattle.std.proofs.Math.Nat.{div-div-eq-div-mul, div-lt_iff_lt-mul, le-div_iff_mul-le, min-eq_right, mod-eq_of_lt, mod-lt, mul-le-mul_right, pow-le-pow_right}
+use Rattle.std.proofs.Common.{◌≡◌, ℕ, ◌+◌, ◌-◌, ◌*◌, ◌/◌, ◌%◌, ◌^◌, ◌<◌, ◌≤◌, Bool, true, false, cond, not, ◌&&◌, ◌||◌}
+use Rattle.std.proofs.Common.{eqb, leb, ltb, refl, sym, ap, ◌∙◌, subst, ⊎_elim, arith, pos, ◌-ℤ◌}
+use Rattle.std.proofs.Math.{Arith.mod-mul, Nat.div-div-eq-div-mul, Nat.div-lt_iff_lt-mul, Nat.le-div_iff_mul-le}
+use Rattle.std.proofs.Math.Nat.{min-eq_right, mod-eq_of_lt, mod-lt, mul-le-mul_right, pow-le-pow_right}
 use Rattle.std.proofs.lemmas.Int.{ints}
-use Rattle.std.proofs.lemmas.Nat.{and_mask, div-mul-add, le-div, or_block, or_disjoint, pow-add, pow_pos}
-use Rattle.std.proofs.lemmas.Nat.Bits.{and_pow}
+use Rattle.std.proofs.lemmas.Nat.{and_mask, div-mul-add, le-div, or_block, or_disjoint, pow-add, pow_pos, Bits.and_pow}
 use Rattle.std.proofs.lemmas.Bool.{cases_eq, cases_lt, cond-false, eq-eqb, le-leb, le-ltb, lt-ltb, ne_eqb, true≢false}
-use Rattle.std.specs.Int.RustNames.{bit_and, bit_or}
-use Rattle.std.specs.Int.Bits.{and_zero_r, or_zero_l, or_zero_r}
+use Rattle.std.specs.Int.{RustNames.bit_and, RustNames.bit_or, Bits.and_zero_r, Bits.or_zero_l, Bits.or_zero_r}
+use Rattle.apfloat_model.specs.{order.Classes.is_nan, rounding.Rounding.leads_out}
 use Rattle.apfloat_model.specs.arithmetic.Conversions.{converted_nan, has_infinities, nan_loses, places_out}
-use Rattle.apfloat_model.specs.bits.Interchange.{IsInterchange}
-use Rattle.apfloat_model.specs.bits.Layout.{IsEncodedBy, Layout, all_ones, datum_of, datum_of_fields, implied_datum, trailing_bits}
+use Rattle.apfloat_model.specs.bits.{Interchange.IsInterchange, Layout.IsEncodedBy}
+use Rattle.apfloat_model.specs.bits.Layout.{Layout, all_ones, datum_of, datum_of_fields, implied_datum, trailing_bits}
 use Rattle.apfloat_model.specs.declared.kinds.NonfiniteBehavior.{NonfiniteBehavior}
 use Rattle.apfloat_model.specs.declared.kinds.NonfiniteBehavior.TheVariants.{IEEE754, NanOnly, NanNegativeZero}
 use Rattle.apfloat_model.specs.declared.kinds.Round.{Round}
-use Rattle.apfloat_model.specs.formats.Datum.{Datum, infinite, nan}
-use Rattle.apfloat_model.specs.formats.Format.{Format, nan_base, nan_base_of, payload_mask, payload_mask_of, quiet_bits, quiet_bits_of}
-use Rattle.apfloat_model.specs.formats.Nan.{invalid_if, is_signaling, nan_sign, quiet_bit, quiet_bit_of, quiet_significand, quieted}
-use Rattle.apfloat_model.specs.order.Classes.{is_nan}
-use Rattle.apfloat_model.specs.rounding.Rounding.{leads_out, past_largest, raises_overflow}
-use Rattle.apfloat_model.proofs.bits.EncodedOnce.{encoded_once, fields_with}
-use Rattle.apfloat_model.proofs.general.Powers.{two_pos}
+use Rattle.apfloat_model.specs.formats.{Format.quiet_bits_of, Nan.invalid_if, Datum.Datum, Datum.infinite, Datum.nan}
+use Rattle.apfloat_model.specs.formats.Format.{Format, nan_base, nan_base_of, payload_mask, payload_mask_of, quiet_bits}
+use Rattle.apfloat_model.specs.formats.Nan.{is_signaling, nan_sign, quiet_bit, quiet_bit_of, quiet_significand, quieted}
+use Rattle.apfloat_model.specs.rounding.{Rounding.past_largest, Rounding.raises_overflow, RoundingToOdd.odd_quotient}
+use Rattle.apfloat_model.proofs.{bits.EncodedOnce.encoded_once, bits.EncodedOnce.fields_with, general.Powers.two_pos}
 use Rattle.apfloat_model.proofs.rounding.FarMagnitudes.{IsFarAbove, picks_past}
-use Rattle.apfloat_model.specs.rounding.RoundingToOdd.{odd_quotient}
-use Rattle.fast_bits.specs.declared.lanes.lanes.Lane.{Lane}
-use Rattle.fast_bits.specs.declared.lanes.constants.Target.{Target}
-use Rattle.fast_bits.specs.lanes.At.{format_at}
+use Rattle.fast_bits.specs.{declared.lanes.lanes.Lane.Lane, declared.lanes.constants.Target.Target, lanes.At.format_at}
 use Rattle.fast_bits.specs.lanes.Lanes.{IsPastLane, IsRounded, IsPayload, IsSpecialLane, flag_if, flags_of}
 use Rattle.fast_bits.specs.lanes.Targets.{IsSingleFormat, has_no_sign, is_ieee, largest_code, signed_code}
+use Rattle.fast_bits.proofs.lanes_lemmas.{Cuts.exact_odd, Cuts.inexact_odd, Singles.place_of, Singles.significand_of}
 use Rattle.fast_bits.proofs.lanes_lemmas.Answers.{digits_encoded, keeps_sign, past_given}
-use Rattle.fast_bits.proofs.lanes_lemmas.Cuts.{exact_odd, inexact_odd}
-use Rattle.fast_bits.proofs.lanes_lemmas.Singles.{place_of, significand_of}
 
 -- ---- the lane of a number past the largest value
 

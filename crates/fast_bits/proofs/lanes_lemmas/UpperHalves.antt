@@ -1,16 +1,12 @@
 -- What the upper sixteen bits of a single, rounded to odd, keep of it.
-use Rattle.std.proofs.Common.{◌≡◌, ℕ, ◌+◌, ◌-◌, ◌*◌, ◌/◌, ◌%◌, ◌^◌, ◌<◌, ◌≤◌, ◌⊎◌, min, eqb, sym, ap, ◌∙◌, subst, inl, inr, ⊎_elim, arith, ℤ, pos, negsuc, ◌+ℤ◌, ◌-ℤ◌, ◌≤ℤ◌}
+use Rattle.std.proofs.Common.{◌≡◌, ℕ, ◌+◌, ◌-◌, ◌*◌, ◌/◌, ◌%◌, ◌^◌, ◌<◌, ◌≤◌, ◌⊎◌, min, eqb, sym, ap, ◌∙◌, subst, inl}
+use Rattle.std.proofs.Common.{inr, ⊎_elim, arith, ℤ, pos, negsuc, ◌+ℤ◌, ◌-ℤ◌, ◌≤ℤ◌}
 use Rattle.std.proofs.Math.Nat.{min-eq_left, min-eq_right}
-use Rattle.std.proofs.lemmas.Int.{ints}
-use Rattle.std.proofs.lemmas.Nat.{pow_pos}
-use Rattle.std.proofs.lemmas.Bool.{cases_eq, cases_lt, eq-eqb, ne_eqb}
-use Rattle.apfloat_model.specs.formats.Format.{Format}
-use Rattle.apfloat_model.specs.rounding.RoundingToOdd.{odd_quotient}
+use Rattle.std.proofs.lemmas.{Int.ints, Nat.pow_pos, Bool.cases_eq, Bool.cases_lt, Bool.eq-eqb, Bool.ne_eqb}
+use Rattle.apfloat_model.specs.{formats.Format.Format, rounding.RoundingToOdd.odd_quotient}
 use Rattle.fast_bits.specs.lanes.Scaled.{IsScaled}
-use Rattle.fast_bits.proofs.lanes_lemmas.Cuts.{exact_odd, inexact_odd}
-use Rattle.fast_bits.proofs.lanes_lemmas.Reached.{zero_scaled}
-use Rattle.fast_bits.proofs.lanes_lemmas.ScaledNumbers.{scaled_stands}
-use Rattle.fast_bits.proofs.lanes_lemmas.Singles.{place_of, significand_of}
+use Rattle.fast_bits.proofs.lanes_lemmas.{Cuts.exact_odd, Cuts.inexact_odd, Reached.zero_scaled}
+use Rattle.fast_bits.proofs.lanes_lemmas.{ScaledNumbers.scaled_stands, Singles.place_of, Singles.significand_of}
 
 -- the significand of the upper half of a magnitude
 abbrev pub short_significand : ℕ → ℕ

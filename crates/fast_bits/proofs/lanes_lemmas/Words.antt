@@ -1,9 +1,8 @@
 -- The significand of a single by both halves of its bits.
-use Rattle.std.proofs.Common.{◌≡◌, ℕ, ◌+◌, ◌-◌, ◌*◌, ◌/◌, ◌%◌, ◌^◌, ◌<◌, ◌≤◌, ◌⊎◌, min, eqb, ◌&&◌, sym, ap, ◌∙◌, inl, inr, ⊎_elim, arith}
-use Rattle.std.proofs.Math.Nat.{min-eq_left, min-eq_right}
+use Rattle.std.proofs.Common.{◌≡◌, ℕ, ◌+◌, ◌-◌, ◌*◌, ◌/◌, ◌%◌, ◌^◌, ◌<◌, ◌≤◌, ◌⊎◌, min, eqb, ◌&&◌, sym, ap, ◌∙◌, inl}
+use Rattle.std.proofs.{Common.inr, Common.⊎_elim, Common.arith, Math.Nat.min-eq_left, Math.Nat.min-eq_right}
 use Rattle.std.proofs.lemmas.Bool.{cases_eq, cases_lt, eq-eqb, ne_eqb}
-use Rattle.fast_bits.proofs.lanes_lemmas.Singles.{place_of, significand_of}
-use Rattle.fast_bits.proofs.lanes_lemmas.UpperHalves.{short_significand}
+use Rattle.fast_bits.proofs.lanes_lemmas.{Singles.place_of, Singles.significand_of, UpperHalves.short_significand}
 
 -- it has 24 digits, and all of them unless the number is denormal
 pub word_significand_fits : (magnitude lower : ℕ) → lower < 2 ^ 16

@@ -1,6 +1,5 @@
 -- The format and the layout of a target.
-use Rattle.apfloat_model.specs.bits.Layout.{Layout}
-use Rattle.apfloat_model.specs.formats.Format.{Format}
+use Rattle.apfloat_model.specs.{bits.Layout.Layout, formats.Format.Format}
 use Rattle.fast_bits.specs.declared.lanes.constants.Target.{Target}
 use Rattle.fast_bits.specs.lanes.Targets.{format_with, layout_with}
 

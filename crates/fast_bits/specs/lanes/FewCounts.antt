@@ -1,7 +1,6 @@
 -- Counts of few converted values.
 use Rattle.std.specs.Prelude.{ℕ, ◌+◌, ◌≤◌, Bool, if◌then◌else◌}
-use Rattle.fast_bits.specs.declared.lanes.few_counts.FewCounts.{FewCounts}
-use Rattle.fast_bits.specs.declared.lanes.lanes.Lane.{Lane}
+use Rattle.fast_bits.specs.declared.lanes.{few_counts.FewCounts.FewCounts, lanes.Lane.Lane}
 
 abbrev pub one_if : Bool → ℕ
 one_if holds = if holds then 1 else 0

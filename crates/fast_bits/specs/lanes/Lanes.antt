@@ -1,12 +1,10 @@
 -- One number, from bits to bits.
-use Rattle.std.specs.Prelude.{◌≡◌, ◌⊎◌, ℕ, ◌+◌, ◌-◌, ◌/◌, ◌^◌, Bool, true, false, not, ◌&&◌, ◌||◌, ltb, leb, if◌then◌else◌}
-use Rattle.apfloat_model.specs.arithmetic.Conversions.{IsConversion}
-use Rattle.apfloat_model.specs.bits.Layout.{IsEncodedBy, Layout, datum_of}
-use Rattle.apfloat_model.specs.declared.kinds.Round.{Round}
-use Rattle.apfloat_model.specs.order.Classes.{is_finite, is_nan}
-use Rattle.apfloat_model.specs.formats.Datum.{Datum, finite}
-use Rattle.apfloat_model.specs.formats.Format.{Format, largest, nan_base}
-use Rattle.apfloat_model.specs.formats.Nan.{invalid_bit}
+use Rattle.std.specs.Prelude.{◌≡◌, ◌⊎◌, ℕ, ◌+◌, ◌-◌, ◌/◌, ◌^◌, Bool, true, false, not}
+use Rattle.std.specs.Prelude.{◌&&◌, ◌||◌, ltb, leb, if◌then◌else◌}
+use Rattle.apfloat_model.specs.{arithmetic.Conversions.IsConversion, bits.Layout.IsEncodedBy, bits.Layout.Layout}
+use Rattle.apfloat_model.specs.{bits.Layout.datum_of, declared.kinds.Round.Round, order.Classes.is_finite}
+use Rattle.apfloat_model.specs.{order.Classes.is_nan, formats.Datum.Datum}
+use Rattle.apfloat_model.specs.formats.{Datum.finite, Format.Format, Format.largest, Format.nan_base, Nan.invalid_bit}
 use Rattle.apfloat_model.specs.rounding.Rounding.{IsDelivered, inexact_bit, overflow_bit, past_largest, underflow_bit}
 use Rattle.fast_bits.specs.declared.lanes.lanes.Lane.{Lane}
 use Rattle.fast_bits.specs.lanes.Targets.{is_ieee, largest_code, signed_code}

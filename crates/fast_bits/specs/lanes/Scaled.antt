@@ -1,8 +1,6 @@
 -- Magnitudes in the quanta of a format, with sixteen binary digits below its own.
 use Rattle.std.specs.Prelude.{◌≡◌, ℕ, ◌+◌, ◌-◌, ◌*◌, ◌/◌, ◌%◌, ◌^◌, ◌<◌, ◌≤◌, ◌⊎◌}
-use Rattle.apfloat_model.specs.formats.Format.{Format}
-use Rattle.apfloat_model.specs.rounding.Enclosure.{IsEnclosed}
-use Rattle.apfloat_model.specs.rounding.Standing.{StandsFor}
+use Rattle.apfloat_model.specs.{formats.Format.Format, rounding.Enclosure.IsEnclosed, rounding.Standing.StandsFor}
 use Rattle.apfloat_rounding.specs.Cuts.{loss_at}
 
 -- What is kept of amount / parts quanta: a significand at a place, with the loss of a rest in units of which the lowest

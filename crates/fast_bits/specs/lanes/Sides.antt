@@ -1,11 +1,8 @@
 -- The constants by which numbers of one sign are rounded and delivered.
 use Rattle.std.specs.Prelude.{◌≡◌, ℕ, ◌+◌, Bool, true, false, not, ◌&&◌, if◌then◌else◌}
-use Rattle.apfloat_model.specs.declared.kinds.Round.{Round}
-use Rattle.apfloat_model.specs.formats.Format.{Format}
+use Rattle.apfloat_model.specs.{declared.kinds.Round.Round, formats.Format.Format}
 use Rattle.apfloat_model.specs.rounding.Rounding.{leads_out, raises_overflow}
-use Rattle.fast_bits.specs.Addends.{IsAddendOf}
-use Rattle.fast_bits.specs.declared.lanes.constants.Side.{Side}
-use Rattle.fast_bits.specs.lanes.Targets.{largest_code}
+use Rattle.fast_bits.specs.{Addends.IsAddendOf, declared.lanes.constants.Side.Side, lanes.Targets.largest_code}
 
 -- the greatest encoding that is delivered
 abbrev pub greatest_code : Bool → Format → Round → Bool → ℕ

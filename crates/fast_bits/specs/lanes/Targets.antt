@@ -1,10 +1,9 @@
 -- The formats of singles, and those that they are converted to.
-use Rattle.std.specs.Prelude.{◌≡◌, ℕ, ◌+◌, ◌-◌, ◌*◌, ◌%◌, ◌^◌, ◌≤◌, ℤ, pos, negsuc, ◌-ℤ◌, ◌≤ℤ◌, unsigned_abs, Bool, true, false, not, ◌&&◌, eqb, if◌then◌else◌}
-use Rattle.apfloat_model.specs.bits.Layout.{Layout}
-use Rattle.apfloat_model.specs.declared.kinds.NonfiniteBehavior.{NonfiniteBehavior}
+use Rattle.std.specs.Prelude.{◌≡◌, ℕ, ◌+◌, ◌-◌, ◌*◌, ◌%◌, ◌^◌, ◌≤◌, ℤ, pos, negsuc, ◌-ℤ◌, ◌≤ℤ◌, unsigned_abs, Bool}
+use Rattle.std.specs.Prelude.{true, false, not, ◌&&◌, eqb, if◌then◌else◌}
+use Rattle.apfloat_model.specs.{bits.Layout.Layout, declared.kinds.NonfiniteBehavior.NonfiniteBehavior}
 use Rattle.apfloat_model.specs.declared.kinds.NonfiniteBehavior.TheVariants.{IEEE754, NanOnly, NanNegativeZero}
-use Rattle.apfloat_model.specs.formats.Format.{Format, greatest_significand}
-use Rattle.apfloat_model.specs.formats.Lawful.{more_exponents}
+use Rattle.apfloat_model.specs.formats.{Format.Format, Format.greatest_significand, Lawful.more_exponents}
 use Rattle.apfloat_model.specs.rounding.Standing.{reads_halves}
 
 -- the format of singles (3.6): its quantum is 2 ^ -149

@@ -1,14 +1,13 @@
 //! One number, from bits to bits.
 
-ghost use Rattle.std.specs.Prelude.{◌≡◌, ◌⊎◌, ℕ, ◌+◌, ◌-◌, ◌*◌, ◌/◌, ◌%◌, ◌^◌, ◌<◌, ◌≤◌, min, Bool, false, not, ◌&&◌, eqb, ltb, leb, if◌then◌else◌, IsTrue};
+ghost use Rattle.std.specs.Prelude.{◌≡◌, ◌⊎◌, ℕ, ◌+◌, ◌-◌, ◌*◌, ◌/◌, ◌%◌, ◌^◌, ◌<◌, ◌≤◌, min, Bool, false, not, ◌&&◌};
+ghost use Rattle.std.specs.Prelude.{eqb, ltb, leb, if◌then◌else◌, IsTrue};
 ghost use Rattle.std.specs.Int.RustNames.{bit_and};
 ghost use Rattle.apfloat_model.specs.declared.kinds.Round.{Round as Mode};
-ghost use Rattle.apfloat_model.specs.bits.Layout.{Layout};
-ghost use Rattle.apfloat_model.specs.formats.Format.{Format};
+ghost use Rattle.apfloat_model.specs.{bits.Layout.Layout, formats.Format.Format};
 ghost use Rattle.fast_bits.specs.lanes.At.{format_at, layout_at};
 ghost use Rattle.fast_bits.specs.lanes.Lanes.{IsConvertedLane, IsDeliveredLane, IsLane, IsPastLane, IsRounded};
-ghost use Rattle.fast_bits.specs.lanes.Scaled.{IsReachedLane};
-ghost use Rattle.fast_bits.specs.lanes.Sides.{IsSideOf, LeadsPast};
+ghost use Rattle.fast_bits.specs.lanes.{Scaled.IsReachedLane, Sides.IsSideOf, Sides.LeadsPast};
 ghost use Rattle.fast_bits.specs.lanes.Targets.{IsSingleFormat, has_one_zero, is_ieee, largest_code, signed_code};
 
 use crate::lanes::constants::{Addend, Side, Target};

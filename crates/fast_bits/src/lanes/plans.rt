@@ -1,9 +1,7 @@
 //! What is done with each number.
 
 ghost use Rattle.std.specs.Prelude.{true, false, ◌-◌, ◌^◌, ◌<◌};
-ghost use Rattle.fast_bits.specs.lanes.At.{format_at, layout_at};
-ghost use Rattle.fast_bits.specs.lanes.Sides.{IsSideOf};
-ghost use Rattle.fast_bits.specs.lanes.Targets.{IsShortFormat};
+ghost use Rattle.fast_bits.specs.lanes.{At.format_at, At.layout_at, Sides.IsSideOf, Targets.IsShortFormat};
 
 use crate::lanes::constants::{Side, Target};
 use apfloat_model::Round;

@@ -2,8 +2,7 @@
 
 ghost use Rattle.std.specs.Prelude.{◌≡◌, ◌+◌, ◌-◌, ◌*◌, ◌/◌, ◌%◌, ◌^◌, ◌<◌, ◌≤◌, min, pos, ◌+ℤ◌};
 ghost use Rattle.apfloat_model.specs.rounding.RoundingToOdd.{odd_for_rest, odd_quotient};
-ghost use Rattle.fast_bits.specs.lanes.Scaled.{IsReachedLane};
-ghost use Rattle.fast_bits.specs.lanes.At.{format_at};
+ghost use Rattle.fast_bits.specs.lanes.{Scaled.IsReachedLane, At.format_at};
 
 use crate::lanes::constants::Target;
 use crate::lanes::few_counts::one_if;

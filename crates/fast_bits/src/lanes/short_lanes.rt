@@ -1,16 +1,12 @@
 //! One number from its upper sixteen bits, to a format of at most eight.
 
-ghost use Rattle.std.specs.Prelude.{◌≡◌, ℕ, ◌+◌, ◌-◌, ◌*◌, ◌/◌, ◌%◌, ◌^◌, ◌<◌, ◌≤◌, Bool, false, not, eqb, nat_eq, IsTrue};
-ghost use Rattle.std.specs.Int.RustNames.{bit_and};
+ghost use Rattle.std.specs.Prelude.{◌≡◌, ℕ, ◌+◌, ◌-◌, ◌*◌, ◌/◌, ◌%◌, ◌^◌, ◌<◌, ◌≤◌, Bool, false, not, eqb, nat_eq};
+ghost use Rattle.std.specs.{Prelude.IsTrue, Int.RustNames.bit_and};
+ghost use Rattle.apfloat_model.specs.{bits.Layout.Layout, formats.Format.Format, rounding.RoundingToOdd.odd_quotient};
 ghost use Rattle.apfloat_model.specs.declared.kinds.Round.{Round as Mode};
-ghost use Rattle.apfloat_model.specs.bits.Layout.{Layout};
-ghost use Rattle.apfloat_model.specs.formats.Format.{Format};
-ghost use Rattle.apfloat_model.specs.rounding.RoundingToOdd.{odd_quotient};
+ghost use Rattle.fast_bits.specs.lanes.{Scaled.IsScaled, Sides.IsSideOf, Sides.LeadsPast, Targets.IsSingleFormat};
 ghost use Rattle.fast_bits.specs.lanes.At.{format_at, layout_at};
 ghost use Rattle.fast_bits.specs.lanes.Lanes.{IsConvertedLane, IsLane, IsPastLane, IsRounded};
-ghost use Rattle.fast_bits.specs.lanes.Scaled.{IsScaled};
-ghost use Rattle.fast_bits.specs.lanes.Sides.{IsSideOf, LeadsPast};
-ghost use Rattle.fast_bits.specs.lanes.Targets.{IsSingleFormat};
 
 use crate::lanes::constants::{Addend, Side, Target};
 use crate::lanes::halves::{digits_of, first_exponent, place_of};

@@ -1,11 +1,10 @@
 //! The constants by which numbers of one sign are rounded and delivered.
 
-ghost use Rattle.std.specs.Prelude.{◌≡◌, ℕ, ◌+◌, ◌-◌, ◌*◌, ◌^◌, ◌<◌, ◌≤◌, ◌↔◌, Bool, true, false, if◌then◌else◌, IsTrue};
+ghost use Rattle.std.specs.Prelude.{◌≡◌, ℕ, ◌+◌, ◌-◌, ◌*◌, ◌^◌, ◌<◌, ◌≤◌, ◌↔◌};
+ghost use Rattle.std.specs.Prelude.{Bool, true, false, if◌then◌else◌, IsTrue};
 ghost use Rattle.apfloat_model.specs.declared.kinds.Round.{Round as Mode};
-ghost use Rattle.fast_bits.specs.Addends.{IsAddendOf};
-ghost use Rattle.fast_bits.specs.lanes.At.{format_at, layout_at};
-ghost use Rattle.fast_bits.specs.lanes.Sides.{IsSideOf, LeadsPast};
-ghost use Rattle.fast_bits.specs.lanes.Targets.{IsShortFormat};
+ghost use Rattle.fast_bits.specs.{Addends.IsAddendOf, lanes.At.format_at};
+ghost use Rattle.fast_bits.specs.lanes.{At.layout_at, Sides.IsSideOf, Sides.LeadsPast, Targets.IsShortFormat};
 
 use crate::addends::addend_of;
 use crate::lanes::constants::{Addend, Side, Target};

@@ -3,11 +3,9 @@
 ghost use Rattle.std.specs.Prelude.{◌≡◌, ℕ, ◌*◌, ◌-◌, ◌/◌, ◌%◌, ◌^◌, ◌<◌, ◌≤◌, false, not, eqb, IsTrue};
 ghost use Rattle.apfloat_model.specs.bits.Layout.{Layout};
 ghost use Rattle.apfloat_model.specs.declared.kinds.Round.{Round as Mode};
-ghost use Rattle.apfloat_model.specs.formats.Format.{Format};
-ghost use Rattle.apfloat_model.specs.formats.Nan.{quieted};
+ghost use Rattle.apfloat_model.specs.formats.{Format.Format, Nan.quieted};
+ghost use Rattle.fast_bits.specs.lanes.{Lanes.IsPastLane, Lanes.IsPayload, Lanes.IsSpecialLane, Targets.IsSingleFormat};
 ghost use Rattle.fast_bits.specs.lanes.At.{format_at, layout_at};
-ghost use Rattle.fast_bits.specs.lanes.Lanes.{IsPastLane, IsPayload, IsSpecialLane};
-ghost use Rattle.fast_bits.specs.lanes.Targets.{IsSingleFormat};
 
 use crate::lanes::constants::Target;
 use crate::lanes::lanes::Lane;

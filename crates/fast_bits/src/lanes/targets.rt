@@ -1,8 +1,7 @@
 //! The formats that singles are converted to.
 
 ghost use Rattle.std.specs.Prelude.{◌≡◌, ◌+◌, ◌^◌, ◌≤◌};
-ghost use Rattle.fast_bits.specs.lanes.At.{format_at};
-ghost use Rattle.fast_bits.specs.lanes.Targets.{largest_code};
+ghost use Rattle.fast_bits.specs.lanes.{At.format_at, Targets.largest_code};
 
 use crate::lanes::constants::Target;
 use apfloat_model::NonfiniteBehavior;

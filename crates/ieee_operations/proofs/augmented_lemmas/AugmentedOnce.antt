@@ -1,36 +1,27 @@
 -- Augmented sums, differences and products have one answer, and sums and integral numbers of quanta are exact.
-use Rattle.std.proofs.Common.{◌≡◌, ℕ, ◌+◌, ◌*◌, ◌≤◌, ◌⊎◌, Bool, true, false, eqb, ltb, if◌then◌else◌, sym, ap, ◌∙◌, subst, inl, inr, arith, lit<}
+use Rattle.std.proofs.Common.{◌≡◌, ℕ, ◌+◌, ◌*◌, ◌≤◌, ◌⊎◌, Bool, true, false, eqb, ltb}
+use Rattle.std.proofs.Common.{if◌then◌else◌, sym, ap, ◌∙◌, subst, inl, inr, arith, lit<}
+use Rattle.std.proofs.lemmas.{Bool.false≢true, Bool.eq-eqb, Int.ints, Nat.pow_pos}
 use Rattle.std.specs.Prelude.{ℤ, pos, ◌^◌, ◌+ℤ◌, ◌-ℤ◌, ◌*ℤ◌}
 use Rattle.std.specs.Bool.{MatchBool}
-use Rattle.std.proofs.lemmas.Bool.{false≢true, eq-eqb}
-use Rattle.std.proofs.lemmas.Int.{ints}
-use Rattle.std.proofs.lemmas.Nat.{pow_pos}
-use Rattle.apfloat_model.specs.declared.kinds.Round.TheVariants.{NearestTiesToEven}
-use Rattle.apfloat_model.specs.formats.Format.{Format, largest}
-use Rattle.apfloat_model.specs.formats.Datum.{Datum, finite, infinite, nan}
+use Rattle.apfloat_model.specs.{declared.kinds.Round.TheVariants.NearestTiesToEven, formats.Format.Format}
+use Rattle.apfloat_model.specs.formats.{Format.largest, Datum.Datum, Datum.finite, Datum.infinite, Datum.nan}
 use Rattle.apfloat_model.specs.rounding.Grid.{IsOnGrid}
 use Rattle.apfloat_model.specs.rounding.Rounding.{signed_quanta, ok_bits, underflow_bit, inexact_bit}
 use Rattle.apfloat_model.specs.arithmetic.Exact.{magnitude, signed, sign_of, product_sign}
-use Rattle.apfloat_model.specs.arithmetic.Sums.{zero_sum_sign}
-use Rattle.apfloat_model.specs.order.Classes.{is_finite}
-use Rattle.apfloat_model.specs.order.Order.{number}
+use Rattle.apfloat_model.specs.{arithmetic.Sums.zero_sum_sign, order.Classes.is_finite, order.Order.number}
 use Rattle.apfloat_model.proofs.Once.{Once, sum_once, difference_once, product_once}
+use Rattle.apfloat_model.proofs.whole_numbers.SignedProducts.{magnitude-times, signed_product, sign_times}
 use Rattle.ieee_operations.specs.augmented.Augmented.{left_of, IsPastLargest, IsWithTail, IsAugmented, AreBoth}
 use Rattle.ieee_operations.specs.augmented.Augmented.{AreExactly, IsExactSum, IsExactProduct}
-use Rattle.ieee_operations.specs.augmented.Numbers.{IsNearestTo}
-use Rattle.ieee_operations.specs.augmented.TiesToZero.{IsTiesToZeroPick}
-use Rattle.ieee_operations.proofs.augmented_lemmas.Cases.{OfEachOperation, of_each}
-use Rattle.ieee_operations.proofs.augmented_lemmas.TiesToZero.{ties_to_zero_once, ties_to_zero_exact}
-use Rattle.ieee_operations.proofs.augmented_lemmas.Numbers.{signed_number, number_in}
-use Rattle.ieee_operations.proofs.augmented_lemmas.Rests.{rest_in_format, as_nearest, eight}
-use Rattle.ieee_operations.proofs.augmented_lemmas.Heads.{pick_is_nearest}
-use Rattle.ieee_operations.proofs.augmented_lemmas.FractionRoundings.{whole_of}
+use Rattle.ieee_operations.specs.augmented.{Numbers.IsNearestTo, TiesToZero.IsTiesToZeroPick}
+use Rattle.ieee_operations.proofs.augmented_lemmas.{Cases.OfEachOperation, Cases.of_each, TiesToZero.ties_to_zero_once}
+use Rattle.ieee_operations.proofs.augmented_lemmas.{TiesToZero.ties_to_zero_exact, Numbers.signed_number}
+use Rattle.ieee_operations.proofs.augmented_lemmas.{Numbers.number_in, Rests.rest_in_format, Rests.as_nearest}
+use Rattle.ieee_operations.proofs.augmented_lemmas.{Rests.eight, Heads.pick_is_nearest, FractionRoundings.whole_of}
 use Rattle.ieee_operations.proofs.augmented_lemmas.Multiples.{ties_of_times, with_tail_of_times}
-use Rattle.apfloat_pair_theory.proofs.numbers.Nearest.{IsNearest}
-use Rattle.apfloat_pair_theory.proofs.numbers.Roundings.{signed_exact}
-use Rattle.apfloat_pair_theory.proofs.numbers.Signed.{magnitude-sub, on_grid_as}
-use Rattle.apfloat_model.proofs.whole_numbers.SignedProducts.{magnitude-times, signed_product, sign_times}
-use Rattle.apfloat_pair_theory.proofs.numbers.WholeProducts.{product_error_on_grid}
+use Rattle.apfloat_pair_theory.proofs.numbers.{Nearest.IsNearest, Roundings.signed_exact, Signed.magnitude-sub}
+use Rattle.apfloat_pair_theory.proofs.numbers.{Signed.on_grid_as, WholeProducts.product_error_on_grid}
 
 -- three results are the same
 abbrev pub AreSame : Datum → Datum → Datum → Datum → ℕ → ℕ → Type 0

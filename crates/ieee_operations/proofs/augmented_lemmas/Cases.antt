@@ -1,18 +1,13 @@
 -- Cases of operands, and what the law of a format says of its ranges.
-use Rattle.std.proofs.Common.{◌≡◌, ℕ, ◌*◌, ◌^◌, ◌<◌, ◌≤◌, Bool, true, false, refl, subst, arith}
+use Rattle.std.proofs.Common.{◌≡◌, ℕ, ◌*◌, ◌^◌, ◌<◌, ◌≤◌, Bool, true, false, refl, subst}
+use Rattle.std.proofs.{Common.arith, lemmas.Bool.false≢true, lemmas.Int.ints}
 use Rattle.std.specs.Prelude.{ℤ, pos, ◌+ℤ◌, ◌-ℤ◌, unsigned_abs}
-use Rattle.std.proofs.lemmas.Bool.{false≢true}
-use Rattle.std.proofs.lemmas.Int.{ints}
-use Rattle.apfloat_model.specs.declared.kinds.Round.TheVariants.{NearestTiesToEven}
-use Rattle.apfloat_model.specs.formats.Format.{Format}
+use Rattle.apfloat_model.specs.{declared.kinds.Round.TheVariants.NearestTiesToEven, formats.Format.Format}
 use Rattle.apfloat_model.specs.formats.Datum.{Datum, finite, infinite, nan}
 use Rattle.apfloat_model.specs.formats.Lawful.{Constants, IsLawful, format_with}
-use Rattle.apfloat_model.specs.rounding.Negation.{negated}
-use Rattle.apfloat_model.specs.arithmetic.Exact.{product_sign, signed}
-use Rattle.apfloat_model.specs.arithmetic.Products.{IsProduct}
-use Rattle.apfloat_model.specs.arithmetic.Sums.{IsSum, IsDifference, zero_sum_sign}
-use Rattle.apfloat_model.specs.order.Classes.{is_finite, is_negative}
-use Rattle.apfloat_model.specs.order.Order.{number}
+use Rattle.apfloat_model.specs.{rounding.Negation.negated, arithmetic.Exact.product_sign, arithmetic.Exact.signed}
+use Rattle.apfloat_model.specs.arithmetic.{Products.IsProduct, Sums.IsSum, Sums.IsDifference, Sums.zero_sum_sign}
+use Rattle.apfloat_model.specs.order.{Classes.is_finite, Classes.is_negative, Order.number}
 use Rattle.apfloat_model.proofs.arithmetic.Signs.{swapped_sum}
 use Rattle.apfloat_model.proofs.formats.LawfulRanges.{ranges_of as lawful_ranges}
 use Rattle.ieee_operations.specs.augmented.Augmented.{AreBoth, IsAugmented, IsAugmentedSum, IsAugmentedDifference}

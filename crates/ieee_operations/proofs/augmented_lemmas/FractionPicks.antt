@@ -1,20 +1,17 @@
 -- Picks of amount / parts quanta: from the pick to nearest with ties to even, halfway between two quanta, and past the
 -- largest value.
-use Rattle.std.proofs.Common.{◌≡◌, ℕ, zero, suc, ◌+◌, ◌-◌, ◌*◌, ◌/◌, ◌^◌, ◌<◌, ◌≤◌, ◌⊎◌, Bool, true, false, cond, sym, refl, ap, ◌∙◌, inl, inr, ⊎_elim, arith}
+use Rattle.std.proofs.Common.{◌≡◌, ℕ, zero, suc, ◌+◌, ◌-◌, ◌*◌, ◌/◌, ◌^◌, ◌<◌, ◌≤◌, ◌⊎◌, Bool, true, false, cond, sym}
+use Rattle.std.proofs.Common.{refl, ap, ◌∙◌, inl, inr, ⊎_elim, arith}
 use Rattle.std.proofs.Math.Nat.{mul-le-mul_right, le_of_mul-le-mul_right, lt_of_mul-lt-mul_right, pow-le-pow_right}
-use Rattle.std.proofs.lemmas.Bool.{cases_lt}
-use Rattle.std.proofs.lemmas.Nat.{pow_pos, mul-le}
+use Rattle.std.proofs.lemmas.{Bool.cases_lt, Nat.pow_pos, Nat.mul-le}
 use Rattle.apfloat_model.specs.declared.kinds.Round.TheVariants.{NearestTiesToEven, TowardZero}
 use Rattle.apfloat_model.specs.formats.Format.{Format, largest, greatest_significand}
+use Rattle.apfloat_model.specs.rounding.{Enclosure.IsEnclosed, Rounding.takes_above, Rounding.IsPick}
 use Rattle.apfloat_model.specs.rounding.Grid.{IsOnGrid, IsBelow, IsAbove}
-use Rattle.apfloat_model.specs.rounding.Enclosure.{IsEnclosed}
-use Rattle.apfloat_model.specs.rounding.Rounding.{takes_above, IsPick}
+use Rattle.apfloat_model.proofs.{general.Powers.two_pos, general.Powers.twice_half, rounding.Laws.pick_within}
 use Rattle.apfloat_model.proofs.formats.Greatest.{greatest_fits, greatest_full}
-use Rattle.apfloat_model.proofs.general.Powers.{two_pos, twice_half}
-use Rattle.apfloat_model.proofs.rounding.Laws.{pick_within}
+use Rattle.apfloat_model.proofs.rounding.{NeighboursExist.enclosed_at, FarMagnitudes.largest_on_grid}
 use Rattle.apfloat_model.proofs.rounding.Neighbours.{multiple_on_grid, next_on_grid, none_between, below_unique}
-use Rattle.apfloat_model.proofs.rounding.NeighboursExist.{enclosed_at}
-use Rattle.apfloat_model.proofs.rounding.FarMagnitudes.{largest_on_grid}
 use Rattle.apfloat_model.proofs.rounding.Picks.{even_nearer, even_farther}
 use Rattle.apfloat_pair_theory.proofs.numbers.Roundings.{apart}
 use Rattle.apfloat_pair_theory.proofs.numbers.Signed.{coarse_multiple, grid_bound_at, on_grid_as}

@@ -1,35 +1,27 @@
 -- Roundings of exact / parts quanta: exact ones, products, and what a fused sum leaves of a product.
 use Rattle.std.proofs.Common.{◌≡◌, ℕ, ◌+◌, ◌-◌, ◌*◌, ◌^◌, ◌<◌, ◌≤◌, Bool, true, sym, ap, ◌∙◌, subst, ⊎_elim, arith}
-use Rattle.std.specs.Prelude.{ℤ, pos, neg_ℤ, ◌+ℤ◌, ◌-ℤ◌, ◌*ℤ◌}
 use Rattle.std.proofs.Math.Nat.{mul-le-mul_left, mul-lt-mul_of_pos_right, lt_of_mul-lt-mul_right}
-use Rattle.std.proofs.lemmas.Bool.{cases_lt, false≢true}
-use Rattle.std.proofs.lemmas.Nat.{pow-add, pow_pos, mul-lt}
-use Rattle.apfloat_model.specs.declared.kinds.Round.{Round}
-use Rattle.apfloat_model.specs.declared.kinds.Round.TheVariants.{NearestTiesToEven}
+use Rattle.std.proofs.lemmas.{Bool.cases_lt, Bool.false≢true, Nat.pow-add, Nat.pow_pos, Nat.mul-lt}
+use Rattle.std.specs.Prelude.{ℤ, pos, neg_ℤ, ◌+ℤ◌, ◌-ℤ◌, ◌*ℤ◌}
+use Rattle.apfloat_model.specs.declared.kinds.Round.{Round, TheVariants.NearestTiesToEven}
 use Rattle.apfloat_model.specs.formats.Format.{Format, largest}
 use Rattle.apfloat_model.specs.formats.Datum.{Datum, finite, infinite, nan}
-use Rattle.apfloat_model.specs.rounding.Grid.{IsOnGrid}
-use Rattle.apfloat_model.specs.rounding.Rounding.{ok_bits}
-use Rattle.apfloat_model.specs.rounding.Negation.{negated}
+use Rattle.apfloat_model.specs.rounding.{Grid.IsOnGrid, Rounding.ok_bits, Negation.negated}
+use Rattle.apfloat_model.specs.arithmetic.{Sums.zero_sum_sign, Products.IsProduct, FusedSums.IsFusedSum}
 use Rattle.apfloat_model.specs.arithmetic.Exact.{magnitude, signed, sign_of, product_sign, IsRounded}
-use Rattle.apfloat_model.specs.arithmetic.Sums.{zero_sum_sign}
-use Rattle.apfloat_model.specs.arithmetic.Products.{IsProduct}
-use Rattle.apfloat_model.specs.arithmetic.FusedSums.{IsFusedSum}
-use Rattle.apfloat_model.specs.order.Classes.{is_finite, is_negative}
-use Rattle.apfloat_model.specs.order.Order.{number}
+use Rattle.apfloat_model.specs.order.{Classes.is_finite, Classes.is_negative, Order.number}
 use Rattle.apfloat_model.proofs.arithmetic.Signs.{magnitude_signed, rounded_signed}
 use Rattle.apfloat_model.proofs.general.Powers.{half_at_most, twice_half}
-use Rattle.apfloat_pair_theory.proofs.numbers.Nearest.{IsNearest}
-use Rattle.apfloat_pair_theory.proofs.numbers.Roundings.{signed_exact, pick_is_nearest, IsNearestFraction, whole_nearest}
+use Rattle.apfloat_model.proofs.whole_numbers.SignedProducts.{difference_times, neg_times, magnitude-mul}
+use Rattle.apfloat_model.proofs.whole_numbers.SignedProducts.{magnitude-times, signed_product, signed_times}
+use Rattle.apfloat_pair_theory.proofs.numbers.{Nearest.IsNearest, Roundings.signed_exact}
+use Rattle.apfloat_pair_theory.proofs.numbers.Roundings.{pick_is_nearest, IsNearestFraction, whole_nearest}
 use Rattle.apfloat_pair_theory.proofs.numbers.Signed.{IsGridNumber, magnitude-sub, grown, on_grid_as}
-use Rattle.apfloat_model.proofs.whole_numbers.SignedProducts.{difference_times, neg_times, magnitude-mul, magnitude-times, signed_product, signed_times}
 use Rattle.apfloat_pair_theory.proofs.numbers.WholeProducts.{IsWholeProduct, whole_product, product_error_on_grid}
-use Rattle.apfloat_pair_theory.proofs.sums.PairRoundings.{error_eighth}
-use Rattle.apfloat_pair_theory.proofs.sums.DifferenceLaws.{minus_is}
+use Rattle.apfloat_pair_theory.proofs.sums.{PairRoundings.error_eighth, DifferenceLaws.minus_is}
 use Rattle.ieee_operations.specs.augmented.Numbers.{IsAugmentedNumber}
-use Rattle.ieee_operations.proofs.augmented_lemmas.Multiples.{times_cancelled}
-use Rattle.ieee_operations.proofs.augmented_lemmas.Numbers.{signed_number, within_is, fraction_exactly}
-use Rattle.ieee_operations.proofs.augmented_lemmas.Numbers.{finite_within, negated_has}
+use Rattle.ieee_operations.proofs.augmented_lemmas.{Multiples.times_cancelled, Numbers.signed_number}
+use Rattle.ieee_operations.proofs.augmented_lemmas.Numbers.{within_is, fraction_exactly, finite_within, negated_has}
 use Rattle.ieee_operations.proofs.augmented_lemmas.Rests.{eight}
 
 -- ---- products and fused sums of finite data

@@ -1,42 +1,35 @@
 -- The head of an augmented sum, from the sum in two modes and what these leave.
-use Rattle.std.proofs.Common.{◌≡◌, ℕ, zero, suc, ◌+◌, ◌-◌, ◌*◌, ◌^◌, ◌<◌, ◌≤◌, Bool, true, false, not, cond, ltb, eqb, sym, refl, ap, ◌∙◌, subst, inr, ⊎_elim, arith, lit<}
+use Rattle.std.proofs.Common.{◌≡◌, ℕ, zero, suc, ◌+◌, ◌-◌, ◌*◌, ◌^◌, ◌<◌, ◌≤◌, Bool}
+use Rattle.std.proofs.Common.{true, false, not, cond, ltb, eqb, sym, refl, ap, ◌∙◌, subst, inr, ⊎_elim, arith}
+use Rattle.std.proofs.{Common.lit<, lemmas.Bool.cases_lt}
+use Rattle.std.proofs.lemmas.{Bool.false≢true, Bool.le-ltb, Bool.lt-ltb, Bool.eq-eqb, Int.ints, Nat.pow_pos}
 use Rattle.std.specs.Prelude.{ℤ, pos, neg_ℤ, ◌-ℤ◌}
 use Rattle.std.specs.Bool.{MatchBool}
-use Rattle.std.proofs.lemmas.Bool.{cases_lt, false≢true, le-ltb, lt-ltb, eq-eqb}
-use Rattle.std.proofs.lemmas.Int.{ints}
-use Rattle.std.proofs.lemmas.Nat.{pow_pos}
 use Rattle.apfloat_model.specs.declared.kinds.Round.TheVariants.{NearestTiesToEven, TowardZero}
 use Rattle.apfloat_model.specs.declared.kinds.NonfiniteBehavior.{NonfiniteBehavior}
 use Rattle.apfloat_model.specs.declared.kinds.NonfiniteBehavior.TheVariants.{IEEE754, NanOnly, NanNegativeZero}
 use Rattle.apfloat_model.specs.formats.Format.{Format, largest, greatest_significand, nan_base}
 use Rattle.apfloat_model.specs.formats.Datum.{Datum, finite, infinite, nan}
-use Rattle.apfloat_model.specs.formats.Constants.{zero_datum}
-use Rattle.apfloat_model.specs.rounding.Grid.{IsOnGrid}
-use Rattle.apfloat_model.specs.rounding.Enclosure.{IsEnclosed}
-use Rattle.apfloat_model.specs.rounding.Rounding.{IsPick, past_largest, signed_quanta, zero_sign}
-use Rattle.apfloat_model.specs.rounding.Rounding.{ok_bits, overflow_bit, inexact_bit, underflow_bit}
-use Rattle.apfloat_model.specs.rounding.Negation.{negated}
+use Rattle.apfloat_model.specs.{formats.Constants.zero_datum, rounding.Grid.IsOnGrid, rounding.Enclosure.IsEnclosed}
+use Rattle.apfloat_model.specs.rounding.Rounding.{IsPick, past_largest, signed_quanta, zero_sign, ok_bits, overflow_bit}
+use Rattle.apfloat_model.specs.rounding.{Rounding.inexact_bit, Rounding.underflow_bit, Negation.negated}
 use Rattle.apfloat_model.specs.arithmetic.Exact.{magnitude, signed, sign_of, same_sign, IsRounded}
-use Rattle.apfloat_model.specs.arithmetic.Signs.{abs, copy_sign}
-use Rattle.apfloat_model.specs.arithmetic.Scaling.{IsScaling}
-use Rattle.apfloat_model.specs.order.Classes.{is_finite, is_negative}
-use Rattle.apfloat_model.specs.order.Order.{number, is_equal}
+use Rattle.apfloat_model.specs.arithmetic.{Signs.abs, Signs.copy_sign, Scaling.IsScaling}
+use Rattle.apfloat_model.specs.order.{Classes.is_finite, Classes.is_negative, Order.number, Order.is_equal}
 use Rattle.apfloat_model.proofs.arithmetic.Signs.{no_sign, magnitude_signed, sign_signed, one_side}
 use Rattle.apfloat_model.proofs.formats.Greatest.{greatest_fits, greatest_full, greatest_some}
-use Rattle.apfloat_model.proofs.formats.Ranges.{at_top}
-use Rattle.apfloat_model.proofs.general.Choices.{not_zero}
-use Rattle.apfloat_model.proofs.general.Powers.{twice_half}
-use Rattle.apfloat_model.proofs.rounding.Deliveries.{signed_some}
-use Rattle.apfloat_model.proofs.rounding.Laws.{delivered_once, exact_delivered, pick_within}
-use Rattle.apfloat_model.proofs.rounding.Neighbours.{below_is, above_is_next}
-use Rattle.apfloat_model.proofs.rounding.FarMagnitudes.{largest_on_grid}
-use Rattle.apfloat_model.proofs.whole_numbers.SignedNumbers.{largest_some}
+use Rattle.apfloat_model.proofs.{formats.Ranges.at_top, general.Choices.not_zero, general.Powers.twice_half}
+use Rattle.apfloat_model.proofs.rounding.{Deliveries.signed_some, Laws.delivered_once, Laws.exact_delivered}
+use Rattle.apfloat_model.proofs.rounding.{Laws.pick_within, Neighbours.below_is, Neighbours.above_is_next}
+use Rattle.apfloat_model.proofs.{rounding.FarMagnitudes.largest_on_grid, whole_numbers.SignedNumbers.largest_some}
 use Rattle.apfloat_pair_theory.proofs.numbers.Roundings.{apart, pick_nearest, pick_on_grid, signed_exact}
 use Rattle.apfloat_pair_theory.proofs.pairs.Normalised.{is_equal_by}
 use Rattle.ieee_operations.specs.augmented.TiesToZero.{IsTiesToZeroPick}
 use Rattle.ieee_operations.specs.augmented.Augmented.{left_of, IsPastLargest, IsWithTail, IsAugmented}
 use Rattle.ieee_operations.specs.augmented.Numbers.{HasNumber, IsNearestTo, with_sign}
-use Rattle.ieee_operations.proofs.augmented_lemmas.TiesToZero.{takes_low, ties_to_zero_exact, ties_to_zero_on_grid, ties_to_zero_nearest, signed_nearest, short_is_below, from_half}
+use Rattle.ieee_operations.proofs.augmented_lemmas.TiesToZero.{takes_low, ties_to_zero_exact, ties_to_zero_on_grid}
+use Rattle.ieee_operations.proofs.augmented_lemmas.TiesToZero.{ties_to_zero_nearest, signed_nearest, short_is_below}
+use Rattle.ieee_operations.proofs.augmented_lemmas.TiesToZero.{from_half}
 use Rattle.ieee_operations.proofs.augmented_lemmas.Numbers.{signed_number, within_is, short_is, finite_within, abs_has}
 use Rattle.ieee_operations.proofs.augmented_lemmas.Numbers.{negated_has, equal_numbers}
 use Rattle.ieee_operations.proofs.augmented_lemmas.FractionPicks.{beyond_in, from_even_in, half_unit}

@@ -1,18 +1,16 @@
 -- Integers and magnitudes times a number of parts: what is picked for such a multiple, and the augmented result of it.
-use Rattle.std.proofs.Common.{◌≡◌, ℕ, zero, suc, ◌+◌, ◌*◌, ◌<◌, ◌≤◌, Bool, true, false, eqb, ltb, if◌then◌else◌, sym, refl, ap, ◌∙◌, subst, ⊎_elim, arith}
+use Rattle.std.proofs.Common.{◌≡◌, ℕ, zero, suc, ◌+◌, ◌*◌, ◌<◌, ◌≤◌, Bool, true, false, eqb}
+use Rattle.std.proofs.Common.{ltb, if◌then◌else◌, sym, refl, ap, ◌∙◌, subst, ⊎_elim, arith}
+use Rattle.std.proofs.Math.Nat.{mul-le-mul_right, mul-lt-mul_of_pos_right, le_of_mul-le-mul_right}
+use Rattle.std.proofs.lemmas.{Bool.cases_lt, Bool.cases_eq, Bool.eq-eqb, Bool.ne_eqb, Int.ints}
 use Rattle.std.specs.Prelude.{ℤ, pos, negsuc, ◌-ℤ◌, ◌*ℤ◌}
 use Rattle.std.specs.Bool.{MatchBool}
-use Rattle.std.proofs.Math.Nat.{mul-le-mul_right, mul-lt-mul_of_pos_right, le_of_mul-le-mul_right}
-use Rattle.std.proofs.lemmas.Bool.{cases_lt, cases_eq, eq-eqb, ne_eqb}
-use Rattle.std.proofs.lemmas.Int.{ints}
-use Rattle.apfloat_model.specs.formats.Format.{Format, largest}
-use Rattle.apfloat_model.specs.formats.Datum.{Datum}
+use Rattle.apfloat_model.specs.formats.{Format.Format, Format.largest, Datum.Datum}
 use Rattle.apfloat_model.specs.rounding.Grid.{IsBelow, IsAbove}
 use Rattle.apfloat_model.specs.rounding.Rounding.{signed_quanta, ok_bits, inexact_bit, underflow_bit}
 use Rattle.apfloat_model.specs.arithmetic.Exact.{magnitude, signed, sign_of}
-use Rattle.apfloat_model.proofs.arithmetic.Signs.{one_side}
-use Rattle.apfloat_model.proofs.whole_numbers.SignedProducts.{difference_times, magnitude-times, signed_times}
-use Rattle.apfloat_model.proofs.whole_numbers.SignedProducts.{sign_times}
+use Rattle.apfloat_model.proofs.{arithmetic.Signs.one_side, whole_numbers.SignedProducts.difference_times}
+use Rattle.apfloat_model.proofs.whole_numbers.SignedProducts.{magnitude-times, signed_times, sign_times}
 use Rattle.ieee_operations.specs.augmented.TiesToZero.{nearer_between, IsTiesToZeroPick}
 use Rattle.ieee_operations.specs.augmented.Augmented.{left_of, IsPastLargest, IsWithTail, IsAugmented}
 use Rattle.ieee_operations.proofs.augmented_lemmas.TiesToZero.{takes_low, takes_high}

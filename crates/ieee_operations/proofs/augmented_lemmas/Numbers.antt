@@ -1,36 +1,28 @@
 -- Finite results by their numbers: delivered values, exact roundings, differences, comparisons.
-use Rattle.std.proofs.Common.{◌≡◌, ℕ, zero, suc, ◌+◌, ◌*◌, ◌<◌, ◌≤◌, Bool, true, false, not, cond, ltb, eqb, sym, refl, ap, ◌∙◌, subst, ⊎_elim, arith, lit<}
+use Rattle.std.proofs.Common.{◌≡◌, ℕ, zero, suc, ◌+◌, ◌*◌, ◌<◌, ◌≤◌, Bool, true, false, not}
+use Rattle.std.proofs.Common.{cond, ltb, eqb, sym, refl, ap, ◌∙◌, subst, ⊎_elim, arith, lit<}
+use Rattle.std.proofs.lemmas.{Map.Lookups.exact_signed, Cmp.int_ranked, Bool.cases_lt, Bool.false≢true, Bool.le-ltb}
+use Rattle.std.proofs.lemmas.{Bool.lt-ltb, Bool.eqb-true, Int.ints}
 use Rattle.std.specs.Prelude.{ℤ, pos, neg_ℤ, ◌+ℤ◌, ◌-ℤ◌, ◌≤ℤ◌, ◌*ℤ◌}
 use Rattle.std.specs.Ordering.{int_cmp, is_eq, is_lt}
-use Rattle.std.specs.declared.cmp.Ordering.{Ordering}
-use Rattle.std.specs.declared.cmp.Ordering.TheVariants.{Less, Equal, Greater}
-use Rattle.std.proofs.lemmas.Map.Lookups.{exact_signed}
-use Rattle.std.proofs.lemmas.Cmp.{int_ranked}
-use Rattle.std.proofs.lemmas.Bool.{cases_lt, false≢true, le-ltb, lt-ltb, eqb-true}
-use Rattle.std.proofs.lemmas.Int.{ints}
-use Rattle.apfloat_model.specs.declared.kinds.Round.{Round}
-use Rattle.apfloat_model.specs.declared.kinds.Round.TheVariants.{NearestTiesToEven, TowardZero}
+use Rattle.std.specs.declared.cmp.Ordering.{Ordering, TheVariants.Less, TheVariants.Equal, TheVariants.Greater}
+use Rattle.apfloat_model.specs.declared.kinds.Round.{Round, TheVariants.NearestTiesToEven, TheVariants.TowardZero}
 use Rattle.apfloat_model.specs.declared.kinds.NonfiniteBehavior.{NonfiniteBehavior}
 use Rattle.apfloat_model.specs.declared.kinds.NonfiniteBehavior.TheVariants.{IEEE754, NanOnly, NanNegativeZero}
 use Rattle.apfloat_model.specs.formats.Format.{Format, largest, nan_base}
-use Rattle.apfloat_model.specs.formats.Datum.{Datum, finite, infinite, nan}
-use Rattle.apfloat_model.specs.formats.Members.{IsMember}
-use Rattle.apfloat_model.specs.rounding.Grid.{IsOnGrid}
-use Rattle.apfloat_model.specs.rounding.Rounding.{delivered_value, raises_overflow, is_tiny}
-use Rattle.apfloat_model.specs.rounding.Rounding.{past_largest, signed_quanta, zero_sign, ok_bits, inexact_bit, overflow_bit, underflow_bit}
-use Rattle.apfloat_model.specs.rounding.Negation.{negated}
+use Rattle.apfloat_model.specs.formats.{Datum.Datum, Datum.finite, Datum.infinite, Datum.nan, Members.IsMember}
+use Rattle.apfloat_model.specs.rounding.{Grid.IsOnGrid, Rounding.delivered_value, Rounding.raises_overflow}
+use Rattle.apfloat_model.specs.rounding.Rounding.{is_tiny, past_largest, signed_quanta, zero_sign, ok_bits, inexact_bit}
+use Rattle.apfloat_model.specs.rounding.{Rounding.overflow_bit, Rounding.underflow_bit, Negation.negated}
 use Rattle.apfloat_model.specs.arithmetic.Exact.{magnitude, signed, sign_of, IsRounded}
-use Rattle.apfloat_model.specs.arithmetic.Signs.{abs}
-use Rattle.apfloat_model.specs.arithmetic.Sums.{IsSum, IsDifference, zero_sum_sign}
+use Rattle.apfloat_model.specs.arithmetic.{Signs.abs, Sums.IsSum, Sums.IsDifference, Sums.zero_sum_sign}
 use Rattle.apfloat_model.specs.order.Classes.{is_finite, is_negative}
 use Rattle.apfloat_model.specs.order.Order.{number, is_equal, is_below}
 use Rattle.apfloat_model.proofs.arithmetic.Signs.{no_sign, magnitude_signed}
-use Rattle.apfloat_model.proofs.general.Choices.{not_zero}
-use Rattle.apfloat_model.proofs.rounding.Deliveries.{signed_some, past_not_finite}
-use Rattle.apfloat_model.proofs.rounding.Laws.{delivered_once, exact_delivered}
+use Rattle.apfloat_model.proofs.{general.Choices.not_zero, rounding.Deliveries.signed_some}
+use Rattle.apfloat_model.proofs.rounding.{Deliveries.past_not_finite, Laws.delivered_once, Laws.exact_delivered}
 use Rattle.apfloat_model.proofs.whole_numbers.SignedProducts.{magnitude-times, sign_times, signed_times}
-use Rattle.apfloat_pair_theory.proofs.numbers.Roundings.{signed_exact, signed_not}
-use Rattle.apfloat_pair_theory.proofs.numbers.Signed.{magnitude-neg}
+use Rattle.apfloat_pair_theory.proofs.numbers.{Roundings.signed_exact, Roundings.signed_not, Signed.magnitude-neg}
 use Rattle.ieee_operations.specs.augmented.Numbers.{HasNumber, IsAugmentedNumber}
 
 -- ---- quanta with a sign

@@ -1,34 +1,27 @@
 -- Augmented sums of two numbers, in each of the four cases of `ordered_sum`.
 use Rattle.std.proofs.Common.{◌≡◌, ℕ, ◌+◌, ◌-◌, ◌^◌, ◌<◌, ◌≤◌, Bool, true, false, sym, ap}
 use Rattle.std.proofs.Common.{◌∙◌, subst, ⊎_elim, arith, lit<, FitsSigned, to_z, of_z}
+use Rattle.std.proofs.lemmas.{Bool.cases_lt, Int.ints, Int.to_z-of_z}
 use Rattle.std.specs.Prelude.{ℤ, pos, ◌+ℤ◌, ◌-ℤ◌}
 use Rattle.std.specs.Int.{w32}
-use Rattle.std.proofs.lemmas.Bool.{cases_lt}
-use Rattle.std.proofs.lemmas.Int.{ints, to_z-of_z}
 use Rattle.apfloat_model.specs.declared.kinds.Round.TheVariants.{NearestTiesToEven, TowardZero}
-use Rattle.apfloat_model.specs.formats.Format.{Format, largest}
-use Rattle.apfloat_model.specs.formats.Datum.{Datum, finite}
+use Rattle.apfloat_model.specs.formats.{Format.Format, Format.largest, Datum.Datum, Datum.finite}
 use Rattle.apfloat_model.specs.rounding.Rounding.{IsPick, delivered_value, signed_quanta, ok_bits, overflow_bit}
-use Rattle.apfloat_model.specs.rounding.Rounding.{inexact_bit}
-use Rattle.apfloat_model.specs.rounding.Negation.{negated}
+use Rattle.apfloat_model.specs.rounding.{Rounding.inexact_bit, Negation.negated}
 use Rattle.apfloat_model.specs.arithmetic.Exact.{magnitude, signed, sign_of, IsRounded}
-use Rattle.apfloat_model.specs.arithmetic.Signs.{abs}
-use Rattle.apfloat_model.specs.arithmetic.Sums.{IsSum, zero_sum_sign}
-use Rattle.apfloat_model.specs.order.Classes.{is_finite, is_negative}
-use Rattle.apfloat_model.specs.order.Order.{number, is_equal}
-use Rattle.apfloat_model.proofs.rounding.Deliveries.{signed_some}
-use Rattle.apfloat_model.proofs.rounding.FarMagnitudes.{largest_on_grid}
+use Rattle.apfloat_model.specs.arithmetic.{Signs.abs, Sums.IsSum, Sums.zero_sum_sign}
+use Rattle.apfloat_model.specs.order.{Classes.is_finite, Classes.is_negative, Order.number, Order.is_equal}
+use Rattle.apfloat_model.proofs.rounding.{Deliveries.signed_some, FarMagnitudes.largest_on_grid}
 use Rattle.apfloat_model.proofs.whole_numbers.SignedNumbers.{largest_some}
 use Rattle.apfloat_pair_theory.proofs.numbers.Signed.{on_grid_as}
-use Rattle.ieee_operations.specs.augmented.TiesToZero.{IsTiesToZeroPick}
-use Rattle.ieee_operations.specs.augmented.Augmented.{IsAugmentedSum}
+use Rattle.ieee_operations.specs.augmented.{TiesToZero.IsTiesToZeroPick, Augmented.IsAugmentedSum}
 use Rattle.ieee_operations.specs.augmented.Numbers.{HasNumber, IsAugmentedNumber, IsNearestTo, with_sign}
-use Rattle.ieee_operations.proofs.augmented_lemmas.Cases.{sum_of_numbers}
-use Rattle.ieee_operations.proofs.augmented_lemmas.FractionPicks.{half_unit, past_pick_in}
-use Rattle.ieee_operations.proofs.augmented_lemmas.Heads.{with_tail_is, past_in, picks_of}
-use Rattle.ieee_operations.proofs.augmented_lemmas.Heads.{near_is_nearest, pick_is_nearest, tie_is, no_tie_is, at_half}
-use Rattle.ieee_operations.proofs.augmented_lemmas.Heads.{beyond, short_is_largest_in, half_left, no_half_left}
-use Rattle.ieee_operations.proofs.augmented_lemmas.Numbers.{signed_number, within_is, past_is, short_is, past_without, sum_rounded, quanta_in}
+use Rattle.ieee_operations.proofs.augmented_lemmas.{Cases.sum_of_numbers, FractionPicks.half_unit}
+use Rattle.ieee_operations.proofs.augmented_lemmas.{FractionPicks.past_pick_in, Heads.with_tail_is, Heads.past_in}
+use Rattle.ieee_operations.proofs.augmented_lemmas.Heads.{picks_of, near_is_nearest, pick_is_nearest, tie_is, no_tie_is}
+use Rattle.ieee_operations.proofs.augmented_lemmas.Heads.{at_half, beyond, short_is_largest_in, half_left, no_half_left}
+use Rattle.ieee_operations.proofs.augmented_lemmas.Numbers.{signed_number, within_is, past_is, short_is, past_without}
+use Rattle.ieee_operations.proofs.augmented_lemmas.Numbers.{sum_rounded, quanta_in}
 use Rattle.ieee_operations.proofs.augmented_lemmas.Rests.{as_nearest, rest_in_format}
 
 -- the sum toward zero is a number of the format

@@ -1,27 +1,22 @@
 -- Payloads of NaNs as values.
-use Rattle.std.proofs.Common.{◌≡◌, ℕ, zero, suc, ◌-◌, ◌*◌, ◌%◌, ◌^◌, ◌<◌, ◌≤◌, Bool, true, false, eqb, if◌then◌else◌}
-use Rattle.std.proofs.Common.{refl, sym, ap, ◌∙◌, arith, lit<}
+use Rattle.std.proofs.Common.{◌≡◌, ℕ, zero, suc, ◌-◌, ◌*◌, ◌%◌, ◌^◌, ◌<◌, ◌≤◌, Bool}
+use Rattle.std.proofs.Common.{true, false, eqb, if◌then◌else◌, refl, sym, ap, ◌∙◌, arith, lit<}
+use Rattle.std.proofs.{Math.Nat.pow-le-pow_right, lemmas.Bool.false≢true, lemmas.Nat.pow_pos, lemmas.Nat.mod_below}
 use Rattle.std.specs.Prelude.{negsuc}
-use Rattle.std.proofs.Math.Nat.{pow-le-pow_right}
-use Rattle.std.proofs.lemmas.Bool.{false≢true}
-use Rattle.std.proofs.lemmas.Nat.{pow_pos, mod_below}
 use Rattle.apfloat_model.specs.declared.kinds.NonfiniteBehavior.{NonfiniteBehavior}
 use Rattle.apfloat_model.specs.declared.kinds.NonfiniteBehavior.TheVariants.{IEEE754, NanOnly, NanNegativeZero}
 use Rattle.apfloat_model.specs.declared.kinds.Round.TheVariants.{NearestTiesToEven}
-use Rattle.apfloat_model.specs.bits.Layout.{trailing_bits}
-use Rattle.apfloat_model.specs.formats.Format.{Format}
-use Rattle.apfloat_model.specs.formats.Datum.{Datum, finite, infinite, nan}
 use Rattle.apfloat_model.specs.declared.kinds.Category.TheVariants.{Normal, Zero}
+use Rattle.apfloat_model.specs.{bits.Layout.trailing_bits, formats.Format.Format}
+use Rattle.apfloat_model.specs.formats.{Datum.Datum, Datum.finite, Datum.infinite, Datum.nan, Nan.nan_significand}
 use Rattle.apfloat_model.specs.order.Classes.{is_nan, category_of, is_nan_category}
 use Rattle.apfloat_model.specs.rounding.Rounding.{IsDelivered, signed_quanta, ok_bits}
 use Rattle.apfloat_model.specs.whole_numbers.WholeNumbers.{IsFromUnsigned, IsFromSigned}
-use Rattle.apfloat_model.proofs.formats.Ranges.{below_top}
-use Rattle.apfloat_model.proofs.general.Powers.{two_pos, lower_mod}
+use Rattle.apfloat_model.proofs.{formats.Ranges.below_top, general.Powers.two_pos, general.Powers.lower_mod}
 use Rattle.apfloat_model.proofs.rounding.Deliveries.{signed_some, unsigned_quanta}
-use Rattle.apfloat_model.proofs.rounding.Laws.{delivered_once, exact_delivered}
-use Rattle.apfloat_model.proofs.rounding.Neighbours.{multiple_on_grid}
-use Rattle.apfloat_model.specs.formats.Nan.{nan_significand}
-use Rattle.ieee_operations.specs.augmented.Payloads.{get_payload, integer_datum, payload_of, payload_bits, payload_bits_of}
+use Rattle.apfloat_model.proofs.rounding.{Laws.delivered_once, Laws.exact_delivered, Neighbours.multiple_on_grid}
+use Rattle.ieee_operations.specs.augmented.Payloads.{get_payload, integer_datum, payload_of, payload_bits}
+use Rattle.ieee_operations.specs.augmented.Payloads.{payload_bits_of}
 
 payload_short : (kind : NonfiniteBehavior) (explicit : Bool) (precision : ℕ)
     → payload_bits_of kind precision ≤ precision - 1

@@ -1,17 +1,18 @@
 -- The payload of the NaN with a payload is that payload.
-use Rattle.std.proofs.Common.{◌≡◌, ℕ, ◌+◌, ◌-◌, ◌*◌, ◌/◌, ◌%◌, ◌^◌, ◌<◌, ◌≤◌, Bool, true, false, refl, ap, ◌∙◌, arith, cond, eqb, if◌then◌else◌, leb, ltb}
-use Rattle.std.specs.Prelude.{bit_and, bit_or}
-use Rattle.std.specs.Int.Bits.{or_zero_l, and_zero_r}
+use Rattle.std.proofs.Common.{◌≡◌, ℕ, ◌+◌, ◌-◌, ◌*◌, ◌/◌, ◌%◌, ◌^◌, ◌<◌, ◌≤◌, Bool, true, false, refl, ap, ◌∙◌, arith}
+use Rattle.std.proofs.Common.{cond, eqb, if◌then◌else◌, leb, ltb}
 use Rattle.std.proofs.Math.Nat.{mul-mod_left, mul-div_cancel}
 use Rattle.std.proofs.lemmas.Bool.{le-leb, lt-ltb, ne_eqb}
 use Rattle.std.proofs.lemmas.Nat.{pow_pos, pow-add, and_mask, or_shifted, and_block, mod-mul-add, mod_below}
+use Rattle.std.specs.{Prelude.bit_and, Prelude.bit_or, Int.Bits.or_zero_l, Int.Bits.and_zero_r}
 use Rattle.apfloat_model.specs.declared.kinds.NonfiniteBehavior.{NonfiniteBehavior}
 use Rattle.apfloat_model.specs.declared.kinds.NonfiniteBehavior.TheVariants.{IEEE754, NanOnly, NanNegativeZero}
 use Rattle.apfloat_model.specs.formats.Constants.{zero_datum}
 use Rattle.apfloat_model.specs.formats.Format.{Format, nan_base_of, payload_mask_of, quiet_bits_of}
 use Rattle.apfloat_model.specs.formats.Nan.{quiet_bit_of, quiet_significand, signaling_significand, qnan, snan}
-use Rattle.ieee_operations.specs.augmented.Payloads.{payload_bits_of, payload_bits, integer_datum, integer_of, is_payload, payload_of}
-use Rattle.ieee_operations.specs.augmented.Payloads.{get_payload, set_payload, set_payload_signaling, ArePayloadsKept}
+use Rattle.ieee_operations.specs.augmented.Payloads.{payload_bits_of, payload_bits, integer_datum, integer_of}
+use Rattle.ieee_operations.specs.augmented.Payloads.{is_payload, payload_of, get_payload, set_payload}
+use Rattle.ieee_operations.specs.augmented.Payloads.{set_payload_signaling, ArePayloadsKept}
 
 abbrev quiet_of : NonfiniteBehavior → Bool → ℕ → ℕ → ℕ
 quiet_of kind explicit p k =

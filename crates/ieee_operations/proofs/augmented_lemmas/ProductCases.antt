@@ -1,33 +1,27 @@
 -- Augmented products, in each of the cases of the calls: special operands, an exact rest, and past the largest value.
 use Rattle.std.proofs.Common.{◌≡◌, ℕ, zero, suc, ◌+◌, ◌-◌, ◌*◌, ◌^◌, ◌<◌, ◌≤◌, Bool}
-use Rattle.std.proofs.Common.{true, false, ltb, if◌then◌else◌, sym, refl, ap, ◌∙◌, subst, ◌⊎◌, inl, inr, arith}
+use Rattle.std.proofs.Common.{true, false, ltb, if◌then◌else◌, sym, refl, ap, ◌∙◌, subst, ◌⊎◌, inl}
+use Rattle.std.proofs.{Common.inr, Common.arith, Math.Nat.mul-pos}
+use Rattle.std.proofs.lemmas.{Bool.false≢true, Bool.lt-ltb, Bool.le-ltb, Bool.eq-eqb, Int.ints, Nat.pow_pos}
 use Rattle.std.specs.Prelude.{ℤ, pos, ◌+ℤ◌, ◌-ℤ◌, ◌*ℤ◌}
 use Rattle.std.specs.Bool.{MatchBool}
-use Rattle.std.proofs.Math.Nat.{mul-pos}
-use Rattle.std.proofs.lemmas.Bool.{false≢true, lt-ltb, le-ltb, eq-eqb}
-use Rattle.std.proofs.lemmas.Int.{ints}
-use Rattle.std.proofs.lemmas.Nat.{pow_pos}
 use Rattle.apfloat_model.specs.declared.kinds.Category.TheVariants.{Normal, Zero, Infinity, NaN}
-use Rattle.apfloat_model.specs.declared.kinds.Round.{Round}
-use Rattle.apfloat_model.specs.declared.kinds.Round.TheVariants.{NearestTiesToEven, TowardZero}
+use Rattle.apfloat_model.specs.declared.kinds.Round.{Round, TheVariants.NearestTiesToEven, TheVariants.TowardZero}
 use Rattle.apfloat_model.specs.formats.Format.{Format, largest}
 use Rattle.apfloat_model.specs.formats.Datum.{Datum, finite, infinite, nan}
 use Rattle.apfloat_model.specs.rounding.Rounding.{signed_quanta, ok_bits, overflow_bit, underflow_bit, inexact_bit}
 use Rattle.apfloat_model.specs.rounding.Negation.{negated}
 use Rattle.apfloat_model.specs.arithmetic.Exact.{magnitude, signed, sign_of, product_sign, IsRounded}
-use Rattle.apfloat_model.specs.arithmetic.Products.{IsProduct}
-use Rattle.apfloat_model.specs.arithmetic.FusedSums.{IsFusedSum}
-use Rattle.apfloat_model.specs.arithmetic.Sums.{zero_sum_sign}
-use Rattle.apfloat_model.specs.order.Classes.{category_of, is_finite, is_finite_non_zero, is_finite_non_zero_category, is_negative}
-use Rattle.apfloat_model.specs.order.Order.{number}
+use Rattle.apfloat_model.specs.arithmetic.{Products.IsProduct, FusedSums.IsFusedSum, Sums.zero_sum_sign}
+use Rattle.apfloat_model.specs.order.Classes.{category_of, is_finite, is_finite_non_zero, is_finite_non_zero_category}
+use Rattle.apfloat_model.specs.order.{Classes.is_negative, Order.number}
 use Rattle.apfloat_model.proofs.arithmetic.Signs.{magnitude_signed, no_sign}
 use Rattle.apfloat_model.proofs.order.PredicatesAgree.{number_agrees}
 use Rattle.apfloat_model.proofs.rounding.Laws.{delivered_once, exact_delivered, zero_on_grid}
-use Rattle.apfloat_pair_theory.proofs.numbers.Roundings.{signed_exact}
-use Rattle.apfloat_pair_theory.proofs.numbers.Signed.{on_grid_as}
 use Rattle.apfloat_model.proofs.whole_numbers.SignedProducts.{sum_times, magnitude-mul, signed_product, signed_times}
-use Rattle.ieee_operations.specs.augmented.Augmented.{IsPastLargest, IsWithTail, IsAugmented, IsAugmentedSum, IsAugmentedProduct}
-use Rattle.ieee_operations.specs.augmented.Numbers.{IsNonzeroIn, IsNearProduct}
+use Rattle.apfloat_pair_theory.proofs.numbers.{Roundings.signed_exact, Signed.on_grid_as}
+use Rattle.ieee_operations.specs.augmented.Augmented.{IsPastLargest, IsWithTail, IsAugmented, IsAugmentedSum}
+use Rattle.ieee_operations.specs.augmented.{Augmented.IsAugmentedProduct, Numbers.IsNonzeroIn, Numbers.IsNearProduct}
 use Rattle.ieee_operations.specs.augmented.TiesToZero.{IsTiesToZeroPick}
 use Rattle.ieee_operations.proofs.augmented_lemmas.Cases.{each_product}
 use Rattle.ieee_operations.proofs.augmented_lemmas.FractionPicks.{half_unit, past_pick_in}

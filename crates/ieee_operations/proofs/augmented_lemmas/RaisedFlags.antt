@@ -1,16 +1,13 @@
 -- OVERFLOW and UNDERFLOW are raised only together with INEXACT, by augmented sums, differences and products.
 use Rattle.std.proofs.Common.{ℕ, ◌+◌, ◌*◌, Bool, true, false, eqb, ltb, sym, subst, lit<}
-use Rattle.std.specs.Prelude.{ℤ}
-use Rattle.std.specs.Bool.{MatchBool}
-use Rattle.apfloat_model.specs.declared.kinds.Round.TheVariants.{NearestTiesToEven}
-use Rattle.apfloat_model.specs.formats.Format.{Format, largest}
-use Rattle.apfloat_model.specs.formats.Datum.{Datum}
-use Rattle.apfloat_model.specs.rounding.RaisedFlags.{FlagsGoTogether}
+use Rattle.std.specs.{Prelude.ℤ, Bool.MatchBool}
+use Rattle.apfloat_model.specs.{declared.kinds.Round.TheVariants.NearestTiesToEven, formats.Format.Format}
+use Rattle.apfloat_model.specs.{formats.Format.largest, formats.Datum.Datum, rounding.RaisedFlags.FlagsGoTogether}
 use Rattle.apfloat_model.specs.rounding.Rounding.{overflow_bit, underflow_bit, inexact_bit}
 use Rattle.apfloat_model.specs.arithmetic.Exact.{magnitude, sign_of}
 use Rattle.apfloat_model.proofs.general.Choices.{if_case}
-use Rattle.apfloat_model.proofs.rounding.FlagsTogether.{Together, ok_together, sum_together, difference_together, product_together}
-use Rattle.apfloat_model.proofs.rounding.FlagsTogether.{inexact_together}
+use Rattle.apfloat_model.proofs.rounding.FlagsTogether.{Together, ok_together, sum_together, difference_together}
+use Rattle.apfloat_model.proofs.rounding.FlagsTogether.{product_together, inexact_together}
 use Rattle.ieee_operations.specs.augmented.Augmented.{left_of, IsPastLargest, IsWithTail, IsAugmented, AreBoth}
 use Rattle.ieee_operations.proofs.augmented_lemmas.Cases.{OfEachOperation, of_each}
 

@@ -1,23 +1,15 @@
 -- What a nearest sum leaves, by the two subtractions of Fast2Sum (Dekker), in every kind of format.
 use Rattle.std.proofs.Common.{◌≡◌, ℕ, ◌^◌, ◌≤◌, true, ◌∙◌, subst, arith}
+use Rattle.std.proofs.{Math.Nat.pow-le-pow_right, lemmas.Int.ints}
 use Rattle.std.specs.Prelude.{ℤ, pos, negsuc, ◌+ℤ◌, ◌-ℤ◌, ◌≤ℤ◌}
-use Rattle.std.proofs.Math.Nat.{pow-le-pow_right}
-use Rattle.std.proofs.lemmas.Int.{ints}
 use Rattle.apfloat_model.specs.declared.kinds.Round.TheVariants.{NearestTiesToEven}
-use Rattle.apfloat_model.specs.formats.Format.{Format, largest}
-use Rattle.apfloat_model.specs.formats.Datum.{Datum}
-use Rattle.apfloat_model.specs.rounding.Grid.{IsOnGrid}
-use Rattle.apfloat_model.specs.rounding.Rounding.{ok_bits}
-use Rattle.apfloat_model.specs.arithmetic.Exact.{magnitude}
-use Rattle.apfloat_model.specs.arithmetic.Sums.{IsDifference}
-use Rattle.apfloat_model.specs.order.Classes.{is_finite}
-use Rattle.apfloat_model.specs.order.Order.{number}
-use Rattle.apfloat_model.proofs.arithmetic.Signs.{one_side}
-use Rattle.apfloat_model.proofs.general.Powers.{two_pos}
-use Rattle.apfloat_model.proofs.rounding.Laws.{zero_on_grid}
+use Rattle.apfloat_model.specs.formats.{Format.Format, Format.largest, Datum.Datum}
+use Rattle.apfloat_model.specs.{rounding.Grid.IsOnGrid, rounding.Rounding.ok_bits, arithmetic.Exact.magnitude}
+use Rattle.apfloat_model.specs.{arithmetic.Sums.IsDifference, order.Classes.is_finite, order.Order.number}
+use Rattle.apfloat_model.proofs.{arithmetic.Signs.one_side, general.Powers.two_pos, rounding.Laws.zero_on_grid}
 use Rattle.apfloat_pair_theory.proofs.numbers.Signed.{magnitude-sub, on_grid_as}
-use Rattle.apfloat_pair_theory.proofs.numbers.Nearest.{IsNearest, nearest_above, nearest_below, error_le_second, error_on_grid}
-use Rattle.apfloat_pair_theory.proofs.numbers.TwoSums.{fast_two_sum_difference_greater}
+use Rattle.apfloat_pair_theory.proofs.numbers.Nearest.{IsNearest, nearest_above, nearest_below, error_le_second}
+use Rattle.apfloat_pair_theory.proofs.numbers.{Nearest.error_on_grid, TwoSums.fast_two_sum_difference_greater}
 use Rattle.ieee_operations.specs.augmented.Numbers.{HasNumber, IsAugmentedNumber, IsNearestTo}
 use Rattle.ieee_operations.proofs.augmented_lemmas.Numbers.{rounded_exactly, ok_exactly, difference_rounded}
 

@@ -1,21 +1,17 @@
 -- The pick to nearest with ties toward zero: it is unique, it follows from the picks of two modes, and no grid number
 -- is nearer.
-use Rattle.std.proofs.Common.{◌≡◌, ℕ, ◌+◌, ◌-◌, ◌*◌, ◌<◌, ◌≤◌, Bool, true, false, cond, ltb, sym, refl, ap, ◌∙◌, subst, le_trans, arith}
+use Rattle.std.proofs.Common.{◌≡◌, ℕ, ◌+◌, ◌-◌, ◌*◌, ◌<◌, ◌≤◌, Bool, true, false, cond, ltb, sym, refl, ap, ◌∙◌, subst}
+use Rattle.std.proofs.{Common.le_trans, Common.arith, lemmas.Bool.lt-ltb, lemmas.Bool.le-ltb}
 use Rattle.std.specs.Prelude.{◌-ℤ◌}
-use Rattle.std.proofs.lemmas.Bool.{lt-ltb, le-ltb}
 use Rattle.apfloat_model.specs.declared.kinds.Round.TheVariants.{NearestTiesToEven, TowardZero}
-use Rattle.apfloat_model.specs.rounding.Grid.{IsOnGrid}
-use Rattle.apfloat_model.specs.rounding.Rounding.{IsPick}
+use Rattle.apfloat_model.specs.rounding.{Grid.IsOnGrid, Rounding.IsPick}
 use Rattle.apfloat_model.specs.arithmetic.Exact.{magnitude, signed}
-use Rattle.apfloat_model.proofs.arithmetic.Signs.{magnitude_signed}
-use Rattle.apfloat_model.proofs.general.Choices.{cond_same}
+use Rattle.apfloat_model.proofs.{arithmetic.Signs.magnitude_signed, general.Choices.cond_same}
+use Rattle.apfloat_model.proofs.rounding.{Neighbours.below_unique, Neighbours.above_unique, ModesAgree.either_on_grid}
 use Rattle.apfloat_model.proofs.rounding.Laws.{exact_below, exact_above}
-use Rattle.apfloat_model.proofs.rounding.Neighbours.{below_unique, above_unique}
-use Rattle.apfloat_model.proofs.rounding.ModesAgree.{either_on_grid}
 use Rattle.apfloat_pair_theory.proofs.numbers.Roundings.{apart, signed_apart, signed_far, near_at}
 use Rattle.apfloat_pair_theory.proofs.numbers.Signed.{on_grid_as}
-use Rattle.ieee_operations.specs.augmented.TiesToZero.{nearer_between, IsTiesToZeroPick}
-use Rattle.ieee_operations.specs.augmented.Numbers.{IsNearestTo}
+use Rattle.ieee_operations.specs.augmented.{TiesToZero.nearer_between, TiesToZero.IsTiesToZeroPick, Numbers.IsNearestTo}
 use Rattle.ieee_operations.proofs.augmented_lemmas.Numbers.{test_within}
 
 -- ---- which neighbour is taken

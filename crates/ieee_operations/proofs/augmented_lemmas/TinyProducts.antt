@@ -1,47 +1,39 @@
 -- Augmented products that have digits below the quantum: the head and the tail, from whether twice the product has such
 -- digits too.
-use Rattle.std.proofs.Common.{◌≡◌, ℕ, ◌+◌, ◌-◌, ◌*◌, ◌^◌, ◌<◌, ◌≤◌, ◌⊎◌, Bool, true, false, ltb, eqb, if◌then◌else◌, sym, ap, ◌∙◌, subst, inl, inr, ⊎_elim, arith, lit<}
+use Rattle.std.proofs.Common.{◌≡◌, ℕ, ◌+◌, ◌-◌, ◌*◌, ◌^◌, ◌<◌, ◌≤◌, ◌⊎◌, Bool, true, false, ltb, eqb, if◌then◌else◌}
+use Rattle.std.proofs.Common.{sym, ap, ◌∙◌, subst, inl, inr, ⊎_elim, arith, lit<}
+use Rattle.std.proofs.Math.Nat.{mul-le-mul_right, mul-le-mul_left, le_of_mul-le-mul_right, lt_of_mul-lt-mul_right}
+use Rattle.std.proofs.lemmas.{Bool.cases_lt, Bool.false≢true, Bool.le-ltb, Bool.ne_eqb, Int.ints, Nat.pow_pos}
 use Rattle.std.specs.Prelude.{ℤ, pos, ◌+ℤ◌, ◌-ℤ◌, ◌*ℤ◌}
 use Rattle.std.specs.Bool.{MatchBool}
-use Rattle.std.proofs.Math.Nat.{mul-le-mul_right, mul-le-mul_left, le_of_mul-le-mul_right, lt_of_mul-lt-mul_right}
-use Rattle.std.proofs.lemmas.Bool.{cases_lt, false≢true, le-ltb, ne_eqb}
-use Rattle.std.proofs.lemmas.Int.{ints}
-use Rattle.std.proofs.lemmas.Nat.{pow_pos}
-use Rattle.apfloat_model.specs.declared.kinds.Round.{Round}
-use Rattle.apfloat_model.specs.declared.kinds.Round.TheVariants.{NearestTiesToEven, TowardZero}
+use Rattle.apfloat_model.specs.{formats.Lawful.Constants, formats.Lawful.format_with, rounding.Grid.IsOnGrid}
+use Rattle.apfloat_model.specs.declared.kinds.Round.{Round, TheVariants.NearestTiesToEven, TheVariants.TowardZero}
 use Rattle.apfloat_model.specs.formats.Format.{Format, largest, greatest_significand}
 use Rattle.apfloat_model.specs.formats.Datum.{Datum, finite, infinite, nan}
-use Rattle.apfloat_model.specs.formats.Lawful.{Constants, format_with}
-use Rattle.apfloat_model.specs.rounding.Grid.{IsOnGrid}
 use Rattle.apfloat_model.specs.rounding.Rounding.{IsPick, signed_quanta, ok_bits, underflow_bit, inexact_bit}
+use Rattle.apfloat_model.specs.arithmetic.{Signs.abs, Products.IsProduct, Scaling.IsScaling}
 use Rattle.apfloat_model.specs.arithmetic.Exact.{magnitude, signed, sign_of, product_sign, IsRounded}
-use Rattle.apfloat_model.specs.arithmetic.Signs.{abs}
-use Rattle.apfloat_model.specs.arithmetic.Products.{IsProduct}
-use Rattle.apfloat_model.specs.arithmetic.Scaling.{IsScaling}
-use Rattle.apfloat_model.specs.order.Classes.{is_finite, is_negative}
-use Rattle.apfloat_model.specs.order.Order.{number, is_equal}
+use Rattle.apfloat_model.specs.order.{Classes.is_finite, Classes.is_negative, Order.number, Order.is_equal}
 use Rattle.apfloat_model.proofs.arithmetic.Signs.{magnitude_signed, one_side}
-use Rattle.apfloat_model.proofs.formats.Greatest.{greatest_half}
-use Rattle.apfloat_model.proofs.formats.Ranges.{below_top, half_within}
+use Rattle.apfloat_model.proofs.formats.{Greatest.greatest_half, Ranges.below_top, Ranges.half_within}
 use Rattle.apfloat_model.proofs.general.Powers.{twice_half, twice_power, half_at_most}
 use Rattle.apfloat_model.proofs.rounding.Laws.{delivered_once, exact_delivered, pick_within}
-use Rattle.apfloat_pair_theory.proofs.numbers.Roundings.{signed_exact, signed_apart}
-use Rattle.apfloat_pair_theory.proofs.numbers.Signed.{on_grid_as}
 use Rattle.apfloat_model.proofs.whole_numbers.SignedProducts.{sum_times, magnitude-mul, magnitude-times, signed_times}
-use Rattle.apfloat_pair_theory.proofs.numbers.WholeProducts.{whole_product}
-use Rattle.apfloat_pair_theory.proofs.pairs.Normalised.{is_equal_by}
+use Rattle.apfloat_pair_theory.proofs.{numbers.WholeProducts.whole_product, pairs.Normalised.is_equal_by}
+use Rattle.apfloat_pair_theory.proofs.numbers.{Roundings.signed_exact, Roundings.signed_apart, Signed.on_grid_as}
+use Rattle.ieee_operations.specs.augmented.{Numbers.IsTwiceLeft, Numbers.HasRoundedTail, TiesToZero.IsTiesToZeroPick}
 use Rattle.ieee_operations.specs.augmented.Augmented.{left_of, IsPastLargest, IsWithTail, IsAugmentedProduct}
 use Rattle.ieee_operations.specs.augmented.Numbers.{HasNumber, IsAugmentedNumber, IsNearProduct, LeavesDigits}
-use Rattle.ieee_operations.specs.augmented.Numbers.{IsTwiceLeft, HasRoundedTail}
-use Rattle.ieee_operations.specs.augmented.TiesToZero.{IsTiesToZeroPick}
-use Rattle.ieee_operations.proofs.augmented_lemmas.Cases.{HasCaseRanges}
-use Rattle.ieee_operations.proofs.augmented_lemmas.FractionPicks.{IsFractionPick, IsHalfPast, distance, below_fraction, gap, odd_half, tie_of_quanta, from_even_in, pick_cases, half_pick, half_short, low_pick, distance_fraction, distance_half, distance_half_past, distance_at_most}
-use Rattle.ieee_operations.proofs.augmented_lemmas.FractionRoundings.{rest_of_product}
-use Rattle.ieee_operations.proofs.augmented_lemmas.FractionRoundings.{rest_rounded, small_product, whole_is_exact}
-use Rattle.ieee_operations.proofs.augmented_lemmas.Heads.{ArePicks, picks_of}
+use Rattle.ieee_operations.proofs.augmented_lemmas.{Cases.HasCaseRanges, FractionPicks.IsFractionPick}
+use Rattle.ieee_operations.proofs.augmented_lemmas.{FractionRoundings.whole_is_exact, Heads.ArePicks, Heads.picks_of}
+use Rattle.ieee_operations.proofs.augmented_lemmas.FractionPicks.{IsHalfPast, distance, below_fraction, gap, odd_half}
+use Rattle.ieee_operations.proofs.augmented_lemmas.FractionPicks.{tie_of_quanta, from_even_in, pick_cases, half_pick}
+use Rattle.ieee_operations.proofs.augmented_lemmas.FractionPicks.{half_short, low_pick, distance_fraction}
+use Rattle.ieee_operations.proofs.augmented_lemmas.FractionPicks.{distance_half, distance_half_past, distance_at_most}
+use Rattle.ieee_operations.proofs.augmented_lemmas.FractionRoundings.{rest_of_product, rest_rounded, small_product}
 use Rattle.ieee_operations.proofs.augmented_lemmas.Multiples.{sign_some}
-use Rattle.ieee_operations.proofs.augmented_lemmas.Numbers.{signed_number, same_number, within_is, fraction_exactly, ok_parts}
-use Rattle.ieee_operations.proofs.augmented_lemmas.Numbers.{quanta_in, abs_has, equal_numbers}
+use Rattle.ieee_operations.proofs.augmented_lemmas.Numbers.{signed_number, same_number, within_is, fraction_exactly}
+use Rattle.ieee_operations.proofs.augmented_lemmas.Numbers.{ok_parts, quanta_in, abs_has, equal_numbers}
 use Rattle.ieee_operations.proofs.augmented_lemmas.ProductCases.{product_of_numbers, product_some, rounded_in}
 use Rattle.ieee_operations.proofs.augmented_lemmas.TiesToZero.{short_is_below}
 

@@ -1,21 +1,15 @@
 -- Augmented sums, differences and products (IEEE 754-2019 9.5): the exact result, rounded to nearest with ties toward
 -- zero, and what that leaves of it.
-use Rattle.std.specs.Prelude.{◌≡◌, ℕ, ◌+◌, ◌*◌, ◌^◌, ◌≤◌, ◌⊎◌, ltb, eqb, Bool, true, ℤ, pos, ◌+ℤ◌, ◌-ℤ◌, ◌*ℤ◌}
-use Rattle.std.specs.Prelude.{if◌then◌else◌}
+use Rattle.std.specs.Prelude.{◌≡◌, ℕ, ◌+◌, ◌*◌, ◌^◌, ◌≤◌, ◌⊎◌, ltb, eqb, Bool, true}
+use Rattle.std.specs.Prelude.{ℤ, pos, ◌+ℤ◌, ◌-ℤ◌, ◌*ℤ◌, if◌then◌else◌}
 use Rattle.std.specs.Bool.{MatchBool}
-use Rattle.apfloat_model.specs.declared.kinds.Round.TheVariants.{NearestTiesToEven}
-use Rattle.apfloat_model.specs.formats.Format.{Format, largest, nan_base}
-use Rattle.apfloat_model.specs.formats.Datum.{Datum, finite}
-use Rattle.apfloat_model.specs.formats.Members.{IsMember}
-use Rattle.apfloat_model.specs.rounding.Rounding.{ok_bits, overflow_bit, underflow_bit, inexact_bit}
-use Rattle.apfloat_model.specs.rounding.Rounding.{past_largest, signed_quanta}
-use Rattle.apfloat_model.specs.rounding.RaisedFlags.{FlagsGoTogether}
-use Rattle.apfloat_model.specs.rounding.Negation.{negated}
+use Rattle.apfloat_model.specs.{declared.kinds.Round.TheVariants.NearestTiesToEven, formats.Format.Format}
+use Rattle.apfloat_model.specs.formats.{Format.largest, Format.nan_base, Datum.Datum, Datum.finite, Members.IsMember}
+use Rattle.apfloat_model.specs.rounding.Rounding.{ok_bits, overflow_bit, underflow_bit, inexact_bit, past_largest}
+use Rattle.apfloat_model.specs.rounding.{Rounding.signed_quanta, RaisedFlags.FlagsGoTogether, Negation.negated}
 use Rattle.apfloat_model.specs.arithmetic.Exact.{signed, sign_of, magnitude, product_sign}
-use Rattle.apfloat_model.specs.arithmetic.Sums.{IsSum, IsDifference, zero_sum_sign}
-use Rattle.apfloat_model.specs.arithmetic.Products.{IsProduct}
-use Rattle.apfloat_model.specs.order.Classes.{is_finite}
-use Rattle.apfloat_model.specs.order.Order.{number}
+use Rattle.apfloat_model.specs.arithmetic.{Sums.IsSum, Sums.IsDifference, Sums.zero_sum_sign, Products.IsProduct}
+use Rattle.apfloat_model.specs.order.{Classes.is_finite, Order.number}
 use Rattle.ieee_operations.specs.augmented.TiesToZero.{IsTiesToZeroPick}
 
 -- what a head of `pick` quanta with that sign leaves of exact / parts quanta, in parts of a quantum

@@ -1,20 +1,11 @@
 -- Finite data by their numbers.
 use Rattle.std.specs.Prelude.{◌≡◌, ℕ, ◌+◌, ◌<◌, ◌≤◌, true, ℤ, pos, ◌-ℤ◌, if◌then◌else◌}
-use Rattle.apfloat_model.specs.declared.kinds.Round.{Round}
-use Rattle.apfloat_model.specs.declared.kinds.Round.TheVariants.{NearestTiesToEven}
-use Rattle.apfloat_model.specs.formats.Format.{Format, largest}
-use Rattle.apfloat_model.specs.formats.Constants.{zero_datum}
-use Rattle.apfloat_model.specs.formats.Datum.{Datum}
-use Rattle.apfloat_model.specs.rounding.Grid.{IsOnGrid}
-use Rattle.apfloat_model.specs.rounding.Negation.{negated}
-use Rattle.apfloat_model.specs.rounding.Rounding.{ok_bits, underflow_bit, inexact_bit}
-use Rattle.apfloat_model.specs.arithmetic.Exact.{magnitude}
-use Rattle.apfloat_model.specs.arithmetic.FusedSums.{IsFusedSum}
-use Rattle.apfloat_model.specs.arithmetic.Products.{IsProduct}
-use Rattle.apfloat_model.specs.arithmetic.Scaling.{IsScaling}
-use Rattle.apfloat_model.specs.arithmetic.Signs.{copy_sign}
-use Rattle.apfloat_model.specs.order.Classes.{is_finite, is_zero}
-use Rattle.apfloat_model.specs.order.Order.{number}
+use Rattle.apfloat_model.specs.{rounding.Rounding.inexact_bit, arithmetic.Exact.magnitude}
+use Rattle.apfloat_model.specs.declared.kinds.Round.{Round, TheVariants.NearestTiesToEven}
+use Rattle.apfloat_model.specs.formats.{Format.Format, Format.largest, Constants.zero_datum, Datum.Datum}
+use Rattle.apfloat_model.specs.rounding.{Grid.IsOnGrid, Negation.negated, Rounding.ok_bits, Rounding.underflow_bit}
+use Rattle.apfloat_model.specs.arithmetic.{FusedSums.IsFusedSum, Products.IsProduct, Scaling.IsScaling, Signs.copy_sign}
+use Rattle.apfloat_model.specs.order.{Classes.is_finite, Classes.is_zero, Order.number}
 
 -- a finite datum of exactly that number
 pub record HasNumber (exact : ℤ) (value : Datum) : Type 0 where

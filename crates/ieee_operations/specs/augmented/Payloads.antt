@@ -1,13 +1,11 @@
 -- Payloads of NaNs as data (IEEE 754-2019 9.7). The payload is the significand without the bits that say whether the
 -- NaN is quiet: where the integer bit is written, without that bit too (6.2.1).
-use Rattle.std.specs.Prelude.{◌≡◌, ℕ, ◌-◌, ◌*◌, ◌/◌, ◌%◌, ◌^◌, ◌<◌, ◌≤◌, Bool, true, false, not, ◌&&◌, leb, ltb}
-use Rattle.std.specs.Prelude.{Option, Some, None, if◌then◌else◌}
+use Rattle.std.specs.Prelude.{◌≡◌, ℕ, ◌-◌, ◌*◌, ◌/◌, ◌%◌, ◌^◌, ◌<◌, ◌≤◌, Bool}
+use Rattle.std.specs.Prelude.{true, false, not, ◌&&◌, leb, ltb, Option, Some, None, if◌then◌else◌}
 use Rattle.apfloat_model.specs.declared.kinds.NonfiniteBehavior.{NonfiniteBehavior}
 use Rattle.apfloat_model.specs.declared.kinds.NonfiniteBehavior.TheVariants.{IEEE754, NanOnly, NanNegativeZero}
-use Rattle.apfloat_model.specs.formats.Format.{Format}
-use Rattle.apfloat_model.specs.formats.Constants.{zero_datum}
-use Rattle.apfloat_model.specs.formats.Datum.{Datum, finite, infinite, nan}
-use Rattle.apfloat_model.specs.formats.Nan.{qnan, snan}
+use Rattle.apfloat_model.specs.formats.{Format.Format, Constants.zero_datum, Datum.Datum, Datum.finite, Datum.infinite}
+use Rattle.apfloat_model.specs.formats.{Datum.nan, Nan.qnan, Nan.snan}
 use Rattle.apfloat_model.specs.order.Classes.{quanta_of, is_negative, is_integer}
 
 -- how many bits a payload has; a format with a single significand for NaNs has none, and each of its payloads is 0

@@ -5,11 +5,10 @@
 //! format with a single significand for NaNs each payload is 0, and no NaN is signaling.
 
 ghost use Rattle.std.specs.Prelude.{◌≡◌, ◌<◌, ◌≤◌, ◌^◌, true};
-ghost use Rattle.apfloat_model.specs.order.Classes.{is_nan};
+ghost use Rattle.apfloat_model.specs.{order.Classes.is_nan, formats.Nan.nan_significand};
 ghost use Rattle.apfloat_ieee.specs.FlaggedTypes.{format_of};
 ghost use Rattle.ieee_operations.specs.augmented.Payloads.{get_payload, set_payload, set_payload_signaling};
 ghost use Rattle.ieee_operations.specs.augmented.Payloads.{payload_from, payload_of, payload_bits};
-ghost use Rattle.apfloat_model.specs.formats.Nan.{nan_significand};
 
 use apfloat_base::{Float, NonfiniteBehavior};
 use apfloat_ieee::{Flagged, IeeeFloat};

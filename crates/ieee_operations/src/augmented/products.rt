@@ -9,9 +9,8 @@ ghost use Rattle.std.specs.Prelude.{◌≡◌, true, false};
 ghost use Rattle.apfloat_model.specs.rounding.Flags.{bits_of};
 ghost use Rattle.apfloat_model.specs.order.Classes.{is_finite, is_finite_non_zero};
 ghost use Rattle.apfloat_ieee.specs.FlaggedTypes.{format_of};
-ghost use Rattle.ieee_operations.specs.augmented.Augmented.{IsAugmentedProduct};
-ghost use Rattle.ieee_operations.specs.augmented.Numbers.{IsAugmentedNumber, IsNonzeroIn, IsNearProduct};
-ghost use Rattle.ieee_operations.specs.augmented.Numbers.{LeavesDigits, IsTwiceLeft};
+ghost use Rattle.ieee_operations.specs.augmented.{Augmented.IsAugmentedProduct, Numbers.IsAugmentedNumber};
+ghost use Rattle.ieee_operations.specs.augmented.Numbers.{IsNonzeroIn, IsNearProduct, LeavesDigits, IsTwiceLeft};
 
 use crate::augmented::augmented::{Augmented, both, past_largest, with_rounded_tail};
 use crate::augmented::sums::{augmented_add, is_exactly, is_number, is_ok};

@@ -5,14 +5,9 @@
 //! leaves the opposite of what the sum to nearest leaves, or, past the largest value, half a unit in its last place.
 
 ghost use Rattle.std.specs.Prelude.{◌≡◌, ◌^◌, ◌-◌, ◌≤◌, ◌+ℤ◌, ◌-ℤ◌, true, false};
-ghost use Rattle.apfloat_model.specs.rounding.Flags.{bits_of};
-ghost use Rattle.apfloat_model.specs.rounding.Rounding.{ok_bits};
-ghost use Rattle.apfloat_model.specs.rounding.Negation.{negated};
-ghost use Rattle.apfloat_model.specs.arithmetic.Exact.{magnitude};
-ghost use Rattle.apfloat_model.specs.arithmetic.Signs.{abs};
-ghost use Rattle.apfloat_model.specs.formats.Datum.{finite};
-ghost use Rattle.apfloat_model.specs.order.Classes.{is_finite};
-ghost use Rattle.apfloat_model.specs.order.Order.{number, is_equal};
+ghost use Rattle.apfloat_model.specs.rounding.{Flags.bits_of, Rounding.ok_bits, Negation.negated};
+ghost use Rattle.apfloat_model.specs.{arithmetic.Exact.magnitude, arithmetic.Signs.abs, formats.Datum.finite};
+ghost use Rattle.apfloat_model.specs.order.{Classes.is_finite, Order.number, Order.is_equal};
 ghost use Rattle.apfloat_ieee.specs.FlaggedTypes.{format_of};
 ghost use Rattle.ieee_operations.specs.augmented.Augmented.{IsAugmentedSum, IsAugmentedDifference};
 ghost use Rattle.ieee_operations.specs.augmented.Numbers.{HasNumber, IsAugmentedNumber, IsNearestTo};

@@ -2,8 +2,7 @@
 
 ghost use Rattle.ieee_operations.specs.augmented.Augmented.{IsAugmentedSum, IsAugmentedDifference, IsAugmentedProduct};
 ghost use Rattle.ieee_operations.specs.augmented.Augmented.{HasOneAugmented, IsExactSum, IsExactProduct};
-ghost use Rattle.ieee_operations.specs.augmented.Augmented.{RaisesTogether};
-ghost use Rattle.ieee_operations.specs.augmented.Payloads.{ArePayloadsKept};
+ghost use Rattle.ieee_operations.specs.augmented.{Augmented.RaisesTogether, Payloads.ArePayloadsKept};
 
 /// An augmented sum has one head, one tail and one status.
 pub fn augmented_sums_have_one_answer()

@@ -1,29 +1,24 @@
 -- Conversions and fused sums of pairs, from their steps, and that they have one result.
 use Rattle.std.proofs.Common.{◌≡◌, ℕ, ◌/◌, ◌^◌, ◌∙◌, Bool, true, false, sym, ap, subst, lit<}
-use Rattle.std.proofs.Math.Path.{subst₂}
-use Rattle.std.proofs.lemmas.Bool.{lt-ltb}
-use Rattle.apfloat_model.specs.Determined.{DeterminesBoth}
-use Rattle.apfloat_model.specs.declared.kinds.Round.{Round}
-use Rattle.apfloat_model.specs.formats.Format.{Format}
+use Rattle.std.proofs.{Math.Path.subst₂, lemmas.Bool.lt-ltb}
+use Rattle.apfloat_model.specs.{Determined.DeterminesBoth, declared.kinds.Round.Round, formats.Format.Format}
 use Rattle.apfloat_model.specs.formats.Datum.{Datum, finite, infinite, nan}
 use Rattle.apfloat_model.specs.order.Classes.{category_of, is_finite_non_zero, is_finite_non_zero_category}
 use Rattle.apfloat_model.specs.arithmetic.Conversions.{IsConversion, IsExactlyConverted}
 use Rattle.apfloat_model.specs.arithmetic.FusedSums.{IsFusedSum}
-use Rattle.apfloat_model.proofs.Once.{Once, conversion_once, fused_sum_once}
-use Rattle.apfloat_model.proofs.AnswersExist.{HasAnswer, fused_sum_exists}
-use Rattle.apfloat_model.proofs.general.Choices.{match_case, match_true, match_false}
-use Rattle.apfloat_model.proofs.order.PredicatesAgree.{number_agrees}
-use Rattle.apfloat_arithmetic.specs.other_formats.FormatOf.{IsSumTo}
-use Rattle.apfloat_arithmetic.specs.other_formats.Theorems.{HasOneSum}
+use Rattle.apfloat_model.proofs.{Once.Once, Once.conversion_once, Once.fused_sum_once, AnswersExist.HasAnswer}
+use Rattle.apfloat_model.proofs.{AnswersExist.fused_sum_exists, general.Choices.match_case, general.Choices.match_true}
+use Rattle.apfloat_model.proofs.{general.Choices.match_false, order.PredicatesAgree.number_agrees}
+use Rattle.apfloat_arithmetic.specs.other_formats.{FormatOf.IsSumTo, Theorems.HasOneSum}
 use Rattle.apfloat_pair_theory.specs.PairFormats.{double, wide}
 use Rattle.apfloat_pair_theory.specs.Pairs.{Pair, IsJoined, IsSplit, IsSplitAnswer, pair_of}
 use Rattle.apfloat_pair_theory.specs.PairAnswers.{HasOneAnswer, HasPairAnswer, OncePair}
 use Rattle.apfloat_pair_theory.proofs.calls.PairsOnce.{joined_once, split_answer_once}
 use Rattle.apfloat_pair_theory.proofs.calls.CallsExist.{conversion_exists, joined_exists, split_answer_exists}
-use Rattle.apfloat_pair_theory.proofs.pairs.PairBits.{double_of, pair_of_halves}
-use Rattle.apfloat_pair_theory.proofs.pairs.SplitLaws.{lossless_split}
+use Rattle.apfloat_pair_theory.proofs.pairs.{PairBits.double_of, PairBits.pair_of_halves, SplitLaws.lossless_split}
 use Rattle.rustc_apfloat.proofs.double_doubles_lemmas.PairSteps.{wide_of_none}
-use Rattle.rustc_apfloat.specs.double_double_operations.PairConversions.{IsConvertedAnyway, IsPairTo, IsPairFrom, IsExactPairFrom}
+use Rattle.rustc_apfloat.specs.double_double_operations.PairConversions.{IsConvertedAnyway, IsPairTo, IsPairFrom}
+use Rattle.rustc_apfloat.specs.double_double_operations.PairConversions.{IsExactPairFrom}
 use Rattle.rustc_apfloat.specs.double_double_operations.PairFusedSums.{IsWideAnswerOfThree, IsPairFusedSum}
 
 -- ---- the parts of a pair, read from its bits

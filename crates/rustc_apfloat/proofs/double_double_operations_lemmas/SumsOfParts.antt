@@ -1,29 +1,23 @@
 -- The exact sum of the parts of a pair is the number of the pair, which is delivered in the format of the result.
-use Rattle.std.proofs.Common.{◌≡◌, ℕ, ◌+◌, ◌-◌, ◌*◌, ◌/◌, ◌%◌, ◌^◌, ◌<◌, ◌≤◌, Bool, true, false, not, ◌&&◌, ◌||◌, cond, ltb, leb, eqb}
-use Rattle.std.proofs.Common.{refl, sym, ap, ◌∙◌, subst, ⊎_elim, arith, ℤ, pos, ◌+ℤ◌}
+use Rattle.std.proofs.{Math.Path.subst₂, lemmas.Bool.cases_lt, lemmas.Bool.le-leb}
+use Rattle.std.proofs.Common.{◌≡◌, ℕ, ◌+◌, ◌-◌, ◌*◌, ◌/◌, ◌%◌, ◌^◌, ◌<◌, ◌≤◌, Bool, true, false, not, ◌&&◌, ◌||◌, cond}
+use Rattle.std.proofs.Common.{ltb, leb, eqb, refl, sym, ap, ◌∙◌, subst, ⊎_elim, arith, ℤ, pos, ◌+ℤ◌}
+use Rattle.std.proofs.Math.Nat.{le_of_mul-le-mul_right, mul-le-mul_right, mul-lt-mul_of_pos_right}
+use Rattle.std.proofs.lemmas.{Bool.lt-leb, Bool.eq-eqb, Bool.ne_eqb, Bool.false≢true, Nat.pow_pos, Nat.pow-add}
 use Rattle.std.specs.Prelude.{◌*ℤ◌, if◌then◌else◌}
 use Rattle.std.specs.Bool.{MatchBool}
-use Rattle.std.proofs.Math.Nat.{le_of_mul-le-mul_right, mul-le-mul_right, mul-lt-mul_of_pos_right}
-use Rattle.std.proofs.Math.Path.{subst₂}
-use Rattle.std.proofs.lemmas.Bool.{cases_lt, le-leb, lt-leb, eq-eqb, ne_eqb, false≢true}
-use Rattle.std.proofs.lemmas.Nat.{pow_pos, pow-add}
-use Rattle.apfloat_model.specs.declared.kinds.Round.{Round}
-use Rattle.apfloat_model.specs.formats.Format.{Format, smallest_normalized, largest}
-use Rattle.apfloat_model.specs.formats.Datum.{Datum, finite, infinite, nan}
-use Rattle.apfloat_model.specs.order.Classes.{is_finite, is_finite_non_zero, is_negative}
-use Rattle.apfloat_model.specs.order.Order.{number}
-use Rattle.apfloat_model.specs.arithmetic.Exact.{signed, magnitude, sign_of}
-use Rattle.apfloat_model.specs.arithmetic.Sums.{zero_sum_sign}
-use Rattle.apfloat_model.specs.rounding.Outcome.{Yields}
-use Rattle.apfloat_model.specs.rounding.Grid.{IsBelow, IsAbove}
-use Rattle.apfloat_model.specs.rounding.Rounding.{takes_above, IsPick, IsDelivered, ok_bits, overflow_bit, underflow_bit, inexact_bit, rounds_below_normal, is_tiny, raises_overflow, delivered_status}
-use Rattle.apfloat_model.proofs.general.Choices.{ltb_times}
-use Rattle.apfloat_model.proofs.general.Scaled.{less_scaled}
-use Rattle.apfloat_model.proofs.rounding.Picks.{takes_scaled}
-use Rattle.apfloat_arithmetic.specs.other_formats.FormatOf.{IsSumTo, total_to}
-use Rattle.apfloat_pair_theory.specs.PairFormats.{double}
-use Rattle.apfloat_pair_theory.specs.Pairs.{Pair}
+use Rattle.apfloat_model.specs.{declared.kinds.Round.Round, formats.Format.Format, formats.Format.smallest_normalized}
+use Rattle.apfloat_model.specs.formats.{Format.largest, Datum.Datum, Datum.finite, Datum.infinite, Datum.nan}
+use Rattle.apfloat_model.specs.order.{Classes.is_finite, Classes.is_finite_non_zero, Classes.is_negative, Order.number}
+use Rattle.apfloat_model.specs.arithmetic.{Exact.signed, Exact.magnitude, Exact.sign_of, Sums.zero_sum_sign}
+use Rattle.apfloat_model.specs.rounding.{Outcome.Yields, Grid.IsBelow, Grid.IsAbove}
+use Rattle.apfloat_model.specs.rounding.Rounding.{takes_above, IsPick, IsDelivered, ok_bits, overflow_bit}
+use Rattle.apfloat_model.specs.rounding.Rounding.{underflow_bit, inexact_bit, rounds_below_normal, is_tiny}
+use Rattle.apfloat_model.specs.rounding.Rounding.{raises_overflow, delivered_status}
+use Rattle.apfloat_model.proofs.{general.Choices.ltb_times, general.Scaled.less_scaled, rounding.Picks.takes_scaled}
 use Rattle.apfloat_model.proofs.whole_numbers.SignedProducts.{sum_times, magnitude-times, signed_times, sign_times}
+use Rattle.apfloat_arithmetic.specs.other_formats.FormatOf.{IsSumTo, total_to}
+use Rattle.apfloat_pair_theory.specs.{PairFormats.double, Pairs.Pair}
 use Rattle.rustc_apfloat.specs.double_double_operations.PairConversions.{IsConvertedAnyway, IsPairTo, IsPairNumberTo}
 
 -- ---- a magnitude as a fraction with fewer parts

@@ -1,21 +1,15 @@
 -- The fraction of a pair: its exponent fits 32 bits, and so does the negated exponent, which scales the low part.
-use Rattle.std.proofs.Common.{◌≡◌, ℕ, zero, suc, ◌-◌, ◌<◌, ◌≤◌, Bool, w32, to_z, of_z, sym, ap, ◌∙◌, subst, arith, FitsSigned}
+use Rattle.std.proofs.Common.{◌≡◌, ℕ, zero, suc, ◌-◌, ◌<◌, ◌≤◌, Bool, w32, to_z, of_z, sym, ap}
+use Rattle.std.proofs.Common.{◌∙◌, subst, arith, FitsSigned}
+use Rattle.std.proofs.lemmas.{Bool.MatchBool-at_false, Bool.ne_eqb, Int.to_z-of_z, Int.ints}
 use Rattle.std.specs.Prelude.{ℤ, pos, neg_ℤ, ◌-ℤ◌, ◌≤ℤ◌}
-use Rattle.std.proofs.lemmas.Bool.{MatchBool-at_false, ne_eqb}
-use Rattle.std.proofs.lemmas.Int.{to_z-of_z, ints}
-use Rattle.apfloat_model.specs.declared.kinds.Category.TheVariants.{Normal}
-use Rattle.apfloat_model.specs.declared.kinds.Round.{Round}
-use Rattle.apfloat_model.specs.formats.Datum.{Datum, finite, infinite, nan}
+use Rattle.apfloat_model.specs.declared.kinds.{Category.TheVariants.Normal, Round.Round}
+use Rattle.apfloat_model.specs.formats.{Datum.Datum, Datum.finite, Datum.infinite, Datum.nan, Members.IsMember}
 use Rattle.apfloat_model.specs.order.Classes.{category_of, is_finite_non_zero, is_finite_non_zero_category}
-use Rattle.apfloat_model.proofs.order.PredicatesAgree.{number_agrees}
-use Rattle.apfloat_model.specs.arithmetic.Exponents.{IsFraction, IsFrexp}
-use Rattle.apfloat_model.specs.formats.Members.{IsMember}
-use Rattle.apfloat_model.specs.arithmetic.Scaling.{IsScaling}
-use Rattle.apfloat_model.proofs.arithmetic.FractionExponents.{IsExponentWithin, exponent_within}
-use Rattle.apfloat_model.proofs.general.Choices.{match_true}
-use Rattle.apfloat_pair_theory.specs.PairFormats.{double}
-use Rattle.apfloat_pair_theory.specs.Pairs.{Pair}
-use Rattle.apfloat_pair_theory.specs.PairParts.{IsPairFraction}
+use Rattle.apfloat_model.specs.arithmetic.{Exponents.IsFraction, Exponents.IsFrexp, Scaling.IsScaling}
+use Rattle.apfloat_model.proofs.{order.PredicatesAgree.number_agrees, arithmetic.FractionExponents.IsExponentWithin}
+use Rattle.apfloat_model.proofs.{arithmetic.FractionExponents.exponent_within, general.Choices.match_true}
+use Rattle.apfloat_pair_theory.specs.{PairFormats.double, Pairs.Pair, PairParts.IsPairFraction}
 
 -- ---- the exponent of a fraction
 

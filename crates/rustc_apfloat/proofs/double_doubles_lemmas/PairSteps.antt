@@ -1,25 +1,22 @@
 -- Results of calls on pairs, from the results of their steps.
 use Rattle.std.proofs.Common.{◌≡◌, ℕ, Bool, true, false, not, ◌&&◌, ◌||◌, sym, ap, ◌∙◌, subst}
 use Rattle.std.proofs.Math.Path.{subst₂}
-use mathlib.Core.Bool.{beq}
-use Rattle.apfloat_model.specs.declared.kinds.Category.{Category}
-use Rattle.apfloat_model.specs.declared.kinds.Round.{Round}
+use Rattle.apfloat_model.specs.declared.kinds.{Category.Category, Round.Round, Round.TheVariants.NearestTiesToEven}
 use Rattle.apfloat_model.specs.formats.Datum.{Datum}
-use Rattle.apfloat_model.specs.order.Classes.{category_of, is_finite, is_infinite, is_finite_non_zero, is_negative, is_finite_non_zero_category, is_denormal}
-use Rattle.apfloat_model.specs.rounding.Steps.{Leads}
-use Rattle.apfloat_model.specs.arithmetic.Exact.{same_sign}
-use Rattle.apfloat_model.specs.order.Predicates.{is_finite_category, is_infinite_category}
+use Rattle.apfloat_model.specs.order.Classes.{category_of, is_finite, is_infinite, is_finite_non_zero, is_negative}
+use Rattle.apfloat_model.specs.order.Classes.{is_finite_non_zero_category, is_denormal}
+use Rattle.apfloat_model.specs.order.{Predicates.is_finite_category, Predicates.is_infinite_category, Order.is_equal}
+use Rattle.apfloat_model.specs.{rounding.Steps.Leads, arithmetic.Exact.same_sign, arithmetic.Sums.IsSum}
 use Rattle.apfloat_model.proofs.order.PredicatesAgree.{finite_agrees, infinite_agrees, number_agrees}
 use Rattle.apfloat_model.proofs.general.Choices.{same_beq, match_true, match_false}
-use Rattle.apfloat_model.specs.declared.kinds.Round.TheVariants.{NearestTiesToEven}
-use Rattle.apfloat_model.specs.order.Order.{is_equal}
-use Rattle.apfloat_model.specs.arithmetic.Sums.{IsSum}
 use Rattle.apfloat_pair_theory.specs.PairFormats.{double, wide}
-use Rattle.apfloat_pair_theory.specs.Pairs.{Pair, IsJoined, IsSplit, IsSplitAnswer, IsSumOfParts, IsWidened, IsWideAnswer, IsWideAnswerOfTwo, negated_pair, pair_category}
+use Rattle.apfloat_pair_theory.specs.Pairs.{Pair, IsJoined, IsSplit, IsSplitAnswer, IsSumOfParts, IsWidened}
+use Rattle.apfloat_pair_theory.specs.Pairs.{IsWideAnswer, IsWideAnswerOfTwo, negated_pair, pair_category}
 use Rattle.apfloat_pair_theory.specs.PairSums.{◌∪◌, sum_of_categories, IsPairSum, IsPairDifference}
 use Rattle.apfloat_pair_theory.specs.PairParts.{is_denormal_pair}
-use Rattle.apfloat_pair_theory.proofs.parts.DenormalPairs.{denormal_by_sum}
 use Rattle.apfloat_pair_theory.specs.PairProducts.{product_of_categories, IsPairProduct}
+use Rattle.apfloat_pair_theory.proofs.parts.DenormalPairs.{denormal_by_sum}
+use mathlib.Core.Bool.{beq}
 
 -- whether a pair is denormal, from the sum of its parts
 pub denormal_at_sum : (x : Pair) (sum : Datum) (status : ℕ) (is_number is_denormal_high answer : Bool)

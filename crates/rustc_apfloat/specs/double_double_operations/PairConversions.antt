@@ -2,17 +2,12 @@
 use Rattle.std.specs.Prelude.{◌≡◌, ℕ, ◌*◌, ◌^◌, ◌<◌, ◌≤◌, Bool, true, ⊤}
 use Rattle.std.specs.Bool.{MatchBool}
 use Rattle.apfloat_model.specs.declared.kinds.Round.{Round}
-use Rattle.apfloat_model.specs.formats.Format.{Format, largest}
-use Rattle.apfloat_model.specs.formats.Datum.{Datum, finite}
-use Rattle.apfloat_model.specs.formats.Members.{IsFiniteOf}
-use Rattle.apfloat_model.specs.rounding.Outcome.{Yields}
-use Rattle.apfloat_model.specs.rounding.Rounding.{ok_bits}
+use Rattle.apfloat_model.specs.formats.{Format.Format, Format.largest, Datum.Datum, Datum.finite, Members.IsFiniteOf}
+use Rattle.apfloat_model.specs.rounding.{Outcome.Yields, Rounding.ok_bits}
 use Rattle.apfloat_model.specs.order.Classes.{is_finite, is_finite_non_zero, is_negative}
-use Rattle.apfloat_model.specs.arithmetic.Conversions.{IsConversion}
-use Rattle.apfloat_model.specs.arithmetic.Exact.{signed}
+use Rattle.apfloat_model.specs.arithmetic.{Conversions.IsConversion, Exact.signed}
 use Rattle.apfloat_arithmetic.specs.other_formats.FormatOf.{IsSumTo, total_to}
-use Rattle.apfloat_pair_theory.specs.PairAccuracy.{IsExactPair}
-use Rattle.apfloat_pair_theory.specs.PairFormats.{double, wide}
+use Rattle.apfloat_pair_theory.specs.{PairAccuracy.IsExactPair, PairFormats.double, PairFormats.wide}
 use Rattle.apfloat_pair_theory.specs.Pairs.{Pair, pair_number, IsSplitAnswer}
 
 -- the conversion of a datum of f to g, whether or not it loses information

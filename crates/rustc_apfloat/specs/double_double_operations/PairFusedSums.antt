@@ -1,11 +1,8 @@
 -- The fused sum of pairs of doubles (IEEE 754-2019 5.4.1, fusedMultiplyAdd): that of the joined pairs in the wide
 -- format, rounded once there and split.
 use Rattle.std.specs.Prelude.{ℕ}
-use Rattle.apfloat_model.specs.declared.kinds.Round.{Round}
-use Rattle.apfloat_model.specs.formats.Datum.{Datum}
-use Rattle.apfloat_model.specs.arithmetic.FusedSums.{IsFusedSum}
-use Rattle.apfloat_pair_theory.specs.PairFormats.{wide}
-use Rattle.apfloat_pair_theory.specs.Pairs.{Pair, IsJoined, IsSplitAnswer}
+use Rattle.apfloat_model.specs.{declared.kinds.Round.Round, formats.Datum.Datum, arithmetic.FusedSums.IsFusedSum}
+use Rattle.apfloat_pair_theory.specs.{PairFormats.wide, Pairs.Pair, Pairs.IsJoined, Pairs.IsSplitAnswer}
 
 pub record IsWideAnswerOfThree (call : Datum → Datum → Datum → Datum → ℕ → Type 0) (x y z answer : Pair)
     (status : ℕ) : Type 0 where

@@ -1,16 +1,16 @@
 -- What the calls on pairs of doubles return.
 use Rattle.apfloat_base.specs.Meaning.{Meaning}
 use Rattle.apfloat_model.specs.rounding.Flags.{Gives, bits_of}
-use Rattle.apfloat_pair_theory.specs.PairCalls.{IsPairExactInverse, IsPairFromSigned, IsPairFromUnsigned, IsPairNearestRemainder}
-use Rattle.apfloat_pair_theory.specs.PairCalls.{IsPairNextDown, IsPairNextUp, IsPairQuotient, IsPairRead, IsPairRoundToIntegral}
-use Rattle.apfloat_pair_theory.specs.PairCalls.{IsPairToSigned, IsPairToUnsigned, IsPairTruncatedRemainder}
-use Rattle.apfloat_pair_theory.specs.PairParts.{compared_pair_magnitudes, is_denormal_pair, is_integer_pair, is_negative_pair}
-use Rattle.apfloat_pair_theory.specs.PairParts.{is_signaling_pair, pair_infinity, pair_largest, pair_qnan, pair_smallest}
+use Rattle.apfloat_pair_theory.specs.PairCalls.{IsPairExactInverse, IsPairFromSigned, IsPairFromUnsigned}
+use Rattle.apfloat_pair_theory.specs.PairCalls.{IsPairNearestRemainder, IsPairNextDown, IsPairNextUp, IsPairQuotient}
+use Rattle.apfloat_pair_theory.specs.PairCalls.{IsPairRead, IsPairRoundToIntegral, IsPairToSigned, IsPairToUnsigned}
+use Rattle.apfloat_pair_theory.specs.{PairCalls.IsPairTruncatedRemainder, PairParts.compared_pair_magnitudes}
+use Rattle.apfloat_pair_theory.specs.PairParts.{is_denormal_pair, is_integer_pair, is_negative_pair, is_signaling_pair}
+use Rattle.apfloat_pair_theory.specs.PairParts.{pair_infinity, pair_largest, pair_qnan, pair_smallest}
 use Rattle.apfloat_pair_theory.specs.PairParts.{pair_smallest_normalized, pair_snan, pair_zero, same_pair}
 use Rattle.apfloat_pair_theory.specs.PairParts.{CanComparePairMagnitudes, IsPairFraction, IsPairIlogb, IsPairScaling}
-use Rattle.apfloat_pair_theory.specs.PairProducts.{IsPairProduct}
-use Rattle.apfloat_pair_theory.specs.Pairs.{Pair, IsPairEncodedBy, negated_pair, pair_category, pair_of}
-use Rattle.apfloat_pair_theory.specs.PairSums.{IsPairDifference, IsPairSum}
+use Rattle.apfloat_pair_theory.specs.{PairProducts.IsPairProduct, Pairs.Pair, Pairs.IsPairEncodedBy, Pairs.negated_pair}
+use Rattle.apfloat_pair_theory.specs.{Pairs.pair_category, Pairs.pair_of, PairSums.IsPairDifference, PairSums.IsPairSum}
 
 abbrev pub pair_meaning : Meaning Pair
 pair_meaning =

@@ -1,7 +1,6 @@
 //! Fused sums of pairs of doubles.
 
-ghost use Rattle.apfloat_model.specs.declared.kinds.Round.TheVariants.{NearestTiesToEven};
-ghost use Rattle.apfloat_model.specs.rounding.Flags.{Gives};
+ghost use Rattle.apfloat_model.specs.{declared.kinds.Round.TheVariants.NearestTiesToEven, rounding.Flags.Gives};
 ghost use Rattle.rustc_apfloat.specs.double_double_operations.PairFusedSums.{IsPairFusedSum};
 
 use crate::double_double_operations::wide::{joined, split_answer};

@@ -1,12 +1,9 @@
 //! Theorems about the definitions that the calls cite, as contracts of functions that do nothing.
 
 ghost use Rattle.std.specs.Prelude.{ℕ};
-ghost use Rattle.apfloat_model.specs.Determined.{DeterminesBoth};
-ghost use Rattle.apfloat_model.specs.declared.kinds.Round.{Round};
-ghost use Rattle.apfloat_model.specs.formats.Datum.{Datum};
-ghost use Rattle.apfloat_model.specs.formats.Format.{Format};
-ghost use Rattle.apfloat_pair_theory.specs.PairAnswers.{HasOneAnswer};
-ghost use Rattle.apfloat_pair_theory.specs.Pairs.{Pair};
+ghost use Rattle.apfloat_model.specs.{Determined.DeterminesBoth, declared.kinds.Round.Round};
+ghost use Rattle.apfloat_model.specs.formats.{Datum.Datum, Format.Format};
+ghost use Rattle.apfloat_pair_theory.specs.{PairAnswers.HasOneAnswer, Pairs.Pair};
 ghost use Rattle.rustc_apfloat.specs.double_double_operations.PairConversions.{IsPairFrom, IsPairNumberTo, IsPairTo};
 ghost use Rattle.rustc_apfloat.specs.double_double_operations.PairFusedSums.{IsPairFusedSum};
 

@@ -2,21 +2,20 @@
 
 ghost use Rattle.std.specs.Prelude.{◌≡◌, ◌^◌, ◌<◌, pos, negsuc, true, List, ℕ, Result, refl};
 ghost use Rattle.apfloat_model.specs.declared.kinds.Round.TheVariants.{NearestTiesToEven};
-ghost use Rattle.apfloat_model.specs.declared.parse_error.ParseError.{ParseError};
-ghost use Rattle.apfloat_model.specs.declared.status.StatusAnd.{StatusAnd};
+ghost use Rattle.apfloat_model.specs.declared.{parse_error.ParseError.ParseError, status.StatusAnd.StatusAnd};
 ghost use Rattle.apfloat_model.specs.rounding.Flags.{Gives, bits_of};
-ghost use Rattle.apfloat_model.specs.formats.Members.{IsMember};
-ghost use Rattle.apfloat_model.specs.texts.Parsing.{without_status};
-ghost use Rattle.apfloat_pair_theory.specs.PairFormats.{double};
-ghost use Rattle.apfloat_pair_theory.specs.Pairs.{Pair, pair_category};
-ghost use Rattle.apfloat_pair_theory.specs.PairSums.{IsPairSum, IsPairDifference};
-ghost use Rattle.apfloat_pair_theory.specs.PairProducts.{IsPairProduct};
-ghost use Rattle.apfloat_pair_theory.specs.PairParts.{pair_zero};
-ghost use Rattle.apfloat_pair_theory.specs.PairAccuracy.{HasPlainStatus, IsAccurateDifference, IsAccurateProduct, IsAccurateSum, IsErrorFreeDifference, IsErrorFreeProduct, IsErrorFreeSum, IsExactNearestRemainder, IsExactQuotient, IsExactTruncatedRemainder};
-ghost use Rattle.apfloat_pair_theory.specs.PairCalls.{IsPairNearestRemainder, IsPairQuotient, IsPairRead, IsPairTruncatedRemainder};
+ghost use Rattle.apfloat_model.specs.{formats.Members.IsMember, texts.Parsing.without_status};
+ghost use Rattle.apfloat_pair_theory.specs.{PairFormats.double, Pairs.Pair, Pairs.pair_category, PairSums.IsPairSum};
+ghost use Rattle.apfloat_pair_theory.specs.{PairSums.IsPairDifference, PairProducts.IsPairProduct, PairParts.pair_zero};
+ghost use Rattle.apfloat_pair_theory.specs.PairAccuracy.{HasPlainStatus, IsAccurateDifference, IsAccurateProduct};
+ghost use Rattle.apfloat_pair_theory.specs.PairAccuracy.{IsAccurateSum, IsErrorFreeDifference, IsErrorFreeProduct};
+ghost use Rattle.apfloat_pair_theory.specs.PairAccuracy.{IsErrorFreeSum, IsExactNearestRemainder, IsExactQuotient};
+ghost use Rattle.apfloat_pair_theory.specs.{PairAccuracy.IsExactTruncatedRemainder, PairCalls.IsPairNearestRemainder};
+ghost use Rattle.apfloat_pair_theory.specs.PairCalls.{IsPairQuotient, IsPairRead, IsPairTruncatedRemainder};
 ghost use Rattle.apfloat_pair_theory.proofs.calls.PairsDetermined.{pairs_determined};
+ghost use Rattle.apfloat_pair_theory.proofs.calls.SignedPairs.{pair_signed_above, pair_signed_below};
+ghost use Rattle.apfloat_pair_theory.proofs.calls.SignedPairs.{pair_to_signed_above, pair_to_signed_below};
 ghost use Rattle.rustc_apfloat.specs.double_doubles.PairMeaning.{pair_meaning};
-ghost use Rattle.apfloat_pair_theory.proofs.calls.SignedPairs.{pair_signed_above, pair_signed_below, pair_to_signed_above, pair_to_signed_below};
 
 use crate::double_doubles::order::compare_magnitudes;
 use crate::double_doubles::products::product;

@@ -3,8 +3,7 @@
 
 ghost use Rattle.std.specs.Prelude.{◌≡◌, ◌≢◌, true};
 ghost use Rattle.apfloat_model.specs.order.Classes.{is_finite_non_zero};
-ghost use Rattle.apfloat_model.specs.rounding.Flags.{bits_of};
-ghost use Rattle.apfloat_model.specs.rounding.Rounding.{ok_bits};
+ghost use Rattle.apfloat_model.specs.rounding.{Flags.bits_of, Rounding.ok_bits};
 ghost use Rattle.apfloat_pair_theory.specs.PairAccuracy.{IsExactSplit};
 ghost use Rattle.apfloat_pair_theory.specs.Pairs.{IsJoined, IsNearestDouble, IsSplit, IsWidened, left_over};
 

@@ -1,13 +1,13 @@
 //! The operators on pairs: each is a call, rounded to nearest, ties to even. Assigning operators discard the status.
 
 ghost use Rattle.std.specs.Prelude.{◌≡◌};
-ghost use Rattle.apfloat_model.specs.declared.kinds.Round.TheVariants.{NearestTiesToEven};
-ghost use Rattle.apfloat_model.specs.declared.status.StatusAnd.{StatusAnd};
+ghost use Rattle.apfloat_model.specs.declared.{kinds.Round.TheVariants.NearestTiesToEven, status.StatusAnd.StatusAnd};
 ghost use Rattle.apfloat_model.specs.rounding.Flags.{Gives, bits_of};
-ghost use Rattle.apfloat_pair_theory.specs.Pairs.{negated_pair};
-ghost use Rattle.apfloat_pair_theory.specs.PairSums.{IsPairSum, IsPairDifference};
+ghost use Rattle.apfloat_pair_theory.specs.{Pairs.negated_pair, PairSums.IsPairSum, PairSums.IsPairDifference};
 ghost use Rattle.apfloat_pair_theory.specs.PairProducts.{IsPairProduct};
-ghost use Rattle.apfloat_pair_theory.specs.PairAccuracy.{HasPlainStatus, IsAccurateDifference, IsAccurateProduct, IsAccurateSum, IsErrorFreeDifference, IsErrorFreeProduct, IsErrorFreeSum, IsExactQuotient, IsExactTruncatedRemainder};
+ghost use Rattle.apfloat_pair_theory.specs.PairAccuracy.{HasPlainStatus, IsAccurateDifference, IsAccurateProduct};
+ghost use Rattle.apfloat_pair_theory.specs.PairAccuracy.{IsAccurateSum, IsErrorFreeDifference, IsErrorFreeProduct};
+ghost use Rattle.apfloat_pair_theory.specs.PairAccuracy.{IsErrorFreeSum, IsExactQuotient, IsExactTruncatedRemainder};
 ghost use Rattle.apfloat_pair_theory.specs.PairCalls.{IsPairQuotient, IsPairTruncatedRemainder};
 
 use crate::double_doubles::DoubleFloat;

@@ -1,8 +1,9 @@
 //! The order of pairs: that of the high parts, and on a tie that of the low parts.
 
 ghost use Rattle.std.specs.Prelude.{◌≡◌};
-ghost use Rattle.apfloat_pair_theory.specs.PairParts.{are_opposite, compared_low_magnitudes, compared_pair_magnitudes, CanComparePairMagnitudes};
 ghost use Rattle.std.specs.declared.cmp.Ordering.{Ordering};
+ghost use Rattle.apfloat_pair_theory.specs.PairParts.{are_opposite, compared_low_magnitudes, compared_pair_magnitudes};
+ghost use Rattle.apfloat_pair_theory.specs.PairParts.{CanComparePairMagnitudes};
 
 use crate::double_doubles::DoubleFloat;
 use apfloat_base::Float;

@@ -5,7 +5,9 @@ ghost use Rattle.std.specs.Option.{unwrap_or};
 ghost use Rattle.apfloat_model.specs.formats.Members.{IsMember};
 ghost use Rattle.apfloat_pair_theory.specs.PairFormats.{double};
 ghost use Rattle.apfloat_pair_theory.specs.Pairs.{negated_pair, pair_category, pair_of, IsPairEncodedBy};
-ghost use Rattle.apfloat_pair_theory.specs.PairParts.{is_denormal_pair, is_integer_pair, pair_infinity, pair_largest, pair_qnan, pair_smallest, pair_smallest_normalized, pair_snan, pair_zero, same_pair, IsPairFraction, IsPairScaling};
+ghost use Rattle.apfloat_pair_theory.specs.PairParts.{is_denormal_pair, is_integer_pair, pair_infinity, pair_largest};
+ghost use Rattle.apfloat_pair_theory.specs.PairParts.{pair_qnan, pair_smallest, pair_smallest_normalized, pair_snan};
+ghost use Rattle.apfloat_pair_theory.specs.PairParts.{pair_zero, same_pair, IsPairFraction, IsPairScaling};
 
 use crate::double_doubles::DoubleFloat;
 use apfloat_base::{Category, ExpInt, Float, Round};

@@ -2,10 +2,9 @@
 
 ghost use Rattle.std.specs.Prelude.{◌≡◌};
 ghost use Rattle.apfloat_model.specs.declared.kinds.Round.TheVariants.{NearestTiesToEven};
-ghost use Rattle.apfloat_model.specs.rounding.Flags.{Gives, bits_of};
-ghost use Rattle.apfloat_model.specs.rounding.Steps.{Leads};
-ghost use Rattle.apfloat_pair_theory.specs.PairFormats.{double};
-ghost use Rattle.apfloat_pair_theory.specs.PairProducts.{lost_of_product, product_of_categories, product_of_numbers, IsPairProduct};
+ghost use Rattle.apfloat_model.specs.rounding.{Flags.Gives, Flags.bits_of, Steps.Leads};
+ghost use Rattle.apfloat_pair_theory.specs.{PairFormats.double, PairProducts.lost_of_product};
+ghost use Rattle.apfloat_pair_theory.specs.PairProducts.{product_of_categories, product_of_numbers, IsPairProduct};
 ghost use Rattle.apfloat_pair_theory.specs.PairAccuracy.{IsAccurateProduct, IsErrorFreeProduct};
 
 use crate::double_doubles::DoubleFloat;

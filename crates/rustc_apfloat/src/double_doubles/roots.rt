@@ -1,7 +1,6 @@
 //! Square roots of pairs.
 
-ghost use Rattle.apfloat_model.specs.declared.kinds.Round.TheVariants.{NearestTiesToEven};
-ghost use Rattle.apfloat_model.specs.rounding.Flags.{Gives};
+ghost use Rattle.apfloat_model.specs.{declared.kinds.Round.TheVariants.NearestTiesToEven, rounding.Flags.Gives};
 ghost use Rattle.apfloat_pair_theory.specs.PairRoots.{IsPairRoot};
 
 use crate::double_doubles::DoubleFloat;

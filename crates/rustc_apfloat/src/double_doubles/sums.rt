@@ -2,15 +2,14 @@
 
 ghost use Rattle.std.specs.Prelude.{◌≡◌, ℕ};
 ghost use Rattle.apfloat_model.specs.declared.kinds.Category.TheVariants.{Infinity, Normal};
-ghost use Rattle.apfloat_model.specs.declared.kinds.Round.TheVariants.{NearestTiesToEven};
+ghost use Rattle.apfloat_model.specs.declared.kinds.Round.{Round, TheVariants.NearestTiesToEven};
 ghost use Rattle.apfloat_model.specs.order.Classes.{category_of};
-ghost use Rattle.apfloat_model.specs.declared.kinds.Round.{Round};
-ghost use Rattle.apfloat_model.specs.rounding.Flags.{Gives, bits_of};
-ghost use Rattle.apfloat_model.specs.rounding.Steps.{Leads};
-ghost use Rattle.apfloat_pair_theory.specs.PairFormats.{double};
-ghost use Rattle.apfloat_pair_theory.specs.Pairs.{pair_category};
-ghost use Rattle.apfloat_pair_theory.specs.PairSums.{closing, finite_sum, greater, lesser, lost, sum_anew, sum_of_categories, sum_of_infinities, sum_of_numbers, IsPairSum, IsPairDifference};
-ghost use Rattle.apfloat_pair_theory.specs.PairAccuracy.{HasPlainStatus, IsAccurateDifference, IsAccurateSum, IsErrorFreeDifference, IsErrorFreeSum};
+ghost use Rattle.apfloat_model.specs.rounding.{Flags.Gives, Flags.bits_of, Steps.Leads};
+ghost use Rattle.apfloat_pair_theory.specs.{PairFormats.double, Pairs.pair_category, PairSums.closing};
+ghost use Rattle.apfloat_pair_theory.specs.PairSums.{finite_sum, greater, lesser, lost, sum_anew, sum_of_categories};
+ghost use Rattle.apfloat_pair_theory.specs.PairSums.{sum_of_infinities, sum_of_numbers, IsPairSum, IsPairDifference};
+ghost use Rattle.apfloat_pair_theory.specs.PairAccuracy.{HasPlainStatus, IsAccurateDifference, IsAccurateSum};
+ghost use Rattle.apfloat_pair_theory.specs.PairAccuracy.{IsErrorFreeDifference, IsErrorFreeSum};
 
 use crate::double_doubles::DoubleFloat;
 use crate::double_doubles::parts::{category, negation};

@@ -3,9 +3,11 @@
 
 ghost use Rattle.std.specs.Prelude.{◌≡◌, ◌≤◌, ◌<◌, ◌^◌, Result};
 ghost use Rattle.apfloat_model.specs.rounding.Flags.{Gives, bits_of};
-ghost use Rattle.apfloat_pair_theory.specs.Pairs.{IsSplit};
-ghost use Rattle.apfloat_pair_theory.specs.PairAccuracy.{IsExactNearestRemainder, IsExactQuotient, IsExactTruncatedRemainder};
-ghost use Rattle.apfloat_pair_theory.specs.PairCalls.{IsPairQuotient, IsPairTruncatedRemainder, IsPairNearestRemainder, IsPairRoundToIntegral, IsPairNextUp, IsPairExactInverse, IsPairFromUnsigned, IsPairToUnsigned, IsPairRead};
+ghost use Rattle.apfloat_pair_theory.specs.{Pairs.IsSplit, PairAccuracy.IsExactNearestRemainder};
+ghost use Rattle.apfloat_pair_theory.specs.PairAccuracy.{IsExactQuotient, IsExactTruncatedRemainder};
+ghost use Rattle.apfloat_pair_theory.specs.PairCalls.{IsPairQuotient, IsPairTruncatedRemainder, IsPairNearestRemainder};
+ghost use Rattle.apfloat_pair_theory.specs.PairCalls.{IsPairRoundToIntegral, IsPairNextUp, IsPairExactInverse};
+ghost use Rattle.apfloat_pair_theory.specs.PairCalls.{IsPairFromUnsigned, IsPairToUnsigned, IsPairRead};
 
 use crate::double_doubles::join::{joined, split};
 use crate::double_doubles::{DoubleFloat, Fallback};

@@ -1,30 +1,22 @@
 -- The numbers of the element formats: on the grid of their format, and at most its largest number.
 use mathlib.Core.Bool.{true≢false}
-use Rattle.std.proofs.Common.{lit≤, if◌then◌else◌}
-use Rattle.std.proofs.Common.{◌≡◌, ℕ, zero, suc, ◌+◌, ◌-◌, ◌*◌, ◌^◌, ◌<◌, ◌≤◌, Bool, true, false, ◌&&◌, eqb, refl}
-use Rattle.std.proofs.Common.{sym, ap, ◌∙◌, subst, arith}
-use Rattle.std.proofs.lemmas.Bool.{and_from, eq-eqb, ne_eqb}
-use Rattle.std.proofs.lemmas.Nat.{mod_below, pow_pos}
+use Rattle.std.proofs.Common.{lit≤, if◌then◌else◌, ◌≡◌, ℕ, zero, suc, ◌+◌, ◌-◌, ◌*◌, ◌^◌, ◌<◌, ◌≤◌, Bool, true, false}
+use Rattle.std.proofs.Common.{◌&&◌, eqb, refl, sym, ap, ◌∙◌, subst, arith}
+use Rattle.std.proofs.lemmas.{Bool.and_from, Bool.eq-eqb, Bool.ne_eqb, Nat.mod_below, Nat.pow_pos}
+use Rattle.apfloat_model.specs.{order.Classes.is_finite, order.Classes.quanta_of, rounding.Grid.IsOnGrid}
 use Rattle.apfloat_model.specs.bits.Layout.{fields_of, has_all_ones, implied_number}
+use Rattle.apfloat_model.specs.formats.{Format.Format, Format.largest, Format.nan_base, Formats.e4m3fn_constants}
+use Rattle.apfloat_model.specs.formats.{Formats.e5m2_constants, Lawful.format_with, Lawful.layout_with}
 use Rattle.apfloat_model.specs.formats.Datum.{Datum, finite, infinite, nan}
-use Rattle.apfloat_model.specs.formats.Format.{Format, largest, nan_base}
-use Rattle.apfloat_model.specs.formats.Formats.{e4m3fn_constants, e5m2_constants}
-use Rattle.apfloat_model.specs.formats.Lawful.{format_with, layout_with}
-use Rattle.apfloat_model.specs.order.Classes.{is_finite, quanta_of}
-use Rattle.apfloat_model.specs.rounding.Grid.{IsOnGrid}
+use Rattle.apfloat_model.proofs.{general.Powers.twice_half, rounding.Neighbours.multiple_on_grid}
 use Rattle.apfloat_model.proofs.bits.Encodings.{fields_within}
 use Rattle.apfloat_model.proofs.formats.Ranges.{ieee_within, nan_only_within}
-use Rattle.apfloat_model.proofs.general.Powers.{twice_half}
-use Rattle.apfloat_model.proofs.rounding.Neighbours.{multiple_on_grid}
-use Rattle.small_formats.specs.Codes.{largest_index, magnitude_of, point}
-use Rattle.small_formats.specs.LawTest.{lawful_from_test}
-use Rattle.small_formats.specs.Storage.{StorageConstants, IsLawfulStorage}
-use Rattle.small_formats.specs.Storage.{format_with as stored_format}
-use Rattle.small_formats.proofs.Points.{point_on_grid}
-use Rattle.small_formats.proofs.StoredPicks.{largest_point, not_greater}
+use Rattle.small_formats.specs.{Codes.largest_index, Codes.magnitude_of, Codes.point, LawTest.lawful_from_test}
+use Rattle.small_formats.specs.Storage.{StorageConstants, IsLawfulStorage, format_with as stored_format}
 use Rattle.small_formats.specs.declared.blocks.elements.ElementFormat.{ElementFormat}
 use Rattle.small_formats.specs.declared.blocks.elements.ElementFormat.TheVariants.{E5M2, E4M3FN, E3M2FN, E2M3FN, E2M1FN}
 use Rattle.small_formats.specs.blocks.Elements.{e2m1fn, e2m3fn, e3m2fn, element_datum, format_of_element, width}
+use Rattle.small_formats.proofs.{Points.point_on_grid, StoredPicks.largest_point, StoredPicks.not_greater}
 use Rattle.small_formats.proofs.blocks_lemmas.ElementsOnce.{e4m3fn_interchange, e5m2_interchange}
 
 pub record IsElementNumber (element : ElementFormat) (quanta : ℕ) : Type 0 where

@@ -1,24 +1,16 @@
 -- An element has one code: no two codes of an element format mean one datum.
 use Rattle.std.proofs.Common.{◌≡◌, ℕ, ◌^◌, ◌<◌, Bool, refl, sym, ap, ◌∙◌, subst, lit≤}
-use Rattle.apfloat_model.specs.bits.Interchange.{IsInterchange}
-use Rattle.apfloat_model.specs.bits.Layout.{IsEncodedBy}
-use Rattle.apfloat_model.specs.declared.kinds.Round.{Round}
-use Rattle.apfloat_model.specs.formats.Datum.{Datum}
-use Rattle.apfloat_model.specs.formats.Format.{Format}
-use Rattle.apfloat_model.specs.formats.Formats.{e4m3fn_constants, e5m2_constants}
+use Rattle.apfloat_model.specs.{bits.Interchange.IsInterchange, bits.Layout.IsEncodedBy, declared.kinds.Round.Round}
+use Rattle.apfloat_model.specs.formats.{Datum.Datum, Format.Format, Formats.e4m3fn_constants, Formats.e5m2_constants}
 use Rattle.apfloat_model.specs.formats.Lawful.{format_with, layout_with}
-use Rattle.apfloat_model.specs.order.Classes.{is_negative}
-use Rattle.apfloat_model.specs.rounding.Rounding.{delivered_status}
-use Rattle.apfloat_model.proofs.Once.{Once}
-use Rattle.apfloat_model.proofs.bits.EncodedOnce.{encoded_once}
-use Rattle.apfloat_model.proofs.rounding.Picks.{pick_unique}
-use Rattle.small_formats.specs.Conversions.{saturated_value}
-use Rattle.small_formats.specs.LawTest.{lawful_from_test}
-use Rattle.small_formats.proofs.OneAnswer.{code_once}
+use Rattle.apfloat_model.specs.{order.Classes.is_negative, rounding.Rounding.delivered_status}
+use Rattle.apfloat_model.proofs.{Once.Once, bits.EncodedOnce.encoded_once, rounding.Picks.pick_unique}
+use Rattle.small_formats.specs.{Conversions.saturated_value, LawTest.lawful_from_test}
 use Rattle.small_formats.specs.declared.blocks.elements.ElementFormat.{ElementFormat}
 use Rattle.small_formats.specs.declared.blocks.elements.ElementFormat.TheVariants.{E5M2, E4M3FN, E3M2FN, E2M3FN, E2M1FN}
 use Rattle.small_formats.specs.blocks.Elements.{IsElement, IsQuotientBy, e2m1fn, e2m3fn, e3m2fn, element_datum}
 use Rattle.small_formats.specs.blocks.Elements.{format_of_element, width}
+use Rattle.small_formats.proofs.OneAnswer.{code_once}
 
 pub e4m3fn_interchange : IsInterchange (format_with e4m3fn_constants) (layout_with e4m3fn_constants)
 e4m3fn_interchange =

@@ -1,29 +1,21 @@
 -- Blocks that double, single and bfloat have exactly.
-use Rattle.std.proofs.Common.{lit≤}
-use Rattle.std.proofs.Common.{◌≡◌, ℕ, ◌+◌, ◌-◌, ◌*◌, ◌^◌, ◌<◌, Bool, true, false, eqb, refl, sym, ap, ◌∙◌, subst}
-use Rattle.std.proofs.Common.{arith}
+use Rattle.std.proofs.Common.{lit≤, ◌≡◌, ℕ, ◌+◌, ◌-◌, ◌*◌, ◌^◌, ◌<◌, Bool, true, false, eqb, refl, sym, ap, ◌∙◌, subst}
+use Rattle.std.proofs.{Common.arith, lemmas.Bool.ne_eqb, lemmas.Bool.MatchBool-at_false, lemmas.Nat.pow-add}
 use Rattle.std.specs.Bool.{MatchBool}
-use Rattle.std.proofs.lemmas.Bool.{ne_eqb, MatchBool-at_false}
-use Rattle.std.proofs.lemmas.Nat.{pow-add}
-use Rattle.apfloat_model.specs.declared.kinds.Round.{Round}
-use Rattle.apfloat_model.specs.formats.Datum.{Datum, finite, infinite, nan}
-use Rattle.apfloat_model.specs.formats.Format.{Format}
-use Rattle.apfloat_model.specs.formats.Formats.{bfloat_constants, double_constants, single_constants}
-use Rattle.apfloat_model.specs.formats.Lawful.{format_with}
-use Rattle.apfloat_model.specs.formats.Nan.{qnan}
-use Rattle.apfloat_model.specs.order.Classes.{is_finite, quanta_of}
-use Rattle.apfloat_model.specs.rounding.Answer.{IsAnswer}
-use Rattle.apfloat_model.specs.rounding.Rounding.{IsDelivered, ok_bits}
+use Rattle.apfloat_model.specs.{declared.kinds.Round.Round, formats.Datum.Datum, formats.Datum.finite, formats.Nan.qnan}
+use Rattle.apfloat_model.specs.{order.Classes.is_finite, order.Classes.quanta_of}
+use Rattle.apfloat_model.specs.formats.{Datum.infinite, Datum.nan, Format.Format, Formats.bfloat_constants}
+use Rattle.apfloat_model.specs.formats.{Formats.double_constants, Formats.single_constants, Lawful.format_with}
+use Rattle.apfloat_model.specs.rounding.{Answer.IsAnswer, Rounding.IsDelivered, Rounding.ok_bits}
 use Rattle.apfloat_arithmetic.specs.other_formats.FormatOf.{IsProductTo}
 use Rattle.small_formats.specs.Scales.{nan_code, scale_format, scale_of}
 use Rattle.small_formats.specs.declared.blocks.elements.ElementFormat.{ElementFormat}
 use Rattle.small_formats.specs.blocks.Elements.{element_datum, format_of_element, width}
 use Rattle.small_formats.specs.blocks.Laws.{IsExactIntoBFloat, IsExactIntoDouble, IsExactIntoSingle, IsExactlyScaled}
 use Rattle.small_formats.specs.blocks.MxBlocks.{IsScaled}
+use Rattle.small_formats.proofs.blocks_lemmas.{Quotients.sign_over_positive, exact.Rooms.room_in, exact.Rooms.short}
 use Rattle.small_formats.proofs.blocks_lemmas.ElementNumbers.{element_number}
 use Rattle.small_formats.proofs.blocks_lemmas.ExactProducts.{HasProducts, exact_product}
-use Rattle.small_formats.proofs.blocks_lemmas.Quotients.{sign_over_positive}
-use Rattle.small_formats.proofs.blocks_lemmas.exact.Rooms.{room_in, short}
 
 -- the product of a scale and a number
 product_is : (element : ElementFormat) (g : Format) (mode : Round) (scale : ℕ) (x value : Datum) (status : ℕ)

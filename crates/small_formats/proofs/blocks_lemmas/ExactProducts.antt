@@ -1,19 +1,14 @@
 -- A number of a short format, times a power of two, in a wide format.
-use Rattle.std.proofs.Common.{◌≡◌, ℕ, ◌+◌, ◌-◌, ◌*◌, ◌^◌, ◌≤◌, Bool, sym, ap, ◌∙◌, arith}
-use Rattle.std.proofs.Math.Nat.{mul-le-mul_right}
-use Rattle.std.proofs.lemmas.Nat.{pow-add, pow_pos}
-use Rattle.apfloat_model.specs.declared.kinds.NonfiniteBehavior.TheVariants.{IEEE754}
-use Rattle.apfloat_model.specs.declared.kinds.NonfiniteBehavior.{NonfiniteBehavior}
-use Rattle.apfloat_model.specs.declared.kinds.Round.{Round}
-use Rattle.apfloat_model.specs.formats.Datum.{Datum, finite}
+use Rattle.std.proofs.Common.{◌≡◌, ℕ, ◌+◌, ◌-◌, ◌*◌, ◌^◌, ◌≤◌, Bool, sym, ap, ◌∙◌}
+use Rattle.std.proofs.{Common.arith, Math.Nat.mul-le-mul_right, lemmas.Nat.pow-add, lemmas.Nat.pow_pos}
+use Rattle.apfloat_model.specs.declared.kinds.NonfiniteBehavior.{NonfiniteBehavior, TheVariants.IEEE754}
+use Rattle.apfloat_model.specs.{declared.kinds.Round.Round, formats.Datum.Datum, formats.Datum.finite}
 use Rattle.apfloat_model.specs.formats.Format.{Format, greatest_significand, largest}
-use Rattle.apfloat_model.specs.formats.Members.{IsFiniteOf}
-use Rattle.apfloat_model.specs.rounding.Grid.{IsOnGrid}
+use Rattle.apfloat_model.specs.{formats.Members.IsFiniteOf, rounding.Grid.IsOnGrid}
 use Rattle.apfloat_model.specs.rounding.Rounding.{IsDelivered, signed_quanta, zero_sign}
 use Rattle.apfloat_model.proofs.rounding.Laws.{delivered_once, exact_delivered}
 use Rattle.round_to_odd.proofs.OddPoints.{moved_on_grid, wider_grid}
-use Rattle.small_formats.proofs.blocks_lemmas.Quotients.{signed_same}
-use Rattle.small_formats.proofs.blocks_lemmas.Tops.{top_below}
+use Rattle.small_formats.proofs.blocks_lemmas.{Quotients.signed_same, Tops.top_below}
 
 -- the format g has the numbers of that precision and span in quanta of 2 ^ -scale, times 2 ^ exponent
 pub record HasProducts (g : Format) (precision span scale exponent : ℕ) : Type 0 where

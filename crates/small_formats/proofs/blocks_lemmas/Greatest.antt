@@ -1,23 +1,17 @@
 -- The greatest magnitude of a block.
-use Rattle.std.proofs.Common.{if◌then◌else◌}
-use Rattle.std.proofs.Common.{◌≡◌, ℕ, zero, suc, ◌+◌, ◌<◌, ◌≤◌, max, true, eqb, refl, sym, ap, ◌∙◌}
+use Rattle.std.proofs.Common.{if◌then◌else◌, ◌≡◌, ℕ, zero, suc, ◌+◌, ◌<◌, ◌≤◌, max, true, eqb, refl, sym, ap, ◌∙◌}
 use Rattle.std.proofs.Common.{⊎_elim, arith, subst, Bool, ◌&&◌, false, ltb, List, [], ◌∷◌, ◌++◌, take, Some}
-use Rattle.std.specs.Prelude.{slice_get}
 use Rattle.std.proofs.lemmas.Bool.{and_from, and_parts, cases_lt, ne_eqb, lt-ltb, le-ltb}
-use Rattle.apfloat_model.specs.formats.Datum.{Datum, finite, infinite, nan}
-use Rattle.apfloat_model.specs.declared.kinds.NonfiniteBehavior.{NonfiniteBehavior}
-use Rattle.apfloat_model.specs.declared.kinds.Category.TheVariants.{Normal}
-use Rattle.apfloat_model.specs.formats.Format.{Format}
-use Rattle.apfloat_model.specs.formats.Members.{IsMember}
-use Rattle.apfloat_model.specs.order.Classes.{category_of, is_finite, is_negative, is_zero, quanta_of}
-use Rattle.apfloat_model.specs.order.Predicates.{is_zero_category}
-use Rattle.apfloat_model.proofs.order.PredicatesAgree.{zero_agrees}
 use Rattle.std.proofs.lemmas.Nat.{pow_pos}
-use Rattle.apfloat_model.specs.order.Order.{is_below}
+use Rattle.std.specs.Prelude.{slice_get}
+use Rattle.apfloat_model.specs.formats.{Format.Format, Members.IsMember}
+use Rattle.apfloat_model.specs.formats.Datum.{Datum, finite, infinite, nan}
+use Rattle.apfloat_model.specs.declared.kinds.{NonfiniteBehavior.NonfiniteBehavior, Category.TheVariants.Normal}
+use Rattle.apfloat_model.specs.order.{Predicates.is_zero_category, Order.is_below, Positive.IsPositive}
+use Rattle.apfloat_model.specs.order.Classes.{category_of, is_finite, is_negative, is_zero, quanta_of}
 use Rattle.apfloat_model.specs.rounding.Negation.{negated}
-use Rattle.apfloat_model.proofs.general.Choices.{not_zero, above_zero}
-use Rattle.apfloat_model.proofs.arithmetic.Signs.{plus_zero}
-use Rattle.apfloat_model.specs.order.Positive.{IsPositive}
+use Rattle.apfloat_model.proofs.{order.PredicatesAgree.zero_agrees, general.Choices.not_zero}
+use Rattle.apfloat_model.proofs.{general.Choices.above_zero, arithmetic.Signs.plus_zero}
 use Rattle.small_formats.specs.blocks.Magnitudes.{are_finite, greatest_magnitude}
 use Rattle.small_formats.proofs.blocks_lemmas.Places.{some_same}
 

@@ -1,15 +1,13 @@
 -- Numbers of a storage format in half.
+use Rattle.std.proofs.{Math.Nat.mul-le-mul_right, lemmas.Nat.pow-add, lemmas.Nat.mod_below, lemmas.Nat.pow_pos}
 use Rattle.std.proofs.Common.{◌≡◌, ℕ, ◌+◌, ◌-◌, ◌*◌, ◌^◌, ◌<◌, ◌≤◌, refl, sym, ap, ◌∙◌, arith}
-use Rattle.std.proofs.Math.Nat.{mul-le-mul_right}
-use Rattle.std.proofs.lemmas.Nat.{pow-add, mod_below, pow_pos}
 use Rattle.apfloat_model.specs.formats.Formats.{half_constants}
 use Rattle.apfloat_model.specs.formats.Lawful.{format_with as library_format}
 use Rattle.apfloat_model.specs.formats.Members.{IsFiniteOf}
 use Rattle.round_to_odd.proofs.OddPoints.{moved_on_grid, wider_grid}
 use Rattle.small_formats.specs.Codes.{is_negative_code, largest_index, magnitude_of, point}
 use Rattle.small_formats.specs.Storage.{StorageConstants, IsLawfulStorage, format_with}
-use Rattle.small_formats.proofs.Points.{point_on_grid}
-use Rattle.small_formats.proofs.StoredPicks.{largest_point, not_greater}
+use Rattle.small_formats.proofs.{Points.point_on_grid, StoredPicks.largest_point, StoredPicks.not_greater}
 use Rattle.small_formats.proofs.blocks_lemmas.Tops.{top_below}
 
 pub moved_quanta : (m scale : ℕ) → scale ≤ 24 → m * 2 ^ (24 - scale) * 2 ^ scale ≡ m * 2 ^ 24

@@ -1,18 +1,11 @@
 -- Products of a number of an element format and a single, which double has.
-use Rattle.std.proofs.Common.{lit≤}
-use Rattle.std.proofs.Common.{◌≡◌, ℕ, ◌+◌, ◌-◌, ◌*◌, ◌^◌, ◌<◌, ◌≤◌, Bool, false, refl, sym, ap, ◌∙◌, subst, arith}
+use Rattle.std.proofs.Common.{lit≤, ◌≡◌, ℕ, ◌+◌, ◌-◌, ◌*◌, ◌^◌, ◌<◌, ◌≤◌, Bool, false, refl, sym, ap, ◌∙◌, subst, arith}
 use Rattle.std.proofs.Math.Nat.{mul-le-mul_left, mul-le-mul_right, mul-pos}
 use Rattle.std.proofs.lemmas.Nat.{pow-add, pow_pos}
-use Rattle.apfloat_model.specs.declared.kinds.Round.{Round}
-use Rattle.apfloat_model.specs.formats.Datum.{Datum, finite}
-use Rattle.apfloat_model.specs.formats.Format.{Format}
-use Rattle.apfloat_model.specs.formats.Formats.{double_constants, e4m3fn_constants}
-use Rattle.apfloat_model.specs.formats.Lawful.{format_with}
-use Rattle.apfloat_model.specs.formats.Members.{IsFiniteOf}
-use Rattle.apfloat_model.specs.order.Classes.{quanta_of}
-use Rattle.apfloat_model.specs.rounding.Grid.{IsOnGrid}
-use Rattle.apfloat_model.specs.rounding.Rounding.{IsDelivered}
-use Rattle.apfloat_model.specs.order.Positive.{IsPositive}
+use Rattle.apfloat_model.specs.{declared.kinds.Round.Round, formats.Datum.Datum, formats.Lawful.format_with}
+use Rattle.apfloat_model.specs.{formats.Members.IsFiniteOf, order.Classes.quanta_of, order.Positive.IsPositive}
+use Rattle.apfloat_model.specs.{rounding.Grid.IsOnGrid, rounding.Rounding.IsDelivered}
+use Rattle.apfloat_model.specs.formats.{Datum.finite, Format.Format, Formats.double_constants, Formats.e4m3fn_constants}
 use Rattle.apfloat_arithmetic.specs.other_formats.FormatOf.{IsProductTo}
 use Rattle.small_formats.specs.blocks.Nvfp4.{single_format}
 use Rattle.small_formats.proofs.blocks_lemmas.ExactProducts.{HasProducts, IsExactIn, exact_product}

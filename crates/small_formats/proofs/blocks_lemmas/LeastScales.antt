@@ -1,38 +1,30 @@
 -- The scale by the rule `Floor` in numbers, and the least scales of the other rules: they are that one, or the next.
-use Rattle.std.proofs.Common.{◌≡◌, ℕ, zero, suc, ◌+◌, ◌-◌, ◌*◌, ◌%◌, ◌^◌, ◌<◌, ◌≤◌, ◌⊎◌, true, false, leb, ltb, inl, inr, sym, ap, ◌∙◌}
-use Rattle.std.proofs.Common.{Bool, not, cond, if◌then◌else◌, eqb, bit_and, lit<}
-use Rattle.std.proofs.Common.{ℤ, pos, ◌+ℤ◌, ◌-ℤ◌, min, subst, ⊎_elim, arith, refl, lit≤}
+use Rattle.std.proofs.{Math.Nat.pow-le-pow_right, lemmas.Bool.false≢true}
+use Rattle.std.proofs.Common.{◌≡◌, ℕ, zero, suc, ◌+◌, ◌-◌, ◌*◌, ◌%◌, ◌^◌, ◌<◌, ◌≤◌, ◌⊎◌, true, false, leb, ltb, inl}
+use Rattle.std.proofs.Common.{inr, sym, ap, ◌∙◌, Bool, not, cond, if◌then◌else◌, eqb, bit_and, lit<, ℤ, pos, ◌+ℤ◌, ◌-ℤ◌}
+use Rattle.std.proofs.Common.{min, subst, ⊎_elim, arith, refl, lit≤}
 use Rattle.std.proofs.Math.Nat.{lt_of_mul-lt-mul_right, mul-le-mul_right, mul-lt-mul_of_pos_right, mul-pos}
-use Rattle.std.proofs.Math.Nat.{pow-le-pow_right}
-use Rattle.std.proofs.lemmas.Bool.{false≢true, MatchBool-at_false, MatchBool-at_true, cases_eq, cases_lt, eq-eqb, le-leb, le-ltb, lt-leb, lt-ltb, ne_eqb}
-use Rattle.std.proofs.lemmas.Int.{ints}
-use Rattle.std.proofs.lemmas.Nat.{pow-add, pow_pos}
+use Rattle.std.proofs.lemmas.{Bool.lt-leb, Bool.lt-ltb, Bool.ne_eqb, Int.ints, Nat.pow-add, Nat.pow_pos}
+use Rattle.std.proofs.lemmas.Bool.{MatchBool-at_false, MatchBool-at_true, cases_eq, cases_lt, eq-eqb, le-leb, le-ltb}
+use Rattle.apfloat_model.specs.{order.Classes.quanta_of, rounding.Rounding.IsPick, rounding.Rounding.is_tiny}
 use Rattle.apfloat_model.specs.arithmetic.Exact.{up}
 use Rattle.apfloat_model.specs.declared.kinds.Round.TheVariants.{NearestTiesToEven, TowardPositive}
-use Rattle.apfloat_model.specs.formats.Datum.{finite}
-use Rattle.apfloat_model.specs.formats.Format.{Format, largest}
-use Rattle.apfloat_model.specs.order.Classes.{quanta_of}
-use Rattle.apfloat_model.specs.rounding.Rounding.{IsPick, is_tiny, raises_overflow, takes_above}
+use Rattle.apfloat_model.specs.formats.{Datum.finite, Format.Format, Format.largest}
+use Rattle.apfloat_model.specs.rounding.{Rounding.raises_overflow, Rounding.takes_above, Enclosure.IsEnclosed}
 use Rattle.apfloat_model.proofs.arithmetic.SingleScalings.{up_far, up_le}
 use Rattle.apfloat_model.proofs.general.Choices.{not_zero}
 use Rattle.apfloat_model.proofs.general.Powers.{pow3, twice_half, twice_power, two_pos}
-use Rattle.apfloat_model.specs.rounding.Enclosure.{IsEnclosed}
-use Rattle.apfloat_model.proofs.rounding.FarMagnitudes.{largest_on_grid}
-use Rattle.apfloat_model.proofs.rounding.Laws.{pick_within}
-use Rattle.apfloat_model.proofs.rounding.Neighbours.{multiple_on_grid}
+use Rattle.apfloat_model.proofs.rounding.{FarMagnitudes.largest_on_grid, Laws.pick_within, Neighbours.multiple_on_grid}
 use Rattle.apfloat_model.proofs.rounding.Picks.{inexact_pick, pick_unique}
-use Rattle.small_formats.specs.Conversions.{saturated_value}
-use Rattle.small_formats.specs.declared.blocks.elements.ElementFormat.{ElementFormat}
+use Rattle.small_formats.specs.{Conversions.saturated_value, declared.blocks.elements.ElementFormat.ElementFormat}
+use Rattle.small_formats.specs.declared.blocks.elements.ElementFormat.TheVariants.{E5M2, E4M3FN, E3M2FN, E2M3FN, E2M1FN}
 use Rattle.small_formats.specs.declared.blocks.mx_scales.ScaleRule.{ScaleRule}
 use Rattle.small_formats.specs.declared.blocks.mx_scales.ScaleRule.TheVariants.{Floor, Ceil, Even}
-use Rattle.small_formats.specs.declared.blocks.elements.ElementFormat.TheVariants.{E5M2, E4M3FN, E3M2FN, E2M3FN, E2M1FN}
 use Rattle.small_formats.specs.blocks.Elements.{IsElement, element_datum, format_of_element, max_exp, power_code, width}
-use Rattle.small_formats.specs.blocks.MxScales.{IsBlockScale, IsLeastScale, IsScaleBy, IsScaleOfNumber, IsWithinNext, clips, highest_power}
-use Rattle.small_formats.specs.blocks.MxScales.{last_middle, outgrows}
-use Rattle.small_formats.proofs.blocks_lemmas.Fractions.{element_fraction}
-use Rattle.small_formats.proofs.blocks_lemmas.Powers.{scale_quanta}
-use Rattle.small_formats.proofs.blocks_lemmas.ElementsOnce.{code_of_element_once}
-use Rattle.small_formats.proofs.blocks_lemmas.again.Lowered.{below_end}
+use Rattle.small_formats.specs.blocks.MxScales.{IsBlockScale, IsLeastScale, IsScaleBy, IsScaleOfNumber, IsWithinNext}
+use Rattle.small_formats.specs.blocks.MxScales.{clips, highest_power, last_middle, outgrows}
+use Rattle.small_formats.proofs.blocks_lemmas.{Fractions.element_fraction, Powers.scale_quanta}
+use Rattle.small_formats.proofs.blocks_lemmas.{ElementsOnce.code_of_element_once, again.Lowered.below_end}
 
 -- ---- clamping
 

@@ -1,24 +1,18 @@
 -- Elements of NVFP4 times both scales.
-use Rattle.std.proofs.Common.{lit≤}
-use Rattle.std.proofs.Common.{◌≡◌, ℕ, ◌+◌, ◌-◌, ◌*◌, ◌^◌, ◌<◌, Bool, false, refl, ap, ◌∙◌, subst, arith}
+use Rattle.std.proofs.Common.{lit≤, ◌≡◌, ℕ, ◌+◌, ◌-◌, ◌*◌, ◌^◌, ◌<◌, Bool, false, refl, ap, ◌∙◌, subst, arith}
 use Rattle.std.proofs.lemmas.Nat.{pow-add, pow_pos}
-use Rattle.apfloat_model.specs.declared.kinds.Round.{Round}
-use Rattle.apfloat_model.specs.formats.Datum.{Datum, finite}
-use Rattle.apfloat_model.specs.formats.Format.{Format}
-use Rattle.apfloat_model.specs.formats.Members.{IsFiniteOf}
-use Rattle.apfloat_model.specs.rounding.Rounding.{IsDelivered}
+use Rattle.apfloat_model.specs.{declared.kinds.Round.Round, formats.Datum.Datum, formats.Datum.finite}
+use Rattle.apfloat_model.specs.{formats.Format.Format, formats.Members.IsFiniteOf, rounding.Rounding.IsDelivered}
 use Rattle.apfloat_arithmetic.specs.other_formats.Extended.{number, seen}
 use Rattle.apfloat_arithmetic.specs.other_formats.FormatOf.{IsProductOf, IsProductTo}
 use Rattle.small_formats.specs.Codes.{is_negative_code, magnitude_of, point}
 use Rattle.small_formats.specs.declared.blocks.elements.ElementFormat.TheVariants.{E2M1FN, E4M3FN}
 use Rattle.small_formats.specs.blocks.Elements.{e2m1fn, element_datum, format_of_element}
 use Rattle.small_formats.specs.blocks.Nvfp4.{scale_in, scale_quanta, single_format}
+use Rattle.small_formats.proofs.blocks_lemmas.{ExactProducts.HasProducts, JointScales.double_format}
+use Rattle.small_formats.proofs.blocks_lemmas.{JointScales.joint_exact, NvScales.number_of_code}
+use Rattle.small_formats.proofs.blocks_lemmas.{Quotients.sign_over_positive, SameFractions.delivered_across}
 use Rattle.small_formats.proofs.blocks_lemmas.ElementNumbers.{e2m1fn_law, stored_number}
-use Rattle.small_formats.proofs.blocks_lemmas.ExactProducts.{HasProducts}
-use Rattle.small_formats.proofs.blocks_lemmas.JointScales.{double_format, joint_exact}
-use Rattle.small_formats.proofs.blocks_lemmas.NvScales.{number_of_code}
-use Rattle.small_formats.proofs.blocks_lemmas.Quotients.{sign_over_positive}
-use Rattle.small_formats.proofs.blocks_lemmas.SameFractions.{delivered_across}
 
 -- the quanta of a code of 4 bits
 abbrev pub quanta_in : ℕ → ℕ

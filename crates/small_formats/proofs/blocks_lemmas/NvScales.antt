@@ -1,24 +1,18 @@
 -- The scales of NVFP4.
-use Rattle.std.proofs.Common.{◌≡◌, ℕ, zero, suc, ◌+◌, ◌*◌, ◌^◌, ◌<◌, ◌≤◌, max, Bool, true, false, cond, not, ◌&&◌, eqb, ltb}
-use Rattle.std.proofs.Common.{refl, sym, ap, ◌∙◌, subst, arith}
-use Rattle.std.specs.Bool.{MatchBool}
-use Rattle.std.proofs.lemmas.Bool.{agree_below_at, lt-ltb, ltb-true}
+use Rattle.std.proofs.Common.{◌≡◌, ℕ, zero, suc, ◌+◌, ◌*◌, ◌^◌, ◌<◌, ◌≤◌, max, Bool, true}
+use Rattle.std.proofs.Common.{false, cond, not, ◌&&◌, eqb, ltb, refl, sym, ap, ◌∙◌, subst, arith}
+use Rattle.std.proofs.lemmas.{Bool.agree_below_at, Bool.lt-ltb, Bool.ltb-true, Nat.pow-add}
 use Rattle.std.proofs.Math.Nat.{le-max_left, mul-pos}
-use Rattle.std.proofs.lemmas.Nat.{pow-add}
-use Rattle.apfloat_model.specs.declared.kinds.Category.TheVariants.{Normal}
-use Rattle.apfloat_model.specs.declared.kinds.Round.{Round}
+use Rattle.std.specs.Bool.{MatchBool}
+use Rattle.apfloat_model.specs.declared.kinds.{Category.TheVariants.Normal, Round.Round}
 use Rattle.apfloat_model.specs.formats.Datum.{Datum, finite, infinite, nan}
-use Rattle.apfloat_model.specs.formats.Format.{Format, largest}
-use Rattle.apfloat_model.specs.formats.Members.{IsFiniteOf, IsMember}
+use Rattle.apfloat_model.specs.formats.{Format.Format, Format.largest, Members.IsFiniteOf, Members.IsMember}
 use Rattle.apfloat_model.specs.order.Classes.{category_of, is_finite, is_negative, quanta_of}
-use Rattle.apfloat_model.proofs.general.Choices.{not_zero}
-use Rattle.apfloat_model.proofs.order.Categories.{normal_quanta}
 use Rattle.apfloat_model.specs.order.Positive.{IsPositive}
-use Rattle.small_formats.specs.Conversions.{saturated_value}
-use Rattle.small_formats.specs.declared.blocks.elements.ElementFormat.TheVariants.{E4M3FN}
-use Rattle.small_formats.specs.blocks.Elements.{IsSaturatedIn, element_datum}
-use Rattle.small_formats.specs.blocks.Nvfp4.{IsNvScale, IsScaleIn, IsScaleOfSome, is_positive, nan_scale, scale_quanta}
-use Rattle.small_formats.specs.blocks.Nvfp4.{unless_zero}
+use Rattle.apfloat_model.proofs.{general.Choices.not_zero, order.Categories.normal_quanta}
+use Rattle.small_formats.specs.{Conversions.saturated_value, declared.blocks.elements.ElementFormat.TheVariants.E4M3FN}
+use Rattle.small_formats.specs.blocks.{Elements.IsSaturatedIn, Elements.element_datum, Nvfp4.IsNvScale, Nvfp4.IsScaleIn}
+use Rattle.small_formats.specs.blocks.Nvfp4.{IsScaleOfSome, is_positive, nan_scale, scale_quanta, unless_zero}
 use Rattle.small_formats.proofs.blocks_lemmas.Greatest.{max_right}
 
 -- ---- positive values

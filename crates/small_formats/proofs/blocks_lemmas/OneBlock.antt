@@ -1,36 +1,26 @@
 -- Blocks have one answer.
-use Rattle.std.proofs.Common.{◌≡◌, ℕ, ◌^◌, ◌<◌, ◌≤◌, Bool, eqb, List, length, sym, refl, ap, ◌∙◌, subst, arith}
-use Rattle.std.proofs.Common.{Result, Ok, Err, false, ⊎_elim}
-use Rattle.std.proofs.lemmas.Bool.{cases_lt, false≢true}
+use Rattle.std.proofs.Common.{◌≡◌, ℕ, ◌^◌, ◌<◌, ◌≤◌, Bool, eqb, List, length, sym, refl, ap, ◌∙◌, subst, arith, Result}
+use Rattle.std.proofs.{Common.Ok, Common.Err, Common.false, Common.⊎_elim, lemmas.Bool.cases_lt, lemmas.Bool.false≢true}
 use Rattle.std.specs.Prelude.{All, Any, ℤ, pos, ◌-ℤ◌}
-use Rattle.apfloat_model.specs.Determined.{Determines, DeterminesBoth}
-use Rattle.apfloat_model.specs.declared.kinds.Round.{Round}
-use Rattle.apfloat_model.specs.formats.Datum.{Datum}
-use Rattle.apfloat_model.specs.formats.Format.{Format}
-use Rattle.apfloat_model.specs.rounding.Answer.{IsAnswer}
-use Rattle.apfloat_model.proofs.Once.{Once, answer_once}
-use Rattle.apfloat_model.proofs.arithmetic.Inverses.{logarithm_once}
+use Rattle.apfloat_model.specs.{Determined.Determines, Determined.DeterminesBoth, declared.kinds.Round.Round}
+use Rattle.apfloat_model.specs.{formats.Datum.Datum, formats.Format.Format, rounding.Answer.IsAnswer}
+use Rattle.apfloat_model.proofs.{Once.Once, Once.answer_once, arithmetic.Inverses.logarithm_once}
 use Rattle.apfloat_model.proofs.general.Choices.{match_case, match_one}
 use Rattle.apfloat_arithmetic.specs.other_formats.FormatOf.{IsProductTo}
 use Rattle.apfloat_arithmetic.proofs.other_formats_lemmas.Once.{has_one_product}
 use Rattle.small_formats.specs.Scales.{nan_code, scale_format, scale_of}
-use Rattle.small_formats.specs.declared.blocks.counts.Counts.{Counts}
-use Rattle.small_formats.specs.declared.blocks.elements.ElementFormat.{ElementFormat}
+use Rattle.small_formats.specs.declared.blocks.{counts.Counts.Counts, elements.ElementFormat.ElementFormat}
+use Rattle.small_formats.specs.declared.blocks.{mx.Block.Block, mx_scales.ScaleRule.ScaleRule}
 use Rattle.small_formats.specs.declared.blocks.errors.BlockError.{BlockError}
 use Rattle.small_formats.specs.declared.blocks.errors.BlockError.TheVariants.{Empty, Lengths, CodeTooWide}
-use Rattle.small_formats.specs.declared.blocks.mx.Block.{Block}
-use Rattle.small_formats.specs.declared.blocks.mx_scales.ScaleRule.{ScaleRule}
 use Rattle.small_formats.specs.declared.blocks.mx_scales.ScaleRule.TheVariants.{Floor, Ceil, Even}
+use Rattle.small_formats.specs.blocks.{Magnitudes.are_finite, Magnitudes.greatest_magnitude, MxBlocks.IsBlockBy}
+use Rattle.small_formats.specs.blocks.{MxScales.clips, MxScales.outgrows, Places.AreCounted}
 use Rattle.small_formats.specs.blocks.Elements.{IsQuotientBy, element_datum, format_of_element, max_exp}
 use Rattle.small_formats.specs.blocks.Laws.{IsDequantizedOnce, IsQuantizedOnce}
-use Rattle.small_formats.specs.blocks.Magnitudes.{are_finite, greatest_magnitude}
-use Rattle.small_formats.specs.blocks.MxBlocks.{IsBlockBy, IsBlockOfNan, IsBlockOfNumbers, IsDequantized}
-use Rattle.small_formats.specs.blocks.MxBlocks.{IsQuantizedBy, IsScaled}
-use Rattle.small_formats.specs.blocks.MxScales.{IsBlockScale, IsLeastScale, IsScaleBy, IsScaleOfNumber}
-use Rattle.small_formats.specs.blocks.MxScales.{clamped_code, clips, outgrows}
-use Rattle.small_formats.specs.blocks.Places.{AreCounted}
-use Rattle.small_formats.proofs.blocks_lemmas.ElementsOnce.{quotient_by_once}
-use Rattle.small_formats.proofs.blocks_lemmas.PlacesOnce.{counted_once}
+use Rattle.small_formats.specs.blocks.MxBlocks.{IsBlockOfNan, IsBlockOfNumbers, IsDequantized, IsQuantizedBy, IsScaled}
+use Rattle.small_formats.specs.blocks.MxScales.{IsBlockScale, IsLeastScale, IsScaleBy, IsScaleOfNumber, clamped_code}
+use Rattle.small_formats.proofs.blocks_lemmas.{ElementsOnce.quotient_by_once, PlacesOnce.counted_once}
 
 -- ---- into a block
 

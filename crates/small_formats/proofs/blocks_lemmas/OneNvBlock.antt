@@ -1,29 +1,23 @@
 -- Blocks of NVFP4 have one answer.
-use Rattle.std.proofs.Common.{◌≡◌, ◌⊎◌, ℕ, ◌+◌, ◌*◌, ◌^◌, ◌<◌, max, Bool, true, false, eqb, leb, List, length, sym, ap, ◌∙◌}
-use Rattle.std.proofs.Common.{subst, inl, inr, arith, Ok, Err}
+use Rattle.std.proofs.Common.{◌≡◌, ◌⊎◌, ℕ, ◌+◌, ◌*◌, ◌^◌, ◌<◌, max, Bool, true, false}
+use Rattle.std.proofs.Common.{eqb, leb, List, length, sym, ap, ◌∙◌, subst, inl, inr, arith, Ok, Err}
 use Rattle.std.specs.Bool.{MatchBool}
-use Rattle.apfloat_model.specs.Determined.{Determines, DeterminesBoth}
-use Rattle.apfloat_model.specs.declared.kinds.Round.{Round}
-use Rattle.apfloat_model.specs.formats.Datum.{Datum, finite}
-use Rattle.apfloat_model.specs.formats.Format.{Format}
-use Rattle.apfloat_model.specs.rounding.Answer.{IsAnswer}
-use Rattle.apfloat_model.specs.rounding.Rounding.{IsDelivered}
-use Rattle.apfloat_model.proofs.Once.{Once, answer_once}
-use Rattle.apfloat_model.proofs.general.Choices.{match_case, match_one}
-use Rattle.apfloat_model.proofs.rounding.Laws.{delivered_once}
-use Rattle.apfloat_model.proofs.rounding.Picks.{pick_unique}
+use Rattle.apfloat_model.specs.{Determined.Determines, Determined.DeterminesBoth, declared.kinds.Round.Round}
+use Rattle.apfloat_model.specs.formats.{Datum.Datum, Datum.finite, Format.Format}
+use Rattle.apfloat_model.specs.rounding.{Answer.IsAnswer, Rounding.IsDelivered}
+use Rattle.apfloat_model.proofs.{Once.Once, Once.answer_once, general.Choices.match_case, general.Choices.match_one}
+use Rattle.apfloat_model.proofs.rounding.{Laws.delivered_once, Picks.pick_unique}
 use Rattle.small_formats.specs.Conversions.{saturated_value}
 use Rattle.small_formats.specs.declared.blocks.elements.ElementFormat.TheVariants.{E2M1FN, E4M3FN}
-use Rattle.small_formats.specs.declared.blocks.nvfp4_errors.Nvfp4Error.{Nvfp4Error}
-use Rattle.small_formats.specs.declared.blocks.nvfp4_errors.Nvfp4Error.TheVariants.{Empty, Lengths, TensorScale, BlockScale}
+use Rattle.small_formats.specs.declared.blocks.nvfp4_errors.Nvfp4Error.{Nvfp4Error, TheVariants.Empty}
+use Rattle.small_formats.specs.declared.blocks.nvfp4_errors.Nvfp4Error.TheVariants.{Lengths, TensorScale, BlockScale}
 use Rattle.small_formats.specs.blocks.Elements.{IsQuotientBy, element_datum}
 use Rattle.small_formats.specs.blocks.Laws.{IsNvDequantizedOnce, IsNvQuantizedOnce, IsTensorOnce}
-use Rattle.small_formats.specs.blocks.Magnitudes.{are_finite, greatest_magnitude}
-use Rattle.small_formats.specs.blocks.MxBlocks.{IsBlockOfNan}
-use Rattle.small_formats.specs.blocks.Nvfp4.{IsNvBlock, IsNvBlockOfNumbers, IsNvRead, IsNvScale, IsNvScaled, IsNvWritten}
-use Rattle.small_formats.specs.blocks.Nvfp4.{IsRefused, IsScaleIn, IsScaleOfSome, IsScaledTensor, IsTooWide, is_positive}
-use Rattle.small_formats.specs.blocks.Nvfp4.{nan_scale, scale_in, scale_quanta, single_format, unless_zero}
-use Rattle.small_formats.specs.blocks.Places.{AreCounted}
+use Rattle.small_formats.specs.blocks.{Magnitudes.are_finite, Magnitudes.greatest_magnitude, MxBlocks.IsBlockOfNan}
+use Rattle.small_formats.specs.blocks.Nvfp4.{IsNvBlock, IsNvBlockOfNumbers, IsNvRead, IsNvScale, IsNvScaled}
+use Rattle.small_formats.specs.blocks.Nvfp4.{IsNvWritten, IsRefused, IsScaleIn, IsScaleOfSome, IsScaledTensor}
+use Rattle.small_formats.specs.blocks.Nvfp4.{IsTooWide, is_positive, nan_scale, scale_in, scale_quanta, single_format}
+use Rattle.small_formats.specs.blocks.{Nvfp4.unless_zero, Places.AreCounted}
 use Rattle.small_formats.proofs.blocks_lemmas.ElementsOnce.{code_of_element_once, quotient_by_once}
 use Rattle.small_formats.proofs.blocks_lemmas.OneBlock.{nan_once, not_both, same_block}
 use Rattle.small_formats.proofs.blocks_lemmas.PlacesOnce.{counted_once}

@@ -1,14 +1,11 @@
 -- One more element is written in its place.
-use Rattle.std.proofs.Common.{◌≡◌, ℕ, zero, suc, ◌+◌, ◌-◌, ◌^◌, ◌<◌, ◌≤◌, Bool, true, false, cond, refl, sym, ap, ◌∙◌, subst}
-use Rattle.std.proofs.Common.{⊎_elim, arith, List, [], ◌∷◌, ◌++◌, length, Some}
+use Rattle.std.proofs.Common.{◌≡◌, ℕ, zero, suc, ◌+◌, ◌-◌, ◌^◌, ◌<◌, ◌≤◌, Bool, true, false, cond, refl, sym, ap, ◌∙◌}
+use Rattle.std.proofs.Common.{subst, ⊎_elim, arith, List, [], ◌∷◌, ◌++◌, length, Some}
+use Rattle.std.proofs.lemmas.{Bool.cases_lt, List.length_push, Option.slice_get_within}
 use Rattle.std.specs.Prelude.{slice_get, slice_set, unwrap_or}
-use Rattle.std.proofs.lemmas.Bool.{cases_lt}
-use Rattle.std.proofs.lemmas.List.{length_push}
-use Rattle.std.proofs.lemmas.Option.{slice_get_within}
 use Rattle.apfloat_model.proofs.general.ListLaws.{get_left, get_last}
-use Rattle.small_formats.specs.declared.blocks.counts.Counts.{Counts}
-use Rattle.small_formats.specs.blocks.Places.{AreCounted, BlockCountsHaveRoom, count_raised, counts_of, is_raised}
-use Rattle.small_formats.specs.blocks.Places.{with_status}
+use Rattle.small_formats.specs.{declared.blocks.counts.Counts.Counts, blocks.Places.AreCounted}
+use Rattle.small_formats.specs.blocks.Places.{BlockCountsHaveRoom, count_raised, counts_of, is_raised, with_status}
 
 -- ---- a write to a list
 

@@ -1,19 +1,11 @@
 -- Scales as numbers of bfloat.
-use Rattle.std.proofs.Common.{lit≤}
-use Rattle.std.proofs.Common.{Bool, eqb, refl, subst}
-use Rattle.std.proofs.Common.{◌≡◌, ℕ, ◌+◌, ◌-◌, ◌*◌, ◌^◌, ◌≤◌, false, sym, ap, ◌∙◌, arith}
+use Rattle.std.proofs.Common.{lit≤, Bool, eqb, refl, subst, ◌≡◌, ℕ, ◌+◌, ◌-◌, ◌*◌, ◌^◌, ◌≤◌, false, sym, ap, ◌∙◌, arith}
 use Rattle.std.proofs.Math.Nat.{mul-le-mul_right, pow-le-pow_right}
-use Rattle.std.proofs.lemmas.Nat.{pow-add, pow_pos}
-use Rattle.std.proofs.lemmas.Bool.{ne_eqb}
-use Rattle.apfloat_model.specs.arithmetic.Conversions.{IsExactlyConverted}
-use Rattle.apfloat_model.specs.formats.Datum.{Datum, finite}
-use Rattle.apfloat_model.specs.formats.Format.{Format}
+use Rattle.std.proofs.lemmas.{Nat.pow-add, Nat.pow_pos, Bool.ne_eqb}
+use Rattle.apfloat_model.specs.{arithmetic.Conversions.IsExactlyConverted, formats.Datum.Datum, formats.Datum.finite}
+use Rattle.apfloat_model.specs.formats.{Format.Format, Formats.bfloat_constants, Lawful.format_with, Members.IsFiniteOf}
+use Rattle.apfloat_model.proofs.{general.Powers.two_pos, rounding.FarMagnitudes.power_on_grid}
 use Rattle.small_formats.specs.Scales.{scale_format, scale_of}
-use Rattle.apfloat_model.specs.formats.Formats.{bfloat_constants}
-use Rattle.apfloat_model.specs.formats.Lawful.{format_with}
-use Rattle.apfloat_model.specs.formats.Members.{IsFiniteOf}
-use Rattle.apfloat_model.proofs.general.Powers.{two_pos}
-use Rattle.apfloat_model.proofs.rounding.FarMagnitudes.{power_on_grid}
 
 pub scale_quanta : (code : ℕ) → 2 ^ (code + 6) * 2 ^ 127 ≡ 2 ^ code * 2 ^ 133
 scale_quanta code =

@@ -1,22 +1,15 @@
 -- Products with a positive number, given in another format.
-use Rattle.std.proofs.Common.{◌≡◌, ℕ, ◌+◌, ◌*◌, ◌^◌, ◌<◌, Bool, false, eqb, sym, refl, ap, ◌∙◌, subst, arith, if◌then◌else◌}
-use Rattle.std.proofs.lemmas.Bool.{ne_eqb}
-use Rattle.std.proofs.lemmas.Nat.{pow-add, pow_pos}
-use Rattle.apfloat_model.specs.declared.kinds.Round.{Round}
-use Rattle.apfloat_model.specs.arithmetic.Exact.{product_sign}
-use Rattle.apfloat_model.specs.formats.Datum.{Datum}
-use Rattle.apfloat_model.specs.formats.Format.{Format}
-use Rattle.apfloat_model.specs.rounding.Outcome.{invalid, Yields}
-use Rattle.apfloat_arithmetic.specs.other_formats.Extended.{Extended, number, infinity, not_number}
-use Rattle.apfloat_arithmetic.specs.other_formats.FormatOf.{infinity_to, IsProductOf}
-use Rattle.apfloat_model.specs.formats.Datum.{finite}
-use Rattle.apfloat_model.specs.formats.Formats.{half_constants}
+use Rattle.std.proofs.Common.{◌≡◌, ℕ, ◌+◌, ◌*◌, ◌^◌, ◌<◌, Bool, false, eqb, sym, refl, ap}
+use Rattle.std.proofs.Common.{◌∙◌, subst, arith, if◌then◌else◌}
+use Rattle.std.proofs.lemmas.{Bool.ne_eqb, Nat.pow-add, Nat.pow_pos}
+use Rattle.apfloat_model.specs.{declared.kinds.Round.Round, arithmetic.Exact.product_sign}
+use Rattle.apfloat_model.specs.formats.{Datum.Datum, Datum.finite, Format.Format, Formats.half_constants}
 use Rattle.apfloat_model.specs.formats.Lawful.{format_with as library_format}
-use Rattle.apfloat_model.specs.order.Classes.{is_negative, quanta_of}
-use Rattle.apfloat_model.specs.order.Positive.{IsPositive}
+use Rattle.apfloat_model.specs.rounding.Outcome.{invalid, Yields}
+use Rattle.apfloat_model.specs.order.{Classes.is_negative, Classes.quanta_of, Positive.IsPositive}
 use Rattle.apfloat_model.proofs.general.Powers.{both_above_zero}
-use Rattle.apfloat_arithmetic.specs.other_formats.Extended.{seen}
-use Rattle.apfloat_arithmetic.specs.other_formats.FormatOf.{IsProductTo}
+use Rattle.apfloat_arithmetic.specs.other_formats.Extended.{Extended, number, infinity, not_number, seen}
+use Rattle.apfloat_arithmetic.specs.other_formats.FormatOf.{infinity_to, IsProductOf, IsProductTo}
 use Rattle.small_formats.specs.Codes.{datum_of, is_negative_code, magnitude_of, point}
 use Rattle.small_formats.specs.Storage.{StorageConstants, format_with as stored_format}
 use Rattle.small_formats.proofs.blocks_lemmas.SameFractions.{delivered_across}

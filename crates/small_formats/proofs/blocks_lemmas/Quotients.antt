@@ -1,15 +1,10 @@
 -- A quotient of the library as an element of a format of 8 bits: saturated, in any fraction that equals it.
-use Rattle.std.proofs.Common.{◌≡◌, ℕ, zero, suc, ◌+◌, ◌*◌, ◌^◌, ◌<◌, Bool, true, false, cond, eqb, ltb, refl, ap}
-use Rattle.std.proofs.Common.{◌∙◌, subst, arith, if◌then◌else◌}
-use Rattle.std.proofs.Math.Nat.{mul-pos}
-use Rattle.std.proofs.lemmas.Bool.{ne_eqb}
-use Rattle.std.proofs.lemmas.Nat.{pow_pos}
-use Rattle.apfloat_model.specs.declared.kinds.NonfiniteBehavior.{NonfiniteBehavior}
-use Rattle.apfloat_model.specs.declared.kinds.Round.{Round}
-use Rattle.apfloat_model.specs.arithmetic.Exact.{product_sign}
-use Rattle.apfloat_model.specs.arithmetic.Quotients.{div_by_zero_bit}
-use Rattle.apfloat_model.specs.formats.Constants.{infinity_of}
-use Rattle.apfloat_model.specs.formats.Datum.{Datum, finite, infinite, nan}
+use Rattle.std.proofs.Common.{◌≡◌, ℕ, zero, suc, ◌+◌, ◌*◌, ◌^◌, ◌<◌, Bool, true, false, cond}
+use Rattle.std.proofs.Common.{eqb, ltb, refl, ap, ◌∙◌, subst, arith, if◌then◌else◌}
+use Rattle.std.proofs.{Math.Nat.mul-pos, lemmas.Bool.ne_eqb, lemmas.Nat.pow_pos}
+use Rattle.apfloat_model.specs.declared.kinds.{NonfiniteBehavior.NonfiniteBehavior, Round.Round}
+use Rattle.apfloat_model.specs.arithmetic.{Exact.product_sign, Quotients.div_by_zero_bit}
+use Rattle.apfloat_model.specs.formats.{Constants.infinity_of, Datum.Datum, Datum.finite, Datum.infinite, Datum.nan}
 use Rattle.apfloat_model.specs.formats.Format.{Format, largest, nan_base}
 use Rattle.apfloat_model.specs.order.Classes.{is_finite, is_negative, quanta_of}
 use Rattle.apfloat_model.specs.rounding.Outcome.{settled, rounded, invalid, Yields}

@@ -1,12 +1,9 @@
 -- What is delivered for a fraction is delivered for an equal one.
 use Rattle.std.proofs.Common.{◌≡◌, ℕ, ◌+◌, ◌*◌, ◌<◌, Bool, ap, arith}
 use Rattle.std.proofs.Math.Nat.{mul-lt-mul_of_pos_right, lt_of_mul-lt-mul_right, eq_of_mul-eq-mul_right}
-use Rattle.apfloat_model.specs.declared.kinds.Round.{Round}
-use Rattle.apfloat_model.specs.formats.Datum.{Datum}
-use Rattle.apfloat_model.specs.formats.Format.{Format}
+use Rattle.apfloat_model.specs.{declared.kinds.Round.Round, formats.Datum.Datum, formats.Format.Format}
 use Rattle.apfloat_model.specs.rounding.Rounding.{IsDelivered}
-use Rattle.round_to_odd.proofs.SameDeliveries.{same_delivered}
-use Rattle.round_to_odd.proofs.Sides.{SameSides}
+use Rattle.round_to_odd.proofs.{SameDeliveries.same_delivered, Sides.SameSides}
 
 -- a / b and c / d are on the same side of every point
 pub same_fraction : (digits fine a b c d : ℕ) → 0 < b → 0 < d → a * d ≡ c * b

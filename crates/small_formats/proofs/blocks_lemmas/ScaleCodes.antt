@@ -1,11 +1,9 @@
 -- The scale of a block, from the binade of its greatest magnitude.
-use Rattle.std.proofs.Common.{◌≡◌, ℕ, ◌^◌, ◌≤◌, min, sym, arith}
-use Rattle.std.proofs.Common.{ℤ, pos, negsuc, w32, FitsSigned}
-use lib.IntN.{nat_abs}
-use Rattle.std.specs.Prelude.{◌≤ℤ◌}
+use Rattle.std.proofs.Common.{◌≡◌, ℕ, ◌^◌, ◌≤◌, min, sym, arith, ℤ, pos, negsuc, w32, FitsSigned}
 use Rattle.std.proofs.lemmas.Int.{ints}
-use Rattle.apfloat_model.specs.rounding.Bounds.{IsWithin}
-use Rattle.apfloat_model.specs.arithmetic.Exact.{up}
+use Rattle.std.specs.Prelude.{◌≤ℤ◌}
+use Rattle.apfloat_model.specs.{rounding.Bounds.IsWithin, arithmetic.Exact.up}
+use lib.IntN.{nat_abs}
 
 -- ---- clamping
 

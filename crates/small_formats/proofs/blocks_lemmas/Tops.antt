@@ -1,8 +1,7 @@
 -- Numbers with all digits set.
-use Rattle.std.proofs.Common.{◌≡◌, ℕ, ◌+◌, ◌-◌, ◌*◌, ◌^◌, ◌<◌, ◌≤◌, ap, ◌∙◌, ⊎_elim, arith}
-use Rattle.std.proofs.Math.Nat.{mul-le-mul_right, mul-le-mul_left, pow-le-pow_right}
-use Rattle.std.proofs.lemmas.Bool.{cases_lt}
-use Rattle.std.proofs.lemmas.Nat.{pow-add, pow_pos}
+use Rattle.std.proofs.Common.{◌≡◌, ℕ, ◌+◌, ◌-◌, ◌*◌, ◌^◌, ◌<◌, ◌≤◌, ap, ◌∙◌}
+use Rattle.std.proofs.{Common.⊎_elim, Common.arith, Math.Nat.mul-le-mul_right, Math.Nat.mul-le-mul_left}
+use Rattle.std.proofs.{Math.Nat.pow-le-pow_right, lemmas.Bool.cases_lt, lemmas.Nat.pow-add, lemmas.Nat.pow_pos}
 use Rattle.apfloat_model.proofs.general.Powers.{two_pos}
 
 -- (2 ^ p - 1) * 2 ^ s is at most (2 ^ P - 1) * 2 ^ S if it has no more digits and ends no higher

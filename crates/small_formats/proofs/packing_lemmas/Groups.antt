@@ -1,11 +1,8 @@
 -- The bytes and the codes of the groups so far, and one more group.
-use Rattle.std.proofs.Common.{◌≡◌, ℕ, ◌+◌, ◌*◌, ◌/◌, ◌%◌, ◌<◌, ◌≤◌, sym, ap}
-use Rattle.std.proofs.Common.{◌∙◌, arith, List, [], ◌∷◌}
-use Rattle.std.proofs.Common.{◌++◌, length, take, get_or, append_assoc}
+use Rattle.std.proofs.Common.{◌≡◌, ℕ, ◌+◌, ◌*◌, ◌/◌, ◌%◌, ◌<◌, ◌≤◌, sym, ap, ◌∙◌, arith, List, [], ◌∷◌, ◌++◌, length}
+use Rattle.std.proofs.{Common.take, Common.get_or, Common.append_assoc, Math.Nat.div-div-eq-div-mul}
+use Rattle.std.proofs.lemmas.{List.length-take-le, List.take_more, List.take_more_set, Nat.div-add-mod'}
 use Rattle.std.specs.Prelude.{slice_set}
-use Rattle.std.proofs.Math.Nat.{div-div-eq-div-mul}
-use Rattle.std.proofs.lemmas.List.{length-take-le, take_more, take_more_set}
-use Rattle.std.proofs.lemmas.Nat.{div-add-mod'}
 use Rattle.small_formats.specs.packing.Packed.{number_of_digits}
 use Rattle.small_formats.proofs.packing_lemmas.Digits.{groups_more}
 

@@ -1,10 +1,8 @@
 -- Codes are packed in one way.
+use Rattle.std.proofs.{Math.Nat.eq_of_mul-eq-mul_right, Math.Nat.mul-le-mul_left, lemmas.Bool.cases_lt}
 use Rattle.std.proofs.Common.{◌≡◌, ℕ, ◌+◌, ◌*◌, ◌^◌, ◌<◌, ◌≤◌, refl, sym, ap, ◌∙◌, ⊎_elim, arith, List, [], ◌∷◌, length}
 use Rattle.std.specs.Prelude.{All}
-use Rattle.std.proofs.Math.Nat.{eq_of_mul-eq-mul_right, mul-le-mul_left}
-use Rattle.std.proofs.lemmas.Bool.{cases_lt}
-use Rattle.small_formats.specs.packing.Laws.{ArePackedOnce}
-use Rattle.small_formats.specs.packing.Packed.{number_of_digits}
+use Rattle.small_formats.specs.packing.{Laws.ArePackedOnce, Packed.number_of_digits}
 use Rattle.small_formats.proofs.packing_lemmas.All.{all_first, all_rest}
 
 -- the lowest digit and the others are those of one number

@@ -2,14 +2,11 @@
 use Rattle.std.proofs.Common.{◌≡◌, ◌∙◌, ℕ, Bool, true, false, eqb, cond, refl, ap}
 use Rattle.apfloat_model.specs.declared.kinds.Category.{Category}
 use Rattle.apfloat_model.specs.declared.kinds.Category.TheVariants.{NaN, Infinity as InfiniteCategory, Zero, Normal}
-use Rattle.apfloat_model.specs.declared.kinds.Round.{Round}
-use Rattle.apfloat_model.specs.order.Classes.{category_of, is_negative}
-use Rattle.apfloat_model.specs.arithmetic.Conversions.{IsConversion}
-use Rattle.apfloat_model.specs.formats.Datum.{Datum, finite, infinite, nan}
-use Rattle.apfloat_model.specs.formats.Format.{Format, largest}
-use Rattle.small_formats.specs.declared.saturation.saturation.FiniteNan.{FiniteNan}
-use Rattle.small_formats.specs.declared.saturation.saturation.FiniteNan.TheVariants.{Kept, Largest}
-use Rattle.small_formats.specs.declared.saturation.saturation.ValueClass.{ValueClass}
+use Rattle.apfloat_model.specs.{declared.kinds.Round.Round, order.Classes.category_of, order.Classes.is_negative}
+use Rattle.apfloat_model.specs.{arithmetic.Conversions.IsConversion, formats.Datum.Datum}
+use Rattle.apfloat_model.specs.formats.{Datum.finite, Datum.infinite, Datum.nan, Format.Format, Format.largest}
+use Rattle.small_formats.specs.declared.saturation.saturation.FiniteNan.{FiniteNan, TheVariants.Kept}
+use Rattle.small_formats.specs.declared.saturation.saturation.{FiniteNan.TheVariants.Largest, ValueClass.ValueClass}
 use Rattle.small_formats.specs.declared.saturation.saturation.ValueClass.TheVariants.{Number, Infinity, NotANumber}
 use Rattle.small_formats.specs.saturation.Saturation.{IsFiniteConversion, class_of, saturated}
 

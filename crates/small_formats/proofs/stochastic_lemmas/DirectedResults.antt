@@ -1,14 +1,13 @@
 -- What a directed mode delivers for the neighbour that is picked is what the modes to nearest deliver for it, in a
 -- format without the flags of IEEE 754. Past the largest value they deliver alike only away from zero.
-use Rattle.std.proofs.Common.{◌≡◌, ℕ, ◌*◌, ◌<◌, ◌≤◌, Bool, true, false, cond, ◌||◌, ltb, eqb, refl, sym, ap}
-use Rattle.std.proofs.Common.{◌∙◌, ⊎_elim, arith}
+use Rattle.std.proofs.Common.{◌≡◌, ℕ, ◌*◌, ◌<◌, ◌≤◌, Bool, true, false, cond, ◌||◌, ltb, eqb}
+use Rattle.std.proofs.Common.{refl, sym, ap, ◌∙◌, ⊎_elim, arith}
 use Rattle.std.proofs.lemmas.Bool.{cases_lt, lt-ltb, le-ltb, false≢true}
-use Rattle.apfloat_model.specs.declared.kinds.Round.{Round}
-use Rattle.apfloat_model.specs.declared.kinds.Round.TheVariants.{NearestTiesToEven, TowardZero}
+use Rattle.apfloat_model.specs.declared.kinds.Round.{Round, TheVariants.NearestTiesToEven, TheVariants.TowardZero}
 use Rattle.apfloat_model.specs.formats.Format.{Format, largest, nan_base, smallest_normalized}
 use Rattle.apfloat_model.specs.formats.Datum.{Datum, finite}
-use Rattle.apfloat_model.specs.rounding.Rounding.{delivered_status, delivered_value, past_largest}
-use Rattle.apfloat_model.specs.rounding.Rounding.{leads_out, rounds_below_normal, signed_quanta, takes_above}
+use Rattle.apfloat_model.specs.rounding.Rounding.{delivered_status, delivered_value, past_largest, leads_out}
+use Rattle.apfloat_model.specs.rounding.Rounding.{rounds_below_normal, signed_quanta, takes_above}
 use Rattle.small_formats.specs.stochastic.Directions.{direction}
 
 pub takes_direction : (away negative odd : Bool) (x y : ℕ)

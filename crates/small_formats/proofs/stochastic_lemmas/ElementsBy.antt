@@ -1,28 +1,23 @@
 -- Conversions by the modes of conversions into `e3m4`, by way of the format with one bit of exponent more, and into
 -- `e4m3fn` without a sign.
-use Rattle.std.proofs.Common.{◌≡◌, ℕ, zero, suc, ◌*◌, ◌%◌, ◌^◌, ◌<◌, ◌≤◌, Bool, true, false, cond}
-use Rattle.std.proofs.Common.{eqb, ltb, sym, refl, ap, ◌∙◌, subst, ⊎_elim, arith, lit≤}
-use Rattle.std.proofs.Math.Nat.{le_of_mul-le-mul_right}
-use Rattle.std.proofs.lemmas.Bool.{cases_lt, eqb-true, false≢true, le-ltb, lt-ltb, ltb-true, ne_eqb, MatchBool-at_false}
-use Rattle.std.proofs.lemmas.Nat.{pow_pos}
-use Rattle.apfloat_model.specs.declared.kinds.Round.{Round}
-use Rattle.apfloat_model.specs.declared.kinds.Round.TheVariants.{NearestTiesToEven, TowardZero}
+use Rattle.std.proofs.Common.{◌≡◌, ℕ, zero, suc, ◌*◌, ◌%◌, ◌^◌, ◌<◌, ◌≤◌, Bool, true, false, cond, eqb, ltb, sym, refl}
+use Rattle.std.proofs.Common.{ap, ◌∙◌, subst, ⊎_elim, arith, lit≤}
+use Rattle.std.proofs.{Math.Nat.le_of_mul-le-mul_right, lemmas.Bool.MatchBool-at_false, lemmas.Nat.pow_pos}
+use Rattle.std.proofs.lemmas.Bool.{cases_lt, eqb-true, false≢true, le-ltb, lt-ltb, ltb-true, ne_eqb}
+use Rattle.apfloat_model.specs.declared.kinds.Round.{Round, TheVariants.NearestTiesToEven, TheVariants.TowardZero}
 use Rattle.apfloat_model.specs.arithmetic.Conversions.{IsConversion}
-use Rattle.apfloat_model.specs.formats.Datum.{Datum, finite, infinite, nan}
-use Rattle.apfloat_model.specs.formats.Format.{Format}
+use Rattle.apfloat_model.specs.formats.{Datum.Datum, Datum.finite, Datum.infinite, Datum.nan, Format.Format}
 use Rattle.apfloat_model.specs.order.Classes.{is_finite, is_negative, quanta_of}
 use Rattle.apfloat_model.specs.rounding.Grid.{IsAbove, IsBelow, IsOnGrid}
 use Rattle.apfloat_model.specs.rounding.Rounding.{delivered_status, delivered_value, leads_out}
 use Rattle.round_to_odd.specs.Odd.{is_odd_below, odd_between}
+use Rattle.small_formats.specs.{Float8E3M4.e3m4_format, Float8E3M4.wide_format, Modes.ieee_mode}
 use Rattle.small_formats.specs.declared.modes.ConversionRound.{ConversionRound}
 use Rattle.small_formats.specs.declared.modes.ConversionRound.TheVariants.{Ieee, Stochastic, ToOdd}
-use Rattle.small_formats.specs.Float8E3M4.{e3m4_format, wide_format}
-use Rattle.small_formats.specs.Modes.{ieee_mode}
+use Rattle.small_formats.specs.stochastic.ModeConversions.{IsConversionBy, IsDeliveredBy, IsNumberBy}
+use Rattle.small_formats.proofs.{stochastic_lemmas.NumbersBy.number_by, ScaleModes.some_quanta}
 use Rattle.small_formats.proofs.NarrowCodes.{IsSided, lost_past, narrow_delivered, past_narrow, picked_quanta}
 use Rattle.small_formats.proofs.NarrowCodes.{quanta_finite, within_both, within_converted, past_converted}
-use Rattle.small_formats.specs.stochastic.ModeConversions.{IsConversionBy, IsDeliveredBy, IsNumberBy}
-use Rattle.small_formats.proofs.stochastic_lemmas.NumbersBy.{number_by}
-use Rattle.small_formats.proofs.ScaleModes.{some_quanta}
 
 -- ---- what is not rounded
 

@@ -2,11 +2,9 @@
 use Rattle.std.proofs.Common.{true, false}
 use Rattle.apfloat_model.specs.formats.Datum.{finite, infinite, nan}
 use Rattle.small_formats.specs.Float8E3M4.{e3m4_datum, e3m4_format}
-use Rattle.small_formats.specs.Modes.{ieee_mode}
-use Rattle.small_formats.specs.Unsigned.{signed_format, unsigned_datum}
-use Rattle.small_formats.proofs.NarrowCodes.{e3m4_code_once}
-use Rattle.small_formats.proofs.OneAnswer.{unsigned_code_once, unsigned_once}
+use Rattle.small_formats.specs.{Modes.ieee_mode, Unsigned.signed_format, Unsigned.unsigned_datum}
 use Rattle.small_formats.specs.stochastic.ElementConversions.{IsE3M4ByOnce, IsUnsignedByOnce}
+use Rattle.small_formats.proofs.{NarrowCodes.e3m4_code_once, OneAnswer.unsigned_code_once, OneAnswer.unsigned_once}
 use Rattle.small_formats.proofs.stochastic_lemmas.OneAnswer.{conversion_once}
 
 pub e3m4_by_once : IsE3M4ByOnce

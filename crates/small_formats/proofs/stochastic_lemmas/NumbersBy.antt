@@ -1,29 +1,23 @@
 -- What a conversion in a picked direction is, in the modes of conversions.
 use Rattle.std.proofs.Common.{◌≡◌, ℕ, zero, suc, ◌*◌, ◌^◌, ◌<◌, ◌≤◌, Bool, false, cond, eqb}
 use Rattle.std.proofs.Common.{not, sym, refl, ap, ◌∙◌, arith, ◌-◌, ◌/◌, ◌%◌}
-use Rattle.std.proofs.Math.Nat.{le_of_mul-le-mul_right}
-use Rattle.std.proofs.lemmas.Bool.{MatchBool-at_false}
-use Rattle.std.proofs.lemmas.Nat.{pow_pos}
-use Rattle.apfloat_model.specs.declared.kinds.Category.TheVariants.{Normal}
-use Rattle.apfloat_model.specs.declared.kinds.Round.{Round}
-use Rattle.apfloat_model.specs.arithmetic.Conversions.{IsConversion, IsConvertedNumber}
-use Rattle.apfloat_model.specs.formats.Datum.{Datum, finite, infinite, nan}
-use Rattle.apfloat_model.specs.formats.Format.{Format}
-use Rattle.apfloat_model.specs.order.Classes.{category_of, is_negative, quanta_of}
-use Rattle.apfloat_model.specs.declared.kinds.Round.TheVariants.{TowardZero}
+use Rattle.std.proofs.{Math.Nat.le_of_mul-le-mul_right, lemmas.Bool.MatchBool-at_false, lemmas.Nat.pow_pos}
+use Rattle.apfloat_model.specs.declared.kinds.{Category.TheVariants.Normal, Round.Round, Round.TheVariants.TowardZero}
 use Rattle.apfloat_model.specs.declared.status.StatusAnd.{StatusAnd}
+use Rattle.apfloat_model.specs.arithmetic.Conversions.{IsConversion, IsConvertedNumber}
+use Rattle.apfloat_model.specs.formats.{Datum.Datum, Datum.finite, Datum.infinite, Datum.nan, Format.Format}
+use Rattle.apfloat_model.specs.order.Classes.{category_of, is_negative, quanta_of}
 use Rattle.apfloat_model.specs.rounding.Flags.{Gives, bits_of}
 use Rattle.apfloat_model.specs.rounding.Rounding.{IsDelivered, delivered_status, delivered_value, ok_bits}
 use Rattle.apfloat_model.proofs.rounding.Neighbours.{below_unique, above_unique}
-use Rattle.round_to_odd.specs.Odd.{IsToOdd}
 use Rattle.apfloat_model.proofs.general.Choices.{match_false}
-use Rattle.small_formats.specs.declared.modes.ConversionRound.{ConversionRound}
-use Rattle.small_formats.specs.declared.modes.ConversionRound.TheVariants.{Stochastic, ToOdd}
-use Rattle.small_formats.specs.declared.modes.RandomDigits.{RandomDigits}
-use Rattle.small_formats.proofs.stochastic_lemmas.DirectedResults.{status_in_direction, takes_direction, value_in_direction}
-use Rattle.small_formats.proofs.ScaleModes.{some_quanta}
+use Rattle.round_to_odd.specs.Odd.{IsToOdd}
+use Rattle.small_formats.specs.declared.modes.ConversionRound.{ConversionRound, TheVariants.Stochastic}
+use Rattle.small_formats.specs.declared.modes.{ConversionRound.TheVariants.ToOdd, RandomDigits.RandomDigits}
 use Rattle.small_formats.specs.stochastic.Directions.{IsDirection, direction, reaches}
 use Rattle.small_formats.specs.stochastic.ModeConversions.{IsConversionBy, IsNumberBy, IsRandomlyDelivered}
+use Rattle.small_formats.proofs.stochastic_lemmas.DirectedResults.{status_in_direction, takes_direction}
+use Rattle.small_formats.proofs.{stochastic_lemmas.DirectedResults.value_in_direction, ScaleModes.some_quanta}
 
 pub converted_number : (f g : Format) (mode : Round) (b : Bool) (n : ℕ) (value : Datum) (status : ℕ) (loses : Bool)
     → IsConversion f g mode (finite b (suc n)) value status loses

@@ -3,12 +3,10 @@ use Rattle.std.proofs.Common.{◌≡◌, ℕ, zero, suc, ◌*◌, ◌^◌, Bool,
 use Rattle.std.proofs.lemmas.Bool.{MatchBool-at_false}
 use Rattle.apfloat_model.specs.declared.kinds.Round.TheVariants.{NearestTiesToEven, TowardZero}
 use Rattle.apfloat_model.specs.arithmetic.Conversions.{IsConvertedNumber}
-use Rattle.apfloat_model.specs.formats.Datum.{Datum, finite, infinite, nan}
-use Rattle.apfloat_model.specs.formats.Format.{Format}
+use Rattle.apfloat_model.specs.formats.{Datum.Datum, Datum.finite, Datum.infinite, Datum.nan, Format.Format}
 use Rattle.apfloat_model.specs.rounding.Rounding.{delivered_status, delivered_value, ok_bits}
 use Rattle.apfloat_model.proofs.Once.{conversion_once as model_once}
-use Rattle.apfloat_model.proofs.general.Choices.{match_false}
-use Rattle.apfloat_model.proofs.rounding.Laws.{delivered_once}
+use Rattle.apfloat_model.proofs.{general.Choices.match_false, rounding.Laws.delivered_once}
 use Rattle.apfloat_model.proofs.rounding.Neighbours.{below_unique, above_unique}
 use Rattle.round_to_odd.specs.Odd.{odd_between}
 use Rattle.small_formats.specs.declared.modes.ConversionRound.{ConversionRound}

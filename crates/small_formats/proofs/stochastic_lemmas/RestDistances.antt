@@ -1,11 +1,9 @@
 -- The rest that a cut leaves, as the distance of the magnitude from the neighbour below it.
-use Rattle.std.proofs.Common.{◌≡◌, ℕ, ◌+◌, ◌-◌, ◌*◌, ◌/◌, ◌%◌, ◌^◌, ◌<◌, ◌≤◌, Bool, ◌||◌, leb, ltb, sym, ap, ◌∙◌}
-use Rattle.std.proofs.Common.{⊎_elim, arith}
+use Rattle.std.proofs.Common.{◌≡◌, ℕ, ◌+◌, ◌-◌, ◌*◌, ◌/◌, ◌%◌, ◌^◌, ◌<◌, ◌≤◌}
+use Rattle.std.proofs.Common.{Bool, ◌||◌, leb, ltb, sym, ap, ◌∙◌, ⊎_elim, arith}
 use Rattle.std.proofs.Math.Nat.{eq_of_mul-eq-mul_right, mul-div-mul_right, mul-pos, zero-div}
-use Rattle.std.proofs.lemmas.Bool.{cases_lt}
-use Rattle.std.proofs.lemmas.Nat.{div-add-mod', pow_pos}
-use Rattle.apfloat_model.specs.formats.Format.{Format, largest}
-use Rattle.apfloat_model.specs.rounding.Enclosure.{IsEnclosed}
+use Rattle.std.proofs.lemmas.{Bool.cases_lt, Nat.div-add-mod', Nat.pow_pos}
+use Rattle.apfloat_model.specs.{formats.Format.Format, formats.Format.largest, rounding.Enclosure.IsEnclosed}
 use Rattle.apfloat_model.proofs.rounding.KeptDigits.{same_unit}
 use Rattle.apfloat_model.proofs.rounding.Neighbours.{above_is_next, above_is_same, below_is}
 use Rattle.small_formats.specs.stochastic.Directions.{IsDirection, reaches}

@@ -1,8 +1,7 @@
 -- Conversions by the modes of conversions into `e4m3fn` without a sign.
 use Rattle.std.proofs.Common.{◌≡◌, ℕ, zero, suc, Bool, true, false, eqb, ltb, sym, ap, ◌∙◌}
 use Rattle.std.proofs.lemmas.Bool.{false≢true, MatchBool-at_false}
-use Rattle.apfloat_model.specs.declared.kinds.Round.{Round}
-use Rattle.apfloat_model.specs.declared.kinds.Round.TheVariants.{NearestTiesToEven, TowardZero}
+use Rattle.apfloat_model.specs.declared.kinds.Round.{Round, TheVariants.NearestTiesToEven, TheVariants.TowardZero}
 use Rattle.apfloat_model.specs.formats.Datum.{Datum, finite, infinite, nan}
 use Rattle.apfloat_model.specs.formats.Format.{Format, largest, nan_base}
 use Rattle.apfloat_model.specs.order.Classes.{is_finite, is_negative}
@@ -10,12 +9,10 @@ use Rattle.apfloat_model.specs.rounding.Rounding.{delivered_value, leads_out}
 use Rattle.round_to_odd.specs.Odd.{odd_between}
 use Rattle.small_formats.specs.declared.modes.ConversionRound.{ConversionRound}
 use Rattle.small_formats.specs.declared.modes.ConversionRound.TheVariants.{Ieee, Stochastic, ToOdd}
-use Rattle.small_formats.specs.Modes.{ieee_mode}
-use Rattle.small_formats.specs.Unsigned.{IsUnsigned, signed_format}
-use Rattle.small_formats.proofs.UnsignedSigns.{kept_sign}
-use Rattle.small_formats.proofs.ScaleModes.{some_quanta}
+use Rattle.small_formats.specs.{Modes.ieee_mode, Unsigned.IsUnsigned, Unsigned.signed_format}
 use Rattle.small_formats.specs.stochastic.ElementConversions.{IsUnsignedBy}
 use Rattle.small_formats.specs.stochastic.ModeConversions.{IsConversionBy, IsDeliveredBy, IsNumberBy}
+use Rattle.small_formats.proofs.{UnsignedSigns.kept_sign, ScaleModes.some_quanta}
 
 -- ---- what is not rounded, and what is below zero
 

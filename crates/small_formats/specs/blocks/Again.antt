@@ -1,23 +1,15 @@
 -- Blocks that are dequantized exactly, and quantized again.
 use Rattle.std.specs.Prelude.{◌≡◌, ◌⊎◌, ℕ, ◌+◌, ◌*◌, ◌^◌, ◌<◌, ◌≤◌, Bool, true, List, map, All, Ok, ⊤}
-use Rattle.apfloat_model.specs.declared.kinds.Round.{Round}
-use Rattle.apfloat_model.specs.formats.Datum.{Datum, finite}
-use Rattle.apfloat_model.specs.formats.Format.{Format}
-use Rattle.apfloat_model.specs.formats.Formats.{single_constants}
-use Rattle.apfloat_model.specs.formats.Lawful.{format_with}
-use Rattle.apfloat_model.specs.formats.Members.{IsMember}
-use Rattle.apfloat_model.specs.order.Classes.{is_finite}
-use Rattle.apfloat_model.specs.rounding.Rounding.{ok_bits}
+use Rattle.apfloat_model.specs.{declared.kinds.Round.Round, formats.Datum.Datum, formats.Datum.finite}
+use Rattle.apfloat_model.specs.{order.Classes.is_finite, rounding.Rounding.ok_bits}
+use Rattle.apfloat_model.specs.formats.{Format.Format, Formats.single_constants, Lawful.format_with, Members.IsMember}
 use Rattle.small_formats.specs.Scales.{nan_code}
-use Rattle.small_formats.specs.declared.blocks.counts.Counts.{Counts}
-use Rattle.small_formats.specs.declared.blocks.elements.ElementFormat.{ElementFormat}
+use Rattle.small_formats.specs.declared.blocks.{counts.Counts.Counts, elements.ElementFormat.ElementFormat}
 use Rattle.small_formats.specs.declared.blocks.elements.ElementFormat.TheVariants.{E5M2, E4M3FN, E3M2FN, E2M3FN, E2M1FN}
 use Rattle.small_formats.specs.declared.blocks.mx.Block.{Block}
+use Rattle.small_formats.specs.blocks.{Laws.IsExactInto, Laws.IsExactlyScaled, Magnitudes.greatest_magnitude}
+use Rattle.small_formats.specs.blocks.{MxBlocks.IsDequantized, MxBlocks.IsQuantized, Places.AreCounted}
 use Rattle.small_formats.specs.blocks.Elements.{element_datum, format_of_element, max_exp, width}
-use Rattle.small_formats.specs.blocks.Laws.{IsExactInto, IsExactlyScaled}
-use Rattle.small_formats.specs.blocks.Magnitudes.{greatest_magnitude}
-use Rattle.small_formats.specs.blocks.MxBlocks.{IsDequantized, IsQuantized}
-use Rattle.small_formats.specs.blocks.Places.{AreCounted}
 
 -- each value is its element times the scale, and no flag is raised
 abbrev pub AreExactlyScaled : ElementFormat → Format → ℕ → List ℕ → List Datum → Counts → Type 0

@@ -2,16 +2,11 @@
 use Rattle.std.specs.Prelude.{◌≡◌, ℕ, ◌*◌, ◌^◌, ◌<◌, Bool, pos, neg_ℤ}
 use Rattle.apfloat_model.specs.declared.kinds.Round.{Round}
 use Rattle.apfloat_model.specs.bits.Layout.{datum_of as bits_datum}
-use Rattle.apfloat_model.specs.formats.Datum.{Datum}
-use Rattle.apfloat_model.specs.formats.Format.{Format}
-use Rattle.apfloat_model.specs.formats.Formats.{e4m3fn_constants, e5m2_constants}
-use Rattle.apfloat_model.specs.formats.Lawful.{format_with, layout_with}
-use Rattle.apfloat_model.specs.order.Classes.{is_negative, quanta_of}
-use Rattle.apfloat_model.specs.rounding.Rounding.{IsPick, delivered_status}
-use Rattle.small_formats.specs.Codes.{datum_of}
-use Rattle.small_formats.specs.Conversions.{saturated_value}
-use Rattle.small_formats.specs.Storage.{constants_with}
-use Rattle.small_formats.specs.Storage.{StorageConstants as Stored, format_with as stored_format}
+use Rattle.apfloat_model.specs.formats.{Datum.Datum, Format.Format, Formats.e4m3fn_constants, Formats.e5m2_constants}
+use Rattle.apfloat_model.specs.{formats.Lawful.format_with, formats.Lawful.layout_with, order.Classes.is_negative}
+use Rattle.apfloat_model.specs.{order.Classes.quanta_of, rounding.Rounding.IsPick, rounding.Rounding.delivered_status}
+use Rattle.small_formats.specs.{Codes.datum_of, Conversions.saturated_value}
+use Rattle.small_formats.specs.Storage.{constants_with, StorageConstants as Stored, format_with as stored_format}
 use Rattle.small_formats.specs.declared.blocks.elements.ElementFormat.{ElementFormat}
 use Rattle.small_formats.specs.declared.blocks.elements.ElementFormat.TheVariants.{E5M2, E4M3FN, E3M2FN, E2M3FN, E2M1FN}
 

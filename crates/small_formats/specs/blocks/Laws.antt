@@ -1,18 +1,12 @@
 -- Theorems about blocks.
 use Rattle.std.specs.Prelude.{◌≡◌, ℕ, ◌+◌, ◌*◌, ◌^◌, ◌<◌, ◌≤◌, Bool, true, List, Result}
-use Rattle.apfloat_model.specs.Determined.{Determines, DeterminesBoth}
-use Rattle.apfloat_model.specs.declared.kinds.Round.{Round}
-use Rattle.apfloat_model.specs.formats.Datum.{Datum, finite}
-use Rattle.apfloat_model.specs.formats.Format.{Format}
+use Rattle.apfloat_model.specs.{Determined.Determines, Determined.DeterminesBoth, declared.kinds.Round.Round}
+use Rattle.apfloat_model.specs.formats.{Datum.Datum, Datum.finite, Format.Format}
 use Rattle.apfloat_model.specs.formats.Formats.{bfloat_constants, double_constants, single_constants}
-use Rattle.apfloat_model.specs.formats.Lawful.{format_with}
-use Rattle.apfloat_model.specs.order.Classes.{is_finite}
-use Rattle.apfloat_model.specs.rounding.Rounding.{ok_bits}
+use Rattle.apfloat_model.specs.{formats.Lawful.format_with, order.Classes.is_finite, rounding.Rounding.ok_bits}
 use Rattle.small_formats.specs.Scales.{largest_code, nan_code, scale_format}
-use Rattle.small_formats.specs.declared.blocks.counts.Counts.{Counts}
-use Rattle.small_formats.specs.declared.blocks.elements.ElementFormat.{ElementFormat}
-use Rattle.small_formats.specs.declared.blocks.errors.BlockError.{BlockError}
-use Rattle.small_formats.specs.declared.blocks.mx.Block.{Block}
+use Rattle.small_formats.specs.declared.blocks.{counts.Counts.Counts, elements.ElementFormat.ElementFormat}
+use Rattle.small_formats.specs.declared.blocks.{errors.BlockError.BlockError, mx.Block.Block}
 use Rattle.small_formats.specs.declared.blocks.mx_scales.ScaleRule.{ScaleRule}
 use Rattle.small_formats.specs.blocks.Elements.{element_datum, format_of_element, max_exp, width}
 use Rattle.small_formats.specs.blocks.MxBlocks.{IsDequantized, IsQuantizedBy, IsScaled}

@@ -1,7 +1,6 @@
 -- The magnitudes of a block.
 use Rattle.std.specs.Prelude.{ℕ, max, Bool, true, ◌&&◌, List, [], ◌∷◌}
-use Rattle.apfloat_model.specs.formats.Datum.{Datum}
-use Rattle.apfloat_model.specs.order.Classes.{is_finite, quanta_of}
+use Rattle.apfloat_model.specs.{formats.Datum.Datum, order.Classes.is_finite, order.Classes.quanta_of}
 
 abbrev pub are_finite : List Datum → Bool
 are_finite [] = true

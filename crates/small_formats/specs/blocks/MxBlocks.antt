@@ -1,26 +1,17 @@
 -- Blocks of the OCP's microscaling formats: elements of one format, and one scale for all of them.
-use Rattle.std.specs.Prelude.{◌≡◌, ◌≢◌, ℕ, ◌^◌, ◌<◌, ◌≤◌, true, false, eqb, List, length, replicate}
-use Rattle.std.specs.Prelude.{Result, Ok, Err, All, Any}
-use Rattle.std.specs.Bool.{MatchBool}
-use Rattle.apfloat_model.specs.declared.kinds.Round.{Round}
-use Rattle.apfloat_model.specs.formats.Datum.{Datum}
-use Rattle.apfloat_model.specs.formats.Format.{Format}
-use Rattle.apfloat_model.specs.formats.Nan.{qnan}
-use Rattle.apfloat_model.specs.rounding.Answer.{IsAnswer}
-use Rattle.apfloat_model.specs.rounding.Rounding.{ok_bits}
+use Rattle.std.specs.Prelude.{◌≡◌, ◌≢◌, ℕ, ◌^◌, ◌<◌, ◌≤◌, true, false, eqb, List, length, replicate, Result, Ok, Err}
+use Rattle.std.specs.{Prelude.All, Prelude.Any, Bool.MatchBool}
+use Rattle.apfloat_model.specs.{declared.kinds.Round.Round, formats.Datum.Datum, formats.Format.Format}
+use Rattle.apfloat_model.specs.{formats.Nan.qnan, rounding.Answer.IsAnswer, rounding.Rounding.ok_bits}
 use Rattle.apfloat_arithmetic.specs.other_formats.FormatOf.{IsProductTo}
 use Rattle.small_formats.specs.Scales.{nan_code, scale_format, scale_of}
-use Rattle.small_formats.specs.declared.blocks.counts.Counts.{Counts}
-use Rattle.small_formats.specs.declared.blocks.elements.ElementFormat.{ElementFormat}
-use Rattle.small_formats.specs.declared.blocks.errors.BlockError.{BlockError}
-use Rattle.small_formats.specs.declared.blocks.errors.BlockError.TheVariants.{Empty, Lengths, CodeTooWide}
-use Rattle.small_formats.specs.declared.blocks.mx.Block.{Block}
-use Rattle.small_formats.specs.declared.blocks.mx_scales.ScaleRule.{ScaleRule}
-use Rattle.small_formats.specs.declared.blocks.mx_scales.ScaleRule.TheVariants.{Floor}
+use Rattle.small_formats.specs.declared.blocks.{counts.Counts.Counts, elements.ElementFormat.ElementFormat}
+use Rattle.small_formats.specs.declared.blocks.{errors.BlockError.TheVariants.CodeTooWide, mx.Block.Block}
+use Rattle.small_formats.specs.declared.blocks.errors.BlockError.{BlockError, TheVariants.Empty, TheVariants.Lengths}
+use Rattle.small_formats.specs.declared.blocks.mx_scales.ScaleRule.{ScaleRule, TheVariants.Floor}
+use Rattle.small_formats.specs.blocks.{MxScales.IsScaleBy, Places.AreCounted, Places.counts_of}
 use Rattle.small_formats.specs.blocks.Elements.{IsQuotientBy, element_datum, format_of_element, width}
 use Rattle.small_formats.specs.blocks.Magnitudes.{are_finite, greatest_magnitude}
-use Rattle.small_formats.specs.blocks.MxScales.{IsScaleBy}
-use Rattle.small_formats.specs.blocks.Places.{AreCounted, counts_of}
 
 -- ---- into a block
 

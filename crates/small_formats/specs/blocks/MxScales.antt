@@ -1,13 +1,12 @@
 -- The scale of a block (OCP Microscaling Formats 1.0, 6.3): the greatest exponent of the block less that of the largest
 -- number of the element format, clamped to the scales that there are.
-use Rattle.std.specs.Prelude.{◌≡◌, ◌⊎◌, ℕ, ◌+◌, ◌-◌, ◌*◌, ◌^◌, ◌<◌, ◌≤◌, Bool, true, false, min, eqb, leb, ltb, ℤ, pos, ◌+ℤ◌, ◌-ℤ◌}
+use Rattle.std.specs.Prelude.{◌≡◌, ◌⊎◌, ℕ, ◌+◌, ◌-◌, ◌*◌, ◌^◌, ◌<◌, ◌≤◌, Bool}
+use Rattle.std.specs.Prelude.{true, false, min, eqb, leb, ltb, ℤ, pos, ◌+ℤ◌, ◌-ℤ◌}
 use Rattle.std.specs.Bool.{MatchBool}
-use Rattle.apfloat_model.specs.arithmetic.Exact.{up}
-use Rattle.apfloat_model.specs.arithmetic.Exponents.{IsLogarithm}
+use Rattle.apfloat_model.specs.arithmetic.{Exact.up, Exponents.IsLogarithm}
 use Rattle.apfloat_model.specs.formats.Format.{Format, largest}
 use Rattle.small_formats.specs.Scales.{largest_code, scale_format}
-use Rattle.small_formats.specs.declared.blocks.elements.ElementFormat.{ElementFormat}
-use Rattle.small_formats.specs.declared.blocks.mx_scales.ScaleRule.{ScaleRule}
+use Rattle.small_formats.specs.declared.blocks.{elements.ElementFormat.ElementFormat, mx_scales.ScaleRule.ScaleRule}
 use Rattle.small_formats.specs.declared.blocks.mx_scales.ScaleRule.TheVariants.{Floor, Ceil, Even}
 use Rattle.small_formats.specs.blocks.Elements.{format_of_element, max_exp}
 

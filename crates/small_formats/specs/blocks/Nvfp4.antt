@@ -1,29 +1,20 @@
 -- Blocks of NVFP4: elements e2m1fn, a scale of e4m3fn for each block, and a single for the whole tensor.
-use Rattle.std.specs.Prelude.{if◌then◌else◌}
-use Rattle.std.specs.Prelude.{◌≡◌, ◌⊎◌, ℕ, ◌+◌, ◌*◌, ◌^◌, ◌<◌, ◌≤◌, Bool, true, false, not, ◌&&◌, eqb, leb, ltb, max}
-use Rattle.std.specs.Prelude.{List, length, All, Any, Result, Ok, Err}
-use Rattle.std.specs.Bool.{MatchBool}
-use Rattle.apfloat_model.specs.declared.kinds.Round.{Round}
-use Rattle.apfloat_model.specs.declared.kinds.Round.TheVariants.{NearestTiesToEven}
+use Rattle.std.specs.Prelude.{if◌then◌else◌, ◌≡◌, ◌⊎◌, ℕ, ◌+◌, ◌*◌, ◌^◌, ◌<◌}
+use Rattle.std.specs.Prelude.{◌≤◌, Bool, true, false, not, ◌&&◌, eqb, leb, ltb, max, List, length, All, Any}
+use Rattle.std.specs.{Prelude.Result, Prelude.Ok, Prelude.Err, Bool.MatchBool}
+use Rattle.apfloat_model.specs.declared.kinds.Round.{Round, TheVariants.NearestTiesToEven}
 use Rattle.apfloat_model.specs.formats.Datum.{Datum, finite, infinite, nan}
-use Rattle.apfloat_model.specs.formats.Format.{Format}
-use Rattle.apfloat_model.specs.formats.Formats.{single_constants}
-use Rattle.apfloat_model.specs.formats.Lawful.{format_with}
-use Rattle.apfloat_model.specs.formats.Nan.{qnan}
+use Rattle.apfloat_model.specs.formats.{Format.Format, Formats.single_constants, Lawful.format_with, Nan.qnan}
 use Rattle.apfloat_model.specs.order.Classes.{is_negative, is_zero, quanta_of}
-use Rattle.apfloat_model.specs.rounding.Answer.{IsAnswer}
-use Rattle.apfloat_model.specs.rounding.Rounding.{IsDelivered, IsPick, ok_bits}
-use Rattle.small_formats.specs.Conversions.{saturated_value}
-use Rattle.small_formats.specs.declared.blocks.counts.Counts.{Counts}
+use Rattle.apfloat_model.specs.rounding.{Answer.IsAnswer, Rounding.IsDelivered, Rounding.IsPick, Rounding.ok_bits}
+use Rattle.small_formats.specs.{Conversions.saturated_value, declared.blocks.counts.Counts.Counts}
 use Rattle.small_formats.specs.declared.blocks.elements.ElementFormat.TheVariants.{E2M1FN, E4M3FN}
 use Rattle.small_formats.specs.declared.blocks.nvfp4_errors.Nvfp4Error.{Nvfp4Error}
-use Rattle.small_formats.specs.declared.blocks.nvfp4_errors.Nvfp4Error.TheVariants.{Empty, Lengths, TensorScale, BlockScale}
-use Rattle.small_formats.specs.declared.blocks.nvfp4_errors.Nvfp4Error.TheVariants.{CodeTooWide, NotFinite}
-use Rattle.small_formats.specs.declared.blocks.mx.Block.{Block}
-use Rattle.small_formats.specs.blocks.Elements.{IsQuotientBy, element_datum, format_of_element}
-use Rattle.small_formats.specs.blocks.Magnitudes.{are_finite, greatest_magnitude}
-use Rattle.small_formats.specs.blocks.MxBlocks.{IsBlockOfNan}
-use Rattle.small_formats.specs.blocks.Places.{AreCounted}
+use Rattle.small_formats.specs.declared.blocks.nvfp4_errors.Nvfp4Error.TheVariants.{Empty, Lengths, TensorScale}
+use Rattle.small_formats.specs.declared.blocks.nvfp4_errors.Nvfp4Error.TheVariants.{BlockScale, CodeTooWide, NotFinite}
+use Rattle.small_formats.specs.{declared.blocks.mx.Block.Block, blocks.Elements.IsQuotientBy}
+use Rattle.small_formats.specs.blocks.{Elements.element_datum, Elements.format_of_element, Magnitudes.are_finite}
+use Rattle.small_formats.specs.blocks.{Magnitudes.greatest_magnitude, MxBlocks.IsBlockOfNan, Places.AreCounted}
 
 abbrev pub single_format : Format
 single_format = format_with single_constants

@@ -1,7 +1,6 @@
 -- What holds of each element of a block.
-use Rattle.std.specs.Prelude.{if◌then◌else◌}
-use Rattle.std.specs.Prelude.{◌≡◌, ℕ, ◌+◌, ◌-◌, ◌^◌, ◌<◌, not, ◌==◌, bit_and, Bool, List, length, slice_get, Some}
-use Rattle.std.specs.Prelude.{[], ◌∷◌}
+use Rattle.std.specs.Prelude.{if◌then◌else◌, ◌≡◌, ℕ, ◌+◌, ◌-◌, ◌^◌, ◌<◌, not, ◌==◌}
+use Rattle.std.specs.Prelude.{bit_and, Bool, List, length, slice_get, Some, [], ◌∷◌}
 use Rattle.small_formats.specs.declared.blocks.counts.Counts.{Counts}
 
 -- the relation between what is read, what is written and its flags holds in each place

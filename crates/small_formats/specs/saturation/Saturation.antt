@@ -1,17 +1,13 @@
 -- Conversions that saturate: a number that overflows becomes the largest value of its sign.
 use Rattle.std.specs.Prelude.{◌≡◌, ℕ, Bool, true, false, not, ◌&&◌, if◌then◌else◌}
-use Rattle.apfloat_model.specs.declared.kinds.Round.{Round}
-use Rattle.apfloat_model.specs.formats.Format.{Format, largest}
-use Rattle.apfloat_model.specs.formats.Datum.{Datum, finite, infinite, nan}
-use Rattle.apfloat_model.specs.formats.Nan.{invalid_bit}
-use Rattle.apfloat_model.specs.rounding.Rounding.{inexact_bit}
-use Rattle.apfloat_model.specs.order.Classes.{is_finite, is_negative}
+use Rattle.apfloat_model.specs.{declared.kinds.Round.Round, formats.Format.Format, formats.Format.largest}
+use Rattle.apfloat_model.specs.formats.{Datum.Datum, Datum.finite, Datum.infinite, Datum.nan, Nan.invalid_bit}
+use Rattle.apfloat_model.specs.{rounding.Rounding.inexact_bit, order.Classes.is_finite, order.Classes.is_negative}
 use Rattle.apfloat_model.specs.arithmetic.Conversions.{IsConversion, IsConverted}
 use Rattle.small_formats.specs.declared.saturation.saturation.Overflow.{Overflow}
 use Rattle.small_formats.specs.declared.saturation.saturation.Overflow.TheVariants.{Rounded, Saturated, Finite}
-use Rattle.small_formats.specs.declared.saturation.saturation.FiniteNan.{FiniteNan}
-use Rattle.small_formats.specs.declared.saturation.saturation.FiniteNan.TheVariants.{Kept, Largest}
-use Rattle.small_formats.specs.declared.saturation.saturation.ValueClass.{ValueClass}
+use Rattle.small_formats.specs.declared.saturation.saturation.FiniteNan.{FiniteNan, TheVariants.Kept}
+use Rattle.small_formats.specs.declared.saturation.saturation.{FiniteNan.TheVariants.Largest, ValueClass.ValueClass}
 use Rattle.small_formats.specs.declared.saturation.saturation.ValueClass.TheVariants.{Number, Infinity, NotANumber}
 
 -- what a datum is, as far as saturation asks

@@ -1,10 +1,9 @@
 -- The mode that rounds a magnitude of a sign to the neighbour above it, or to the one below it; and which of them
 -- random digits choose.
 use Rattle.std.specs.Prelude.{◌≡◌, ℕ, ◌+◌, ◌-◌, ◌*◌, ◌/◌, ◌^◌, Bool, ◌||◌, leb, ltb, if◌then◌else◌}
-use Rattle.apfloat_model.specs.declared.kinds.Round.{Round}
-use Rattle.apfloat_model.specs.declared.kinds.Round.TheVariants.{TowardPositive, TowardNegative, TowardZero}
-use Rattle.apfloat_model.specs.formats.Format.{Format, largest}
-use Rattle.apfloat_model.specs.rounding.Grid.{IsBelow, IsAbove}
+use Rattle.apfloat_model.specs.declared.kinds.Round.{Round, TheVariants.TowardPositive, TheVariants.TowardNegative}
+use Rattle.apfloat_model.specs.{declared.kinds.Round.TheVariants.TowardZero, formats.Format.Format}
+use Rattle.apfloat_model.specs.{formats.Format.largest, rounding.Grid.IsBelow, rounding.Grid.IsAbove}
 
 abbrev pub direction : Bool → Bool → Round
 direction away negative = if away then (if negative then TowardNegative else TowardPositive) else TowardZero

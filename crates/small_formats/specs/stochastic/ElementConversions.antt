@@ -2,13 +2,10 @@
 -- sign.
 use Rattle.std.specs.Prelude.{◌≡◌, ℕ, ◌<◌, Bool}
 use Rattle.std.specs.Bool.{MatchBool}
-use Rattle.apfloat_model.specs.formats.Datum.{Datum, finite, infinite, nan}
-use Rattle.apfloat_model.specs.formats.Format.{Format}
-use Rattle.small_formats.specs.declared.modes.ConversionRound.{ConversionRound}
-use Rattle.small_formats.specs.Float8E3M4.{e3m4_datum, e3m4_format}
-use Rattle.small_formats.specs.Modes.{ieee_mode}
-use Rattle.small_formats.specs.Unsigned.{IsUnsigned, signed_format, unsigned_datum}
-use Rattle.small_formats.specs.stochastic.ModeConversions.{IsConversionBy}
+use Rattle.apfloat_model.specs.formats.{Datum.Datum, Datum.finite, Datum.infinite, Datum.nan, Format.Format}
+use Rattle.small_formats.specs.{declared.modes.ConversionRound.ConversionRound, Float8E3M4.e3m4_datum}
+use Rattle.small_formats.specs.{Float8E3M4.e3m4_format, Modes.ieee_mode, Unsigned.IsUnsigned, Unsigned.signed_format}
+use Rattle.small_formats.specs.{Unsigned.unsigned_datum, stochastic.ModeConversions.IsConversionBy}
 
 -- As `IsUnsigned`. What is not rounded becomes what it does in each mode of IEEE 754.
 abbrev pub IsUnsignedBy : Format → ConversionRound → Datum → ℕ → ℕ → Bool → Type 0

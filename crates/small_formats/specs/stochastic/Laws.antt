@@ -1,11 +1,8 @@
 -- Theorems about conversions by the modes of conversions.
 use Rattle.std.specs.Prelude.{◌≡◌, ℕ, Bool}
-use Rattle.apfloat_model.specs.declared.kinds.Round.{Round}
-use Rattle.apfloat_model.specs.arithmetic.Conversions.{IsConversion}
-use Rattle.apfloat_model.specs.formats.Datum.{Datum}
-use Rattle.apfloat_model.specs.formats.Format.{Format}
-use Rattle.small_formats.specs.declared.modes.ConversionRound.{ConversionRound}
-use Rattle.small_formats.specs.declared.modes.ConversionRound.TheVariants.{Ieee}
+use Rattle.apfloat_model.specs.{declared.kinds.Round.Round, arithmetic.Conversions.IsConversion}
+use Rattle.apfloat_model.specs.formats.{Datum.Datum, Format.Format}
+use Rattle.small_formats.specs.declared.modes.ConversionRound.{ConversionRound, TheVariants.Ieee}
 use Rattle.small_formats.specs.stochastic.ModeConversions.{IsConversionBy}
 
 -- the value, the flags and the loss of information are determined

@@ -2,16 +2,13 @@
 -- does in each mode of IEEE 754.
 use Rattle.std.specs.Prelude.{◌≡◌, ℕ, ◌*◌, ◌^◌, Bool, not, eqb}
 use Rattle.std.specs.Bool.{MatchBool}
-use Rattle.apfloat_model.specs.declared.kinds.Round.TheVariants.{NearestTiesToEven}
-use Rattle.apfloat_model.specs.arithmetic.Conversions.{IsConversion}
-use Rattle.apfloat_model.specs.formats.Datum.{Datum, finite, infinite, nan}
-use Rattle.apfloat_model.specs.formats.Format.{Format}
+use Rattle.apfloat_model.specs.{declared.kinds.Round.TheVariants.NearestTiesToEven, arithmetic.Conversions.IsConversion}
+use Rattle.apfloat_model.specs.formats.{Datum.Datum, Datum.finite, Datum.infinite, Datum.nan, Format.Format}
 use Rattle.apfloat_model.specs.rounding.Rounding.{IsDelivered, delivered_status, delivered_value, ok_bits}
 use Rattle.round_to_odd.specs.Odd.{IsToOdd}
 use Rattle.small_formats.specs.declared.modes.ConversionRound.{ConversionRound}
 use Rattle.small_formats.specs.declared.modes.ConversionRound.TheVariants.{Ieee, ToOdd, Stochastic}
-use Rattle.small_formats.specs.declared.modes.RandomDigits.{RandomDigits}
-use Rattle.small_formats.specs.Modes.{IsPickBy, ieee_mode}
+use Rattle.small_formats.specs.{declared.modes.RandomDigits.RandomDigits, Modes.IsPickBy, Modes.ieee_mode}
 
 -- The magnitude amount / parts quanta with that sign, as random digits pick one of its neighbours. A pick past the
 -- largest value goes where the modes to nearest lead. The flags are those that one rounding has for that pick.

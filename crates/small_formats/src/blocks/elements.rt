@@ -1,25 +1,19 @@
 //! Elements: the formats that a block may have, quotients as elements, and products with a scale.
 
 ghost use Rattle.std.specs.Prelude.{◌≡◌, ◌≢◌, ℕ, ◌+◌, ◌*◌, ◌^◌, ◌<◌, ◌≤◌, eqb, true, false, pos, Bool};
-ghost use Rattle.apfloat_model.specs.arithmetic.Exact.{product_sign};
-ghost use Rattle.apfloat_model.specs.formats.Datum.{Datum, finite};
-ghost use Rattle.apfloat_model.specs.order.Classes.{is_finite, is_negative, quanta_of};
-ghost use Rattle.apfloat_model.specs.rounding.Flags.{Gives, bits_of};
-ghost use Rattle.apfloat_model.specs.rounding.Rounding.{IsDelivered, zero_sign};
-ghost use Rattle.apfloat_arithmetic.specs.other_formats.Extended.{seen, number};
-ghost use Rattle.apfloat_arithmetic.specs.other_formats.FormatOf.{IsProductOf};
+ghost use Rattle.apfloat_model.specs.{arithmetic.Exact.product_sign, formats.Datum.Datum, formats.Datum.finite};
+ghost use Rattle.apfloat_model.specs.{formats.Format.largest, order.Classes.is_finite};
+ghost use Rattle.apfloat_model.specs.order.{Classes.is_negative, Classes.quanta_of, Positive.IsPositive};
+ghost use Rattle.apfloat_model.specs.rounding.{Flags.Gives, Flags.bits_of, Rounding.IsDelivered, Rounding.zero_sign};
+ghost use Rattle.apfloat_model.specs.bits.Layout.{datum_of as bits_datum};
+ghost use Rattle.apfloat_arithmetic.specs.other_formats.{Extended.seen, Extended.number, FormatOf.IsProductOf};
 ghost use Rattle.apfloat_ieee.specs.FlaggedTypes.{format_of as flagged_format_of};
 ghost use Rattle.apfloat_ieee.specs.Types.{format_of, layout_of};
-ghost use Rattle.apfloat_model.specs.order.Positive.{IsPositive};
-ghost use Rattle.apfloat_model.specs.bits.Layout.{datum_of as bits_datum};
-ghost use Rattle.apfloat_model.specs.formats.Format.{largest};
-ghost use Rattle.small_formats.specs.Codes.{datum_of};
-ghost use Rattle.small_formats.specs.Quotients.{IsRatioOf};
+ghost use Rattle.small_formats.specs.{Codes.datum_of, Quotients.IsRatioOf};
 ghost use Rattle.small_formats.specs.Storage.{format_with as stored_format};
 ghost use Rattle.small_formats.specs.Types.{constants_of as stored_constants};
 ghost use Rattle.small_formats.specs.blocks.Elements.{IsElement, IsElementIn, IsSaturatedIn, element_datum};
-ghost use Rattle.small_formats.specs.blocks.Elements.{format_of_element};
-ghost use Rattle.small_formats.specs.blocks.Elements.{max_exp, power_code, width};
+ghost use Rattle.small_formats.specs.blocks.Elements.{format_of_element, max_exp, power_code, width};
 
 use crate::{E2M1FN, E2M3FN, E3M2FN, StorageFormat, StoredFloat};
 use apfloat_base::{ExpInt, Float, FloatConvert, Round, StatusAnd};

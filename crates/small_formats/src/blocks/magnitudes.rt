@@ -1,8 +1,7 @@
 //! The greatest magnitude of a block.
 
 ghost use Rattle.std.specs.Prelude.{◌≡◌, max, true, false, length};
-ghost use Rattle.apfloat_model.specs.formats.Datum.{finite};
-ghost use Rattle.apfloat_model.specs.formats.Members.{IsMember};
+ghost use Rattle.apfloat_model.specs.formats.{Datum.finite, Members.IsMember};
 ghost use Rattle.apfloat_model.specs.order.Classes.{is_finite, quanta_of};
 ghost use Rattle.apfloat_ieee.specs.Types.{format_of};
 ghost use Rattle.small_formats.specs.blocks.Magnitudes.{are_finite, greatest_magnitude};

@@ -1,16 +1,12 @@
 //! Blocks of the microscaling formats (OCP Microscaling Formats 1.0): elements, and one scale that is a power of two.
 
 ghost use Rattle.std.specs.Prelude.{◌≡◌, ℕ, ◌+◌, ◌*◌, ◌^◌, ◌<◌, ◌≤◌, true, false, length, replicate};
-ghost use Rattle.apfloat_model.specs.rounding.Flags.{bits_of};
+ghost use Rattle.apfloat_model.specs.{rounding.Flags.bits_of, order.Positive.IsPositive, order.Classes.quanta_of};
 ghost use Rattle.apfloat_ieee.specs.FlaggedTypes.{format_of as flagged_format_of};
 ghost use Rattle.apfloat_ieee.specs.Types.{format_of};
-ghost use Rattle.apfloat_model.specs.order.Positive.{IsPositive};
-ghost use Rattle.apfloat_model.specs.order.Classes.{quanta_of};
 ghost use Rattle.small_formats.specs.Scales.{largest_code, scale_format};
-ghost use Rattle.small_formats.specs.blocks.Elements.{IsQuotientBy, width};
-ghost use Rattle.small_formats.specs.blocks.Magnitudes.{are_finite};
-ghost use Rattle.small_formats.specs.blocks.MxBlocks.{IsBlockBy, IsDequantized, IsQuantized, IsQuantizedBy};
-ghost use Rattle.small_formats.specs.blocks.MxBlocks.{IsScaled};
+ghost use Rattle.small_formats.specs.blocks.{Elements.IsQuotientBy, Elements.width, Magnitudes.are_finite};
+ghost use Rattle.small_formats.specs.blocks.MxBlocks.{IsBlockBy, IsDequantized, IsQuantized, IsQuantizedBy, IsScaled};
 ghost use Rattle.small_formats.specs.blocks.Places.{AreCounted};
 
 use crate::blocks::counts::Counts;

@@ -1,18 +1,12 @@
 //! The scale of a block of a microscaling format.
 
 ghost use Rattle.std.specs.Prelude.{◌≡◌, ◌≢◌, ℕ, ◌+◌, ◌*◌, ◌^◌, ◌<◌, ◌≤◌, min, false, pos, ◌+ℤ◌, ◌-ℤ◌};
-ghost use Rattle.apfloat_model.specs.arithmetic.Exact.{up};
-ghost use Rattle.apfloat_model.specs.formats.Datum.{finite};
-ghost use Rattle.apfloat_model.specs.formats.Formats.{bfloat_constants};
-ghost use Rattle.apfloat_model.specs.formats.Lawful.{format_with};
-ghost use Rattle.apfloat_model.specs.formats.Members.{IsMember};
-ghost use Rattle.apfloat_model.specs.order.Classes.{quanta_of};
-ghost use Rattle.apfloat_model.specs.rounding.Bounds.{IsWithin};
+ghost use Rattle.apfloat_model.specs.{arithmetic.Exact.up, formats.Datum.finite, order.Classes.quanta_of};
+ghost use Rattle.apfloat_model.specs.{order.Positive.IsPositive, rounding.Bounds.IsWithin};
+ghost use Rattle.apfloat_model.specs.formats.{Formats.bfloat_constants, Lawful.format_with, Members.IsMember};
 ghost use Rattle.apfloat_ieee.specs.Types.{format_of};
-ghost use Rattle.apfloat_model.specs.order.Positive.{IsPositive};
-ghost use Rattle.small_formats.specs.Scales.{largest_code, nan_code};
-ghost use Rattle.small_formats.specs.blocks.MxScales.{IsBlockScale, IsScaleBy, clamped_code, clips};
-ghost use Rattle.small_formats.specs.blocks.MxScales.{IsWithinNext, outgrows};
+ghost use Rattle.small_formats.specs.{Scales.largest_code, Scales.nan_code, blocks.MxScales.IsBlockScale};
+ghost use Rattle.small_formats.specs.blocks.MxScales.{IsScaleBy, clamped_code, clips, IsWithinNext, outgrows};
 
 use crate::E8M0FNU;
 use crate::blocks::elements::{ElementFormat, quotient_code};

@@ -1,13 +1,10 @@
 //! Blocks of NVFP4: elements `E2M1FN`, a scale `Float8E4M3FN` for each block, and a single for the whole tensor.
 
 ghost use Rattle.std.specs.Prelude.{◌≡◌, ◌<◌, ◌≤◌, length};
-ghost use Rattle.apfloat_model.specs.formats.Formats.{single_constants};
-ghost use Rattle.apfloat_model.specs.formats.Lawful.{format_with};
-ghost use Rattle.apfloat_model.specs.order.Classes.{quanta_of};
-ghost use Rattle.apfloat_model.specs.rounding.Flags.{bits_of};
+ghost use Rattle.apfloat_model.specs.formats.{Formats.single_constants, Lawful.format_with};
+ghost use Rattle.apfloat_model.specs.{order.Classes.quanta_of, order.Positive.IsPositive, rounding.Flags.bits_of};
 ghost use Rattle.apfloat_ieee.specs.FlaggedTypes.{format_of as flagged_format_of};
 ghost use Rattle.apfloat_ieee.specs.Types.{format_of};
-ghost use Rattle.apfloat_model.specs.order.Positive.{IsPositive};
 ghost use Rattle.small_formats.specs.blocks.Nvfp4.{IsNvBlock, IsNvDequantized, IsNvQuantized, IsNvScaled};
 
 use crate::blocks::counts::Counts;

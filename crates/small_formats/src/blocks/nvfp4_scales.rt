@@ -2,17 +2,14 @@
 
 ghost use Rattle.std.specs.Prelude.{◌≡◌, ◌*◌, ◌^◌, ◌<◌, true, false, eqb, max};
 ghost use Rattle.std.specs.Bool.{MatchBool};
-ghost use Rattle.apfloat_model.specs.formats.Datum.{finite};
-ghost use Rattle.apfloat_model.specs.formats.Formats.{double_constants, e4m3fn_constants, half_constants};
-ghost use Rattle.apfloat_model.specs.formats.Formats.{single_constants};
-ghost use Rattle.apfloat_model.specs.formats.Lawful.{format_with};
-ghost use Rattle.apfloat_model.specs.order.Classes.{quanta_of};
+ghost use Rattle.apfloat_model.specs.formats.{Datum.finite, Formats.double_constants};
+ghost use Rattle.apfloat_model.specs.formats.Formats.{e4m3fn_constants, half_constants, single_constants};
+ghost use Rattle.apfloat_model.specs.{formats.Lawful.format_with, order.Classes.quanta_of, order.Positive.IsPositive};
 ghost use Rattle.apfloat_ieee.specs.Types.{format_of};
-ghost use Rattle.apfloat_model.specs.order.Positive.{IsPositive};
-ghost use Rattle.small_formats.specs.blocks.Nvfp4.{IsNvScale, IsScaleOfSome, IsTensorAnswer, IsTensorScale, is_positive};
-ghost use Rattle.small_formats.specs.blocks.Nvfp4.{nan_scale, scale_quanta, unless_zero};
-ghost use Rattle.small_formats.specs.declared.blocks.elements.ElementFormat.TheVariants.{E4M3FN};
+ghost use Rattle.small_formats.specs.blocks.Nvfp4.{IsNvScale, IsScaleOfSome, IsTensorAnswer, IsTensorScale};
+ghost use Rattle.small_formats.specs.blocks.Nvfp4.{is_positive, nan_scale, scale_quanta, unless_zero};
 ghost use Rattle.small_formats.specs.blocks.Elements.{element_datum};
+ghost use Rattle.small_formats.specs.declared.blocks.elements.ElementFormat.TheVariants.{E4M3FN};
 
 use crate::blocks::elements::saturated_quotient;
 use crate::blocks::magnitudes::{are_finite, greatest_of};

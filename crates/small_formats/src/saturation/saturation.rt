@@ -2,12 +2,10 @@
 
 ghost use Rattle.std.specs.Prelude.{◌≡◌};
 ghost use Rattle.apfloat_model.specs.order.Classes.{category_of, is_negative};
-ghost use Rattle.apfloat_model.specs.formats.Datum.{Datum, finite};
-ghost use Rattle.apfloat_model.specs.rounding.Flags.{bits_of};
-ghost use Rattle.apfloat_model.specs.formats.Format.{Format, largest};
-ghost use Rattle.apfloat_ieee.specs.FlaggedTypes.{format_of};
-ghost use Rattle.apfloat_model.specs.arithmetic.Conversions.{IsConversion};
+ghost use Rattle.apfloat_model.specs.formats.{Datum.Datum, Datum.finite, Format.Format, Format.largest};
+ghost use Rattle.apfloat_model.specs.{rounding.Flags.bits_of, arithmetic.Conversions.IsConversion};
 ghost use Rattle.apfloat_model.specs.declared.kinds.Round.{Round};
+ghost use Rattle.apfloat_ieee.specs.FlaggedTypes.{format_of};
 ghost use Rattle.small_formats.specs.saturation.Saturation.{IsConversionBy, class_of, saturated};
 
 use apfloat_base::{Category, Float, FloatConvert, Round, Status, StatusAnd};

@@ -1,13 +1,11 @@
 //! Conversions by the modes of conversions.
 
 ghost use Rattle.std.specs.Prelude.{◌≡◌};
-ghost use Rattle.apfloat_model.specs.declared.kinds.Category.TheVariants.{Normal};
-ghost use Rattle.apfloat_model.specs.order.Classes.{category_of};
+ghost use Rattle.apfloat_model.specs.{declared.kinds.Category.TheVariants.Normal, order.Classes.category_of};
 ghost use Rattle.apfloat_model.specs.rounding.Flags.{bits_of};
 ghost use Rattle.apfloat_ieee.specs.Types.{format_of};
 ghost use Rattle.small_formats.specs.declared.modes.ConversionRound.TheVariants.{ToOdd, Stochastic};
-ghost use Rattle.small_formats.specs.stochastic.Directions.{direction};
-ghost use Rattle.small_formats.specs.stochastic.ModeConversions.{IsConversionBy};
+ghost use Rattle.small_formats.specs.stochastic.{Directions.direction, ModeConversions.IsConversionBy};
 
 use crate::picks::ieee_mode;
 use crate::stochastic::directions::rounds_away;

@@ -3,8 +3,7 @@
 ghost use Rattle.std.specs.Prelude.{◌≡◌, ℕ, ◌+◌, ◌-◌, ◌*◌, ◌^◌, ◌<◌, ◌≤◌, pos, ◌+ℤ◌, ◌-ℤ◌};
 ghost use Rattle.apfloat_model.specs.declared.kinds.Category.TheVariants.{Normal};
 ghost use Rattle.apfloat_model.specs.order.Classes.{category_of, quanta_of};
-ghost use Rattle.apfloat_model.specs.rounding.Bounds.{IsWithin};
-ghost use Rattle.apfloat_model.specs.rounding.Standing.{up, down};
+ghost use Rattle.apfloat_model.specs.rounding.{Bounds.IsWithin, Standing.up, Standing.down};
 ghost use Rattle.apfloat_ieee.specs.Types.{format_of};
 ghost use Rattle.apfloat_rounding.specs.Shapes.{format_at};
 ghost use Rattle.small_formats.specs.stochastic.Directions.{IsDirection};

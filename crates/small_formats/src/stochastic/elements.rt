@@ -4,8 +4,7 @@ ghost use Rattle.std.specs.Prelude.{◌≡◌};
 ghost use Rattle.apfloat_model.specs.rounding.Flags.{bits_of};
 ghost use Rattle.apfloat_ieee.specs.Types.{format_of};
 ghost use Rattle.small_formats.specs.Float8E3M4.{e3m4_datum, e3m4_format};
-ghost use Rattle.small_formats.specs.stochastic.ElementConversions.{IsUnsignedBy};
-ghost use Rattle.small_formats.specs.stochastic.ModeConversions.{IsConversionBy};
+ghost use Rattle.small_formats.specs.stochastic.{ElementConversions.IsUnsignedBy, ModeConversions.IsConversionBy};
 
 use crate::float8_e3m4::{WideE3M4S, narrowed, past};
 use crate::picks::ieee_mode;

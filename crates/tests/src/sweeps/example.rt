@@ -1,8 +1,6 @@
 //! The examples in the page for callers, `crates/rustc_apfloat/CALLING.md`.
 
-ghost use Rattle.rustc_apfloat.specs.declared.Round.TheVariants.{NearestTiesToEven};
-ghost use Rattle.rustc_apfloat.specs.Flags.{Gives};
-ghost use Rattle.rustc_apfloat.specs.Types.{format_of};
+ghost use Rattle.rustc_apfloat.specs.{declared.Round.TheVariants.NearestTiesToEven, Flags.Gives, Types.format_of};
 ghost use Rattle.rustc_apfloat.specs.WholeNumbers.{IsFromUnsigned};
 
 use crate::asserts::same;

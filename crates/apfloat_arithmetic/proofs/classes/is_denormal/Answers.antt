@@ -4,12 +4,9 @@ use Rattle.std.specs.Int.Signed.{lt_z}
 use Rattle.apfloat_model.specs.declared.kinds.Category.{Category}
 use Rattle.apfloat_model.specs.declared.kinds.Category.TheVariants.{Infinity, NaN, Normal, Zero}
 use Rattle.apfloat_model.specs.order.Classes.{is_denormal}
-use Rattle.apfloat_rounding.specs.declared.shape.Shape.{Shape}
-use Rattle.apfloat_rounding.specs.declared.unpacked.Unpacked.{Unpacked}
-use Rattle.apfloat_rounding.specs.Shapes.{format_at}
+use Rattle.apfloat_rounding.specs.{declared.shape.Shape.Shape, declared.unpacked.Unpacked.Unpacked, Shapes.format_at}
 use Rattle.apfloat_rounding.specs.Stored.{IsStoredBy, quanta_at, datum_by}
-use Rattle.apfloat_rounding.proofs.ShapeExponents.{min_exp_word}
-use Rattle.apfloat_rounding.proofs.StoredBack.{quanta_some}
+use Rattle.apfloat_rounding.proofs.{ShapeExponents.min_exp_word, StoredBack.quanta_some}
 use Rattle.apfloat_arithmetic.proofs.ProductExponents.{normal_near}
 use Rattle.apfloat_arithmetic.proofs.NumberClasses.{compares_as, below_is, denormal_number}
 use Rattle.apfloat_arithmetic.proofs.classes.is_denormal.Goals as goal

@@ -1,8 +1,7 @@
 use Rattle.std.proofs.Common.{◌≡◌, ◌∙◌, ap, refl}
 use Rattle.apfloat_model.specs.rounding.Rounding.{signed_quanta}
 use Rattle.apfloat_model.proofs.rounding.Laws.{zero_delivered}
-use Rattle.apfloat_rounding.specs.Shapes.{format_at}
-use Rattle.apfloat_rounding.specs.Stored.{datum_at}
+use Rattle.apfloat_rounding.specs.{Shapes.format_at, Stored.datum_at}
 use Rattle.apfloat_arithmetic.proofs.exact.exact_zero.Goals as goal
 
 pub returns-clause-delivered : goal.returns-clause-delivered

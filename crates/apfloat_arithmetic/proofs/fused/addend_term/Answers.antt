@@ -1,7 +1,5 @@
-use Rattle.std.proofs.Common.{arith}
-use Rattle.std.proofs.lemmas.Int.{ints}
-use Rattle.apfloat_arithmetic.proofs.Ranges.{wider_word}
-use Rattle.apfloat_arithmetic.proofs.WideTerms.{is_addend_term}
+use Rattle.std.proofs.{Common.arith, lemmas.Int.ints}
+use Rattle.apfloat_arithmetic.proofs.{Ranges.wider_word, WideTerms.is_addend_term}
 use Rattle.apfloat_arithmetic.proofs.fused.addend_term.Goals as goal
 
 pub full_term-term-requires : goal.full_term-term-requires

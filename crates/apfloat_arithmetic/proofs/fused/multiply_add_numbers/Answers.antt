@@ -1,8 +1,5 @@
-use Rattle.std.proofs.Common.{arith}
-use Rattle.std.proofs.lemmas.Int.{ints}
-use Rattle.std.proofs.lemmas.Nat.{pow_pos}
-use Rattle.apfloat_arithmetic.proofs.DeliveredTotals.{fused_total, total_delivered}
-use Rattle.apfloat_arithmetic.proofs.Ranges.{wider}
+use Rattle.std.proofs.{Common.arith, lemmas.Int.ints, lemmas.Nat.pow_pos}
+use Rattle.apfloat_arithmetic.proofs.{DeliveredTotals.fused_total, DeliveredTotals.total_delivered, Ranges.wider}
 use Rattle.apfloat_arithmetic.proofs.fused.multiply_add_numbers.Goals as goal
 
 pub add_u128_terms-total-requires-clause-x : goal.add_u128_terms-total-requires-clause-x

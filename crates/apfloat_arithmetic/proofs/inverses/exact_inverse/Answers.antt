@@ -1,11 +1,8 @@
-use Rattle.std.proofs.Common.{sym, subst}
-use Rattle.std.proofs.lemmas.Option.{same_Some}
+use Rattle.std.proofs.{Common.sym, Common.subst, lemmas.Option.same_Some}
 use Rattle.std.specs.Prelude.{neg_ℤ, Some, None}
-use Rattle.apfloat_model.specs.declared.kinds.Category.{Category}
-use Rattle.apfloat_model.specs.formats.Datum.{finite}
+use Rattle.apfloat_model.specs.{declared.kinds.Category.Category, formats.Datum.finite}
 use Rattle.apfloat_model.specs.arithmetic.Exponents.{IsExactInverse}
-use Rattle.apfloat_rounding.specs.declared.unpacked.Unpacked.{Unpacked}
-use Rattle.apfloat_rounding.specs.Shapes.{format_at}
+use Rattle.apfloat_rounding.specs.{declared.unpacked.Unpacked.Unpacked, Shapes.format_at}
 use Rattle.apfloat_rounding.specs.Stored.{IsStored, IsStoredBy, IsNormal, quanta_at, datum_by}
 use Rattle.apfloat_arithmetic.proofs.ProductExponents.{normal_near}
 use Rattle.apfloat_arithmetic.proofs.ExactInverses.{opposite_word, inverted_normal, inverse_answer, no_inverse_answer}

@@ -1,12 +1,11 @@
 use Rattle.std.proofs.Common.{◌∙◌, T, Bool, not, sym, subst, arith}
-use Rattle.std.proofs.lemmas.Int.{ints}
-use Rattle.std.proofs.lemmas.Bool.{false≢true}
-use lib.Signed.{le_z_yes, lt_z_yes, lt_z_no}
+use Rattle.std.proofs.lemmas.{Int.ints, Bool.false≢true}
 use Rattle.apfloat_rounding.proofs.ShapeExponents.{min_exp_word, max_exp_word}
-use Rattle.apfloat_arithmetic.proofs.ProductExponents.{normal_near}
-use Rattle.apfloat_arithmetic.proofs.ExactInverses.{opposite_word}
+use Rattle.apfloat_arithmetic.proofs.{ProductExponents.normal_near, ExactInverses.opposite_word}
+use lib.Signed.{le_z_yes, lt_z_yes, lt_z_no}
 use Rattle.apfloat_arithmetic.proofs.inverses.is_invertible.Goals as goal
-use Rattle.apfloat_arithmetic.proofs.inverses.is_invertible.Goals.{then-x-integer_bit-via-then-x-integer_bit, then-x-integer_bit-via-else-x-integer_bit+then-x-shape}
+use Rattle.apfloat_arithmetic.proofs.inverses.is_invertible.Goals.{then-x-integer_bit-via-then-x-integer_bit}
+use Rattle.apfloat_arithmetic.proofs.inverses.is_invertible.Goals.{then-x-integer_bit-via-else-x-integer_bit+then-x-shape}
 
 pub returns-then-x-integer_bit-clause-yes : goal.returns-then-x-integer_bit-clause-yes
 returns-then-x-integer_bit-clause-yes c = λ h. absurd (false≢true h)

@@ -1,5 +1,4 @@
-use Rattle.std.proofs.Common.{refl, arith}
-use Rattle.std.proofs.lemmas.Int.{ints}
+use Rattle.std.proofs.{Common.refl, Common.arith, lemmas.Int.ints}
 use Rattle.apfloat_arithmetic.proofs.products.factors_of.Goals as goal
 
 pub full_term-left-requires : goal.full_term-left-requires

@@ -1,9 +1,7 @@
 use Rattle.std.proofs.Common.{◌*◌, ◌^◌, Bool, subst, arith}
 use Rattle.std.proofs.lemmas.Nat.{pow_pos}
-use Rattle.apfloat_model.specs.rounding.Flags.{bits_of}
-use Rattle.apfloat_model.specs.rounding.Rounding.{IsDelivered}
-use Rattle.apfloat_rounding.specs.Shapes.{format_at}
-use Rattle.apfloat_rounding.specs.Stored.{quanta_at, datum_at}
+use Rattle.apfloat_model.specs.rounding.{Flags.bits_of, Rounding.IsDelivered}
+use Rattle.apfloat_rounding.specs.{Shapes.format_at, Stored.quanta_at, Stored.datum_at}
 use Rattle.apfloat_arithmetic.proofs.ProductExponents.{counted_product_is}
 use Rattle.apfloat_arithmetic.proofs.Ranges.{in_word, wider, wider_word}
 use Rattle.apfloat_arithmetic.proofs.products.multiply_numbers.Goals as goal

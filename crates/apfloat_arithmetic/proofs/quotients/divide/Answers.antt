@@ -1,11 +1,8 @@
 use Rattle.std.proofs.Common.{subst}
-use Rattle.apfloat_model.specs.declared.kinds.Category.{Category}
-use Rattle.apfloat_model.specs.declared.kinds.Category.TheVariants.{Normal}
-use Rattle.apfloat_rounding.specs.Shapes.{format_at}
-use Rattle.apfloat_rounding.specs.Stored.{IsStoredBy, IsNormalAt, quanta_at}
+use Rattle.apfloat_model.specs.declared.kinds.Category.{Category, TheVariants.Normal}
+use Rattle.apfloat_rounding.specs.{Shapes.format_at, Stored.IsStoredBy, Stored.IsNormalAt, Stored.quanta_at}
 use Rattle.apfloat_rounding.proofs.StoredBack.{quanta_some}
-use Rattle.apfloat_arithmetic.proofs.ZeroAnswers.{some_quotient}
-use Rattle.apfloat_arithmetic.proofs.SumCases.{datum_is}
+use Rattle.apfloat_arithmetic.proofs.{ZeroAnswers.some_quotient, SumCases.datum_is}
 use Rattle.apfloat_arithmetic.proofs.quotients.divide.Goals as goal
 
 pub returns-then-are_normal-clause-delivered : goal.returns-then-are_normal-clause-delivered

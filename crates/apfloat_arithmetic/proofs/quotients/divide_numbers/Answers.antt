@@ -1,12 +1,8 @@
-use Rattle.std.proofs.Common.{◌≡◌, ◌+◌, ◌-◌, ◌*◌, ◌^◌, ◌≤◌, Bool, w32, to_z, of_z, subst, arith, inr}
-use Rattle.std.proofs.Math.Nat.{pow-le-pow_right}
-use Rattle.std.proofs.lemmas.Int.{to_z-of_z, ints}
-use Rattle.apfloat_model.specs.rounding.Flags.{bits_of}
-use Rattle.apfloat_model.specs.rounding.Rounding.{IsDelivered}
-use Rattle.apfloat_model.proofs.general.Powers.{two_pos, twice_half}
-use Rattle.apfloat_model.proofs.arithmetic.Fractions.{quotient_full}
-use Rattle.apfloat_rounding.specs.Shapes.{format_at}
-use Rattle.apfloat_rounding.specs.Stored.{quanta_at, datum_at}
+use Rattle.std.proofs.Common.{◌≡◌, ◌+◌, ◌-◌, ◌*◌, ◌^◌, ◌≤◌, Bool, w32, to_z, of_z, subst}
+use Rattle.std.proofs.{Common.arith, Common.inr, Math.Nat.pow-le-pow_right, lemmas.Int.to_z-of_z, lemmas.Int.ints}
+use Rattle.apfloat_model.specs.rounding.{Flags.bits_of, Rounding.IsDelivered}
+use Rattle.apfloat_model.proofs.{general.Powers.two_pos, general.Powers.twice_half, arithmetic.Fractions.quotient_full}
+use Rattle.apfloat_rounding.specs.{Shapes.format_at, Stored.quanta_at, Stored.datum_at}
 use Rattle.apfloat_rounding.proofs.StoredBack.{quanta_some}
 use Rattle.apfloat_arithmetic.proofs.ProductExponents.{normal_near, normal_some, quotient_is}
 use Rattle.apfloat_arithmetic.proofs.quotients.divide_numbers.Goals as goal

@@ -1,14 +1,13 @@
 use Rattle.std.proofs.Common.{◌≡◌, ℕ, ℤ, ◌<◌, ◌≤◌, ◌+◌, ◌*◌, ◌^◌, Bool, w32, to_z, of_z, sym, ap, ◌∙◌, subst, arith}
 use Rattle.std.proofs.lemmas.Int.{to_z-of_z}
-use Rattle.apfloat_model.specs.rounding.Flags.{bits_of}
-use Rattle.apfloat_model.specs.rounding.Rounding.{IsDelivered}
+use Rattle.apfloat_model.specs.rounding.{Flags.bits_of, Rounding.IsDelivered}
 use Rattle.apfloat_model.specs.rounding.RoundingToOdd.{IsRoundedToOdd, odd_quotient}
 use Rattle.apfloat_model.proofs.rounding.OddRoundings.{quotient_to_odd}
-use Rattle.apfloat_rounding.specs.declared.shape.Shape.{Shape}
-use Rattle.apfloat_rounding.specs.Shapes.{format_at}
+use Rattle.apfloat_rounding.specs.{declared.shape.Shape.Shape, Shapes.format_at}
 use Rattle.apfloat_rounding.specs.Stored.{IsNormalAt, quanta_at, datum_at}
 use Rattle.apfloat_rounding.proofs.StoredBack.{quanta_some}
-use Rattle.apfloat_arithmetic.proofs.WordQuotients.{IsClose, in_word, moved_close, moved_fits, moved_places, quotient_long, odd_quotient_long, odd_quotient_fits}
+use Rattle.apfloat_arithmetic.proofs.WordQuotients.{IsClose, in_word, moved_close, moved_fits, moved_places}
+use Rattle.apfloat_arithmetic.proofs.WordQuotients.{quotient_long, odd_quotient_long, odd_quotient_fits}
 use Rattle.apfloat_arithmetic.proofs.ProductExponents.{normal_near, normal_some, odd_quotient_is}
 use Rattle.apfloat_arithmetic.proofs.quotients.divide_word_numbers.Goals.{After-word_quotient_of}
 use Rattle.apfloat_arithmetic.proofs.quotients.divide_word_numbers.Goals as goal

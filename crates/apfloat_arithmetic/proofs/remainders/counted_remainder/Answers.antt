@@ -1,8 +1,7 @@
 use Rattle.std.proofs.Common.{◌∙◌, arith}
 use Rattle.std.proofs.Math.Nat.{zero-div}
 use Rattle.apfloat_model.specs.arithmetic.Remainders.{truncated_quotient}
-use Rattle.apfloat_rounding.specs.Shapes.{format_at}
-use Rattle.apfloat_rounding.specs.Stored.{datum_at}
+use Rattle.apfloat_rounding.specs.{Shapes.format_at, Stored.datum_at}
 use Rattle.apfloat_arithmetic.proofs.StepBounds.{few_steps}
 use Rattle.apfloat_arithmetic.proofs.SpecialRemainders.{of_numbers, ones_of_numbers, no_ones}
 use Rattle.apfloat_arithmetic.proofs.remainders.counted_remainder.Goals as goal

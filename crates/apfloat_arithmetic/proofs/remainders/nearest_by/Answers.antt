@@ -1,11 +1,9 @@
+use Rattle.std.proofs.{Math.Nat.mod-lt, Math.Nat.pow-le-pow_right, lemmas.Nat.pow_pos}
 use Rattle.std.proofs.Common.{◌≡◌, ℕ, eqb, ◌-◌, ◌*◌, ◌/◌, ◌%◌, ◌^◌, ◌<◌, ◌≤◌, sym, ap, ◌∙◌, subst, arith}
-use Rattle.std.proofs.Math.Nat.{mod-lt, pow-le-pow_right}
-use Rattle.std.proofs.lemmas.Nat.{pow_pos}
-use Rattle.apfloat_model.proofs.general.Powers.{two_pos}
-use Rattle.apfloat_model.proofs.general.Scaled.{less_scaled}
+use Rattle.apfloat_model.proofs.general.{Powers.two_pos, Scaled.less_scaled}
 use Rattle.apfloat_arithmetic.specs.Magnitudes.{units_of}
-use Rattle.apfloat_arithmetic.proofs.NearestMultiples.{upper, upper_level, lower_near, far_below, one_below, digits_less}
-use Rattle.apfloat_arithmetic.proofs.WholeQuotients.{divisor_pos}
+use Rattle.apfloat_arithmetic.proofs.{NearestMultiples.digits_less, WholeQuotients.divisor_pos}
+use Rattle.apfloat_arithmetic.proofs.NearestMultiples.{upper, upper_level, lower_near, far_below, one_below}
 use Rattle.apfloat_arithmetic.proofs.remainders.nearest_by.Goals.{then-gap-eq1, else-gap-eq1, Joined-gap-eq1}
 use Rattle.apfloat_arithmetic.proofs.remainders.nearest_by.Goals as goal
 

@@ -1,6 +1,5 @@
 use Rattle.std.proofs.Common.{◌≡◌, ℕ, eqb, ◌-◌, ◌*◌, ◌%◌, ◌^◌, ◌<◌, ◌≤◌, refl, sym, ap, ◌∙◌, arith}
-use Rattle.std.proofs.Math.Nat.{mod-lt}
-use Rattle.std.proofs.lemmas.Nat.{pow_pos}
+use Rattle.std.proofs.{Math.Nat.mod-lt, lemmas.Nat.pow_pos}
 use Rattle.apfloat_arithmetic.specs.Magnitudes.{units_of}
 use Rattle.apfloat_arithmetic.proofs.NearestMultiples.{rest_in, quotient_in}
 use Rattle.apfloat_arithmetic.proofs.WholeQuotients.{is_less, left_all, not_odd, at_lower_place}

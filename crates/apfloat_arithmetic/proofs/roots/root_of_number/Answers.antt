@@ -1,15 +1,12 @@
-use Rattle.std.proofs.Common.{◌≡◌, ℕ, sym, ap, ◌∙◌, lit<, ◌+◌, ◌-◌, ◌*◌, ◌^◌, refl, w32, to_z, of_z, arith, ℤ, pos, ◌+ℤ◌, ◌-ℤ◌}
-use Rattle.std.proofs.lemmas.Nat.{pow_pos}
-use Rattle.std.proofs.lemmas.Int.{to_z-of_z, ints}
-use borrow.Author.Differences.{fits_in}
-use Rattle.apfloat_model.specs.rounding.Flags.{bits_of}
-use Rattle.apfloat_model.specs.rounding.Standing.{up, down}
+use Rattle.std.proofs.Common.{◌≡◌, ℕ, sym, ap, ◌∙◌, lit<, ◌+◌, ◌-◌, ◌*◌, ◌^◌, refl, w32}
+use Rattle.std.proofs.Common.{to_z, of_z, arith, ℤ, pos, ◌+ℤ◌, ◌-ℤ◌}
+use Rattle.std.proofs.lemmas.{Nat.pow_pos, Int.to_z-of_z, Int.ints}
+use Rattle.apfloat_model.specs.rounding.{Flags.bits_of, Standing.up, Standing.down}
 use Rattle.apfloat_model.proofs.arithmetic.RootLaws.{square_whole}
-use Rattle.apfloat_arithmetic.proofs.RootStandings.{delivered_of_standing}
-use Rattle.apfloat_rounding.specs.Shapes.{format_at}
-use Rattle.apfloat_rounding.specs.Stored.{quanta_at, datum_at}
-use Rattle.apfloat_arithmetic.proofs.ProductExponents.{normal_near}
+use Rattle.apfloat_arithmetic.proofs.{RootStandings.delivered_of_standing, ProductExponents.normal_near}
 use Rattle.apfloat_arithmetic.proofs.RootExponents.{root_is}
+use Rattle.apfloat_rounding.specs.{Shapes.format_at, Stored.quanta_at, Stored.datum_at}
+use borrow.Author.Differences.{fits_in}
 use Rattle.apfloat_arithmetic.proofs.roots.root_of_number.Goals as goal
 
 pub returns-clause-delivered : goal.returns-clause-delivered

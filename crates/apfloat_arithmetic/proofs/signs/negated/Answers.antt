@@ -3,8 +3,7 @@ use Rattle.apfloat_model.specs.declared.kinds.Category.{Category}
 use Rattle.apfloat_model.specs.declared.kinds.Category.TheVariants.{Normal, Zero, Infinity, NaN}
 use Rattle.apfloat_model.specs.rounding.Negation.{negated}
 use Rattle.apfloat_model.proofs.rounding.Laws.{number_swapped}
-use Rattle.apfloat_rounding.specs.declared.shape.Shape.{Shape}
-use Rattle.apfloat_rounding.specs.declared.unpacked.Unpacked.{Unpacked}
+use Rattle.apfloat_rounding.specs.declared.{shape.Shape.Shape, unpacked.Unpacked.Unpacked}
 use Rattle.apfloat_rounding.specs.Stored.{IsStored, datum_at, quanta_at}
 use Rattle.apfloat_arithmetic.proofs.SumCases.{number_stored, datum_is}
 use Rattle.apfloat_arithmetic.proofs.signs.negated.Goals as goal

@@ -1,9 +1,7 @@
 use Rattle.std.proofs.Common.{rules, refl}
-use Rattle.apfloat_model.specs.declared.kinds.Category.TheVariants.{Infinity}
-use Rattle.apfloat_model.specs.rounding.Flags.{bits_of}
+use Rattle.apfloat_model.specs.{declared.kinds.Category.TheVariants.Infinity, rounding.Flags.bits_of}
 use Rattle.apfloat_model.specs.formats.Datum.{infinite}
-use Rattle.apfloat_rounding.specs.Shapes.{format_at}
-use Rattle.apfloat_rounding.specs.Stored.{datum_at}
+use Rattle.apfloat_rounding.specs.{Shapes.format_at, Stored.datum_at}
 use Rattle.apfloat_arithmetic.proofs.SumCases.{same_sum, datum_is}
 use Rattle.apfloat_arithmetic.proofs.specials.add_specials.Goals as goal
 

@@ -1,11 +1,8 @@
 use Rattle.std.proofs.Common.{refl, ap, ◌∙◌}
 use Rattle.apfloat_model.specs.declared.kinds.Category.TheVariants.{Normal, Zero}
-use Rattle.apfloat_model.specs.rounding.Flags.{bits_of}
-use Rattle.apfloat_model.specs.formats.Datum.{finite}
-use Rattle.apfloat_model.specs.rounding.Rounding.{ok_bits}
+use Rattle.apfloat_model.specs.{rounding.Flags.bits_of, rounding.Rounding.ok_bits, formats.Datum.finite}
 use Rattle.apfloat_model.proofs.arithmetic.Tables.{sum_finite_zero}
-use Rattle.apfloat_rounding.specs.Shapes.{format_at}
-use Rattle.apfloat_rounding.specs.Stored.{datum_at, quanta_at}
+use Rattle.apfloat_rounding.specs.{Shapes.format_at, Stored.datum_at, Stored.quanta_at}
 use Rattle.apfloat_arithmetic.proofs.SumCases.{number_stored, same_sum, datum_is}
 use Rattle.apfloat_arithmetic.proofs.specials.add_to_number.Goals as goal
 

@@ -1,12 +1,8 @@
 use Rattle.std.proofs.Common.{refl}
-use Rattle.apfloat_model.specs.declared.kinds.Category.TheVariants.{Zero}
-use Rattle.apfloat_model.specs.rounding.Flags.{bits_of}
-use Rattle.apfloat_model.specs.formats.Datum.{finite}
-use Rattle.apfloat_rounding.specs.Shapes.{format_at}
-use Rattle.apfloat_rounding.specs.Stored.{datum_at, quanta_at}
+use Rattle.apfloat_model.specs.{declared.kinds.Category.TheVariants.Zero, rounding.Flags.bits_of, formats.Datum.finite}
+use Rattle.apfloat_rounding.specs.{Shapes.format_at, Stored.datum_at, Stored.quanta_at}
 use Rattle.apfloat_rounding.proofs.StoredBack.{quanta_some}
-use Rattle.apfloat_arithmetic.proofs.SumCases.{datum_is}
-use Rattle.apfloat_arithmetic.proofs.FusedCases.{product_rounded, same_fused}
+use Rattle.apfloat_arithmetic.proofs.{SumCases.datum_is, FusedCases.product_rounded, FusedCases.same_fused}
 use Rattle.apfloat_arithmetic.proofs.specials.add_to_number_product.Goals as goal
 
 pub returns-in-Zero-clause-delivered : goal.returns-in-Zero-clause-delivered

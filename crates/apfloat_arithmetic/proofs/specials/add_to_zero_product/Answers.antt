@@ -1,12 +1,9 @@
 use Rattle.std.proofs.Common.{◌∙◌, Bool, refl, sym, ap}
 use Rattle.apfloat_model.specs.declared.kinds.Category.TheVariants.{Normal, Zero}
-use Rattle.apfloat_model.specs.rounding.Flags.{bits_of}
-use Rattle.apfloat_model.specs.formats.Datum.{finite}
-use Rattle.apfloat_model.specs.rounding.Rounding.{ok_bits}
-use Rattle.apfloat_model.specs.arithmetic.Sums.{zero_sum_sign}
+use Rattle.apfloat_model.specs.rounding.{Flags.bits_of, Rounding.ok_bits}
+use Rattle.apfloat_model.specs.{formats.Datum.finite, arithmetic.Sums.zero_sum_sign}
 use Rattle.apfloat_model.proofs.arithmetic.Tables.{fused_zero_finite}
-use Rattle.apfloat_rounding.specs.Shapes.{format_at}
-use Rattle.apfloat_rounding.specs.Stored.{datum_at, quanta_at}
+use Rattle.apfloat_rounding.specs.{Shapes.format_at, Stored.datum_at, Stored.quanta_at}
 use Rattle.apfloat_arithmetic.proofs.SumCases.{number_stored, datum_is}
 use Rattle.apfloat_arithmetic.proofs.FusedCases.{zeros_rounded, same_fused}
 use Rattle.apfloat_arithmetic.proofs.specials.add_to_zero_product.Goals as goal

@@ -1,6 +1,5 @@
 use Rattle.apfloat_model.specs.declared.kinds.Category.TheVariants.{Normal, Zero, Infinity}
-use Rattle.apfloat_rounding.specs.Shapes.{format_at}
-use Rattle.apfloat_rounding.specs.Stored.{quanta_of}
+use Rattle.apfloat_rounding.specs.{Shapes.format_at, Stored.quanta_of}
 use Rattle.apfloat_arithmetic.proofs.SumCases.{datum_is}
 use Rattle.apfloat_arithmetic.proofs.ZeroAnswers.{zero_quotient, number_by_zero, quotient_by_infinity}
 use Rattle.apfloat_arithmetic.proofs.specials.divide_specials.Goals as goal

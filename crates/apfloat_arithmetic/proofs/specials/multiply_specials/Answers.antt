@@ -1,7 +1,6 @@
 use Rattle.std.proofs.Common.{arith}
 use Rattle.apfloat_model.specs.declared.kinds.Category.TheVariants.{Normal, Zero}
-use Rattle.apfloat_rounding.specs.Shapes.{format_at}
-use Rattle.apfloat_rounding.specs.Stored.{quanta_of}
+use Rattle.apfloat_rounding.specs.{Shapes.format_at, Stored.quanta_of}
 use Rattle.apfloat_arithmetic.proofs.SumCases.{datum_is}
 use Rattle.apfloat_arithmetic.proofs.ZeroAnswers.{zero_product, number_by_infinity, infinity_by_number}
 use Rattle.apfloat_arithmetic.proofs.specials.multiply_specials.Goals as goal

@@ -1,7 +1,5 @@
-use Rattle.std.proofs.Common.{arith}
-use Rattle.std.proofs.lemmas.Int.{ints}
-use Rattle.apfloat_arithmetic.proofs.DeliveredTotals.{sum_total, total_delivered}
-use Rattle.apfloat_arithmetic.proofs.Ranges.{wider}
+use Rattle.std.proofs.{Common.arith, lemmas.Int.ints}
+use Rattle.apfloat_arithmetic.proofs.{DeliveredTotals.sum_total, DeliveredTotals.total_delivered, Ranges.wider}
 use Rattle.apfloat_arithmetic.proofs.sums.add_u128_numbers.Goals as goal
 
 pub full_term-requires : goal.full_term-requires

@@ -1,5 +1,4 @@
-use Rattle.std.proofs.Common.{arith}
-use Rattle.std.proofs.lemmas.Int.{ints}
+use Rattle.std.proofs.{Common.arith, lemmas.Int.ints}
 use Rattle.apfloat_arithmetic.proofs.DeliveredTotals.{sum_total, total_delivered}
 use Rattle.apfloat_arithmetic.proofs.sums.add_wide_numbers.Goals as goal
 

@@ -1,14 +1,9 @@
 use Rattle.std.proofs.Common.{◌≡◌, ◌+◌, ◌^◌, ◌+ℤ◌, Bool, pos, subst, to_z, of_z, w32, arith}
 use Rattle.std.proofs.lemmas.Int.{ints}
-use Rattle.apfloat_model.specs.arithmetic.Exact.{signed, sign_of, magnitude}
-use Rattle.apfloat_model.specs.rounding.Flags.{bits_of}
-use Rattle.apfloat_model.specs.rounding.Rounding.{IsDelivered}
-use Rattle.apfloat_model.specs.arithmetic.Sums.{zero_sum_sign}
-use Rattle.apfloat_rounding.specs.Shapes.{format_at}
-use Rattle.apfloat_rounding.specs.Stored.{quanta_at, datum_at}
-use Rattle.apfloat_arithmetic.proofs.Additions.{read_odd_sign}
-use Rattle.apfloat_arithmetic.proofs.DeliveredTotals.{sum_total}
-use Rattle.apfloat_arithmetic.proofs.Ranges.{wider}
+use Rattle.apfloat_model.specs.arithmetic.{Exact.signed, Exact.sign_of, Exact.magnitude, Sums.zero_sum_sign}
+use Rattle.apfloat_model.specs.rounding.{Flags.bits_of, Rounding.IsDelivered}
+use Rattle.apfloat_rounding.specs.{Shapes.format_at, Stored.quanta_at, Stored.datum_at}
+use Rattle.apfloat_arithmetic.proofs.{Additions.read_odd_sign, DeliveredTotals.sum_total, Ranges.wider}
 use Rattle.apfloat_arithmetic.proofs.sums.add_word_numbers.Goals as goal
 
 pub full_term-requires : goal.full_term-requires

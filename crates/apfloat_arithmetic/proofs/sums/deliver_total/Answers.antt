@@ -1,16 +1,9 @@
+use Rattle.std.proofs.{Math.Nat.mul-pos, Math.Path.subst₂, lemmas.Int.ints, lemmas.Nat.pow_pos}
 use Rattle.std.proofs.Common.{◌≡◌, ◌+◌, ◌*◌, ◌^◌, ◌<◌, ◌+ℤ◌, Bool, ℕ, pos, sym, to_z, of_z, w32, arith}
-use Rattle.std.proofs.Math.Nat.{mul-pos}
-use Rattle.std.proofs.Math.Path.{subst₂}
-use Rattle.std.proofs.lemmas.Int.{ints}
-use Rattle.std.proofs.lemmas.Nat.{pow_pos}
-use Rattle.apfloat_model.specs.arithmetic.Exact.{signed, sign_of}
-use Rattle.apfloat_model.specs.arithmetic.Sums.{zero_sum_sign}
-use Rattle.apfloat_model.specs.rounding.Flags.{bits_of}
-use Rattle.apfloat_model.specs.rounding.Rounding.{IsDelivered}
-use Rattle.apfloat_model.specs.rounding.Standing.{up, down}
+use Rattle.apfloat_model.specs.arithmetic.{Exact.signed, Exact.sign_of, Sums.zero_sum_sign}
+use Rattle.apfloat_model.specs.rounding.{Flags.bits_of, Rounding.IsDelivered, Standing.up, Standing.down}
 use Rattle.apfloat_model.proofs.arithmetic.Signs.{magnitude_signed}
-use Rattle.apfloat_rounding.specs.Shapes.{format_at}
-use Rattle.apfloat_rounding.specs.Stored.{datum_at}
+use Rattle.apfloat_rounding.specs.{Shapes.format_at, Stored.datum_at}
 use Rattle.apfloat_arithmetic.proofs.Additions.{odd_sign}
 use Rattle.apfloat_arithmetic.proofs.sums.deliver_total.Goals as goal
 

@@ -1,6 +1,5 @@
 use Rattle.apfloat_model.specs.rounding.Flags.{bits_of}
-use Rattle.apfloat_rounding.specs.Shapes.{format_at}
-use Rattle.apfloat_rounding.specs.Stored.{datum_at}
+use Rattle.apfloat_rounding.specs.{Shapes.format_at, Stored.datum_at}
 use Rattle.apfloat_arithmetic.proofs.SumCases.{difference_is}
 use Rattle.apfloat_arithmetic.proofs.sums.subtract.Goals as goal
 

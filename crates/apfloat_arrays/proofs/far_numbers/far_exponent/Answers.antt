@@ -1,7 +1,8 @@
 use Rattle.std.proofs.Common.{◌≡◌, ◌+ℤ◌, ◌-ℤ◌, pos, to_z, of_z, w32}
 use Rattle.std.proofs.lemmas.Int.{to_z-of_z}
 use Rattle.rustc_apfloat.specs.FlaggedTypes.{constants_of}
-use Rattle.apfloat_arrays.proofs.FarNumbers.{above_fits, above_unit, above_within, below_fits, below_unit, below_within, beside_fits, exponent_held, precision_fits, precision_held}
+use Rattle.apfloat_arrays.proofs.FarNumbers.{above_fits, above_unit, above_within, below_fits, below_unit, below_within}
+use Rattle.apfloat_arrays.proofs.FarNumbers.{beside_fits, exponent_held, precision_fits, precision_held}
 use Rattle.apfloat_arrays.proofs.far_numbers.far_exponent.Given.{Over}
 use Rattle.apfloat_arrays.proofs.far_numbers.far_exponent.Goals as goal
 

@@ -1,6 +1,5 @@
-use Rattle.std.proofs.Common.{◌≡◌, ℕ, suc, ◌+◌, ◌-◌, ◌*◌, ◌^◌, ◌<◌, ◌≤◌, length, []}
-use Rattle.std.proofs.Common.{◌∙◌, refl, sym, ap, subst, arith}
 use Rattle.std.proofs.{Math.Nat.mul-le-mul_right, Math.Nat.suc-mul, lemmas.List.Edits.length-between}
+use Rattle.std.proofs.Common.{◌≡◌, ℕ, suc, ◌+◌, ◌-◌, ◌*◌, ◌^◌, ◌<◌, ◌≤◌, length, [], ◌∙◌, refl, sym, ap, subst, arith}
 use Rattle.rustc_apfloat.specs.FlaggedTypes.{constants_of}
 use Rattle.apfloat_arrays.specs.{Outcomes.counts_of, Tasks.AreConverted, Values.IsConvertedBy}
 use Rattle.apfloat_arrays.proofs.{Joined.block_joined, Places.block_named, Places.block_none}

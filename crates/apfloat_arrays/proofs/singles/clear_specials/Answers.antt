@@ -1,5 +1,4 @@
-use Rattle.std.proofs.Common.{◌≡◌, ℕ, refl, ap, ◌∙◌, subst, sym, ◌/◌, ◌%◌, ◌^◌, ◌<◌}
-use Rattle.std.proofs.Common.{◌*◌, ltb, arith, length-set}
+use Rattle.std.proofs.Common.{◌≡◌, ℕ, refl, ap, ◌∙◌, subst, sym, ◌/◌, ◌%◌, ◌^◌, ◌<◌, ◌*◌, ltb, arith, length-set}
 use Rattle.std.proofs.lemmas.List.{get_or-set_other}
 use Rattle.std.specs.Prelude.{slice_index}
 use Rattle.apfloat_arrays.specs.{Blocks.value_at, Bytes.number_of, Rows.lower_in, Rows.number_in}

@@ -1,5 +1,4 @@
-use Rattle.std.proofs.Common.{◌≡◌, ℕ, ◌+◌, ◌*◌, ◌%◌, ◌^◌, ◌<◌, length, false, ltb, ap}
-use Rattle.std.proofs.Common.{◌∙◌, sym, subst, List, arith}
+use Rattle.std.proofs.Common.{◌≡◌, ℕ, ◌+◌, ◌*◌, ◌%◌, ◌^◌, ◌<◌, length, false, ltb, ap, ◌∙◌, sym, subst, List, arith}
 use Rattle.rustc_apfloat.specs.FlaggedTypes.{constants_of}
 use Rattle.apfloat_arrays.specs.{Blocks.value_at, Bytes.number_of, Rows.IsRow, Rows.number_from, Values.IsConvertedBy}
 use Rattle.apfloat_arrays.proofs.Places.{place_size}

@@ -1,5 +1,4 @@
-use Rattle.apfloat_rounding.specs.Shapes.{format_at}
-use Rattle.apfloat_rounding.specs.Stored.{datum_at}
+use Rattle.apfloat_rounding.specs.{Shapes.format_at, Stored.datum_at}
 use Rattle.apfloat_model.proofs.arithmetic.ExactConversions.{exactly_converted}
 use Rattle.apfloat_conversions.proofs.ConvertedValues.{of_number}
 use Rattle.apfloat_conversions.proofs.between_formats.convert.Goals as goal

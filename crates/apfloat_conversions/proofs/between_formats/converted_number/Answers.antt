@@ -1,14 +1,9 @@
 use Rattle.std.proofs.Common.{ℕ, ◌-◌, ◌*◌, ◌^◌, w32, subst, ap, ◌∙◌, arith}
-use Rattle.std.proofs.lemmas.Int.{to_z-of_z, ints}
-use Rattle.std.proofs.lemmas.Nat.{pow_pos}
-use Rattle.apfloat_model.specs.formats.Datum.{Datum}
-use Rattle.apfloat_model.specs.rounding.Flags.{bits_of}
-use Rattle.apfloat_model.specs.formats.Members.{IsMember}
+use Rattle.std.proofs.lemmas.{Int.to_z-of_z, Int.ints, Nat.pow_pos}
+use Rattle.apfloat_model.specs.{formats.Datum.Datum, formats.Members.IsMember, rounding.Flags.bits_of}
 use Rattle.apfloat_model.proofs.arithmetic.SingleScalings.{converted_is}
-use Rattle.apfloat_rounding.specs.Shapes.{format_at}
-use Rattle.apfloat_rounding.specs.Stored.{quanta_at, datum_at}
-use Rattle.apfloat_rounding.proofs.StoredBack.{quanta_some}
-use Rattle.apfloat_rounding.proofs.ShapeExponents.{exponent_word, scale_is}
+use Rattle.apfloat_rounding.specs.{Shapes.format_at, Stored.quanta_at, Stored.datum_at}
+use Rattle.apfloat_rounding.proofs.{StoredBack.quanta_some, ShapeExponents.exponent_word, ShapeExponents.scale_is}
 use Rattle.apfloat_rounding.proofs.StoredMembers.{member_is}
 use Rattle.apfloat_conversions.proofs.HeldNumbers.{same_converted}
 use Rattle.apfloat_conversions.proofs.between_formats.converted_number.Goals as goal

@@ -1,8 +1,7 @@
 use Rattle.std.specs.Int.{w128}
 use Rattle.std.proofs.Common.{◌≡◌, arith, to_z, of_z}
 use Rattle.std.proofs.lemmas.Int.{to_z-of_z}
-use Rattle.apfloat_rounding.specs.Shapes.{format_at}
-use Rattle.apfloat_rounding.specs.Stored.{quanta_at}
+use Rattle.apfloat_rounding.specs.{Shapes.format_at, Stored.quanta_at}
 use Rattle.apfloat_rounding.proofs.StoredBack.{quanta_some}
 use Rattle.apfloat_conversions.proofs.ToSigned.{limited_signed}
 use Rattle.apfloat_conversions.proofs.integers.number_to_signed.Goals as goal

@@ -1,12 +1,9 @@
 use Rattle.std.proofs.Common.{◌≡◌, ◌*◌, ◌^◌, ◌∙◌, arith, to_z, of_z, w32}
-use Rattle.std.proofs.lemmas.Int.{ints, to_z-of_z}
-use Rattle.std.proofs.lemmas.Nat.{pow_pos}
+use Rattle.std.proofs.lemmas.{Int.ints, Int.to_z-of_z, Nat.pow_pos}
 use Rattle.apfloat_model.specs.rounding.Standing.{up}
-use Rattle.apfloat_rounding.specs.Shapes.{format_at}
-use Rattle.apfloat_rounding.specs.Stored.{quanta_at}
+use Rattle.apfloat_rounding.specs.{Shapes.format_at, Stored.quanta_at}
 use Rattle.apfloat_rounding.proofs.ShapeExponents.{exponent_word}
-use Rattle.apfloat_conversions.proofs.StoredExponents.{whole_places}
-use Rattle.apfloat_conversions.proofs.Wholes.{whole_toward_zero, whole_multiple}
+use Rattle.apfloat_conversions.proofs.{StoredExponents.whole_places, Wholes.whole_toward_zero, Wholes.whole_multiple}
 use Rattle.apfloat_conversions.proofs.integral.is_whole_number.Goals as goal
 
 pub last_exponent-exponent-requires : goal.last_exponent-exponent-requires

@@ -1,13 +1,9 @@
-use Rattle.std.proofs.Common.{◌≡◌, ◌-◌, ◌*◌, ◌^◌, ◌<◌, ◌≤◌, sym, subst, arith, ℕ, to_z, of_z, w32}
-use Rattle.std.proofs.lemmas.Int.{ints, to_z-of_z}
-use Rattle.std.proofs.lemmas.Nat.{pow_pos}
-use Rattle.apfloat_model.specs.formats.Format.{largest}
-use Rattle.apfloat_model.specs.rounding.Standing.{up}
-use Rattle.apfloat_rounding.specs.Shapes.{format_at}
-use Rattle.apfloat_rounding.specs.Stored.{quanta_at, datum_at}
-use Rattle.apfloat_rounding.proofs.StoredBack.{quanta_some}
+use Rattle.std.proofs.Common.{◌≡◌, ◌-◌, ◌*◌, ◌^◌, ◌<◌, ◌≤◌, sym, subst, arith, ℕ, to_z}
+use Rattle.std.proofs.{Common.of_z, Common.w32, lemmas.Int.ints, lemmas.Int.to_z-of_z, lemmas.Nat.pow_pos}
+use Rattle.apfloat_model.specs.{formats.Format.largest, rounding.Standing.up}
 use Rattle.apfloat_model.proofs.general.Powers.{twice_half}
-use Rattle.apfloat_rounding.proofs.ShapeExponents.{exponent_word}
+use Rattle.apfloat_rounding.specs.{Shapes.format_at, Stored.quanta_at, Stored.datum_at}
+use Rattle.apfloat_rounding.proofs.{StoredBack.quanta_some, ShapeExponents.exponent_word}
 use Rattle.apfloat_conversions.proofs.StoredExponents.{whole_places, scale_in_span, half_within}
 use Rattle.apfloat_conversions.proofs.Wholes.{integral_picked, integral_stays}
 use Rattle.apfloat_conversions.proofs.integral.round_number.Goals as goal

@@ -1,10 +1,10 @@
-use Rattle.std.proofs.Common.{◌≡◌, ℕ, ◌-◌, ◌^◌, ◌≤◌, ℤ, pos, ◌+ℤ◌, ◌-ℤ◌, ◌≤ℤ◌, to_z, of_z, w32, arith, ap, subst, ◌∙◌, sym}
-use Rattle.std.proofs.lemmas.Int.{to_z-of_z, ints}
+use Rattle.std.proofs.Common.{◌≡◌, ℕ, ◌-◌, ◌^◌, ◌≤◌, ℤ, pos, ◌+ℤ◌, ◌-ℤ◌, ◌≤ℤ◌, to_z, of_z, w32, arith, ap, subst, ◌∙◌}
+use Rattle.std.proofs.{Common.sym, lemmas.Int.to_z-of_z, lemmas.Int.ints}
 use Rattle.apfloat_model.proofs.general.Powers.{twice_half}
 use Rattle.apfloat_rounding.specs.Stored.{quanta_at}
 use Rattle.apfloat_rounding.proofs.ShapeExponents.{exponent_word}
-use Rattle.apfloat_conversions.proofs.Nexts.{room_below}
-use Rattle.apfloat_conversions.proofs.Steps.{IsBefore, step_below, before_stays, before_lowers, before_stored, before_is, before_least}
+use Rattle.apfloat_conversions.proofs.{Nexts.room_below, Steps.IsBefore, Steps.step_below}
+use Rattle.apfloat_conversions.proofs.Steps.{before_stays, before_lowers, before_stored, before_is, before_least}
 use Rattle.apfloat_conversions.proofs.neighbours.next_less.Goals as goal
 
 pub step-requires-clause-least : goal.step-requires-clause-least

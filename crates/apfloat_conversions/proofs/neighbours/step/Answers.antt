@@ -1,5 +1,4 @@
-use Rattle.std.proofs.Common.{arith}
-use Rattle.std.proofs.lemmas.Int.{ints}
+use Rattle.std.proofs.{Common.arith, lemmas.Int.ints}
 use Rattle.apfloat_conversions.proofs.neighbours.step.Goals as goal
 
 pub steps_between-requires-clause-above : goal.steps_between-requires-clause-above

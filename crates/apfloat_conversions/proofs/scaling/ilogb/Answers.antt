@@ -1,9 +1,7 @@
 use Rattle.std.proofs.Common.{false, ◌≡◌, eqb, arith}
 use Rattle.std.proofs.lemmas.Bool.{ne_eqb}
-use Rattle.apfloat_rounding.specs.Shapes.{format_at}
-use Rattle.apfloat_rounding.specs.Stored.{quanta_at}
-use Rattle.apfloat_rounding.proofs.StoredBack.{quanta_some}
-use Rattle.apfloat_rounding.proofs.ShapeExponents.{exponent_word, scale_is}
+use Rattle.apfloat_rounding.specs.{Shapes.format_at, Stored.quanta_at}
+use Rattle.apfloat_rounding.proofs.{StoredBack.quanta_some, ShapeExponents.exponent_word, ShapeExponents.scale_is}
 use Rattle.apfloat_conversions.proofs.Nexts.{logarithm_is}
 use Rattle.apfloat_conversions.proofs.scaling.ilogb.Goals as goal
 

@@ -2,8 +2,7 @@ use Rattle.std.proofs.Common.{◌≡◌, ◌*◌, ◌^◌, negsuc, ◌-ℤ◌, t
 use Rattle.std.proofs.lemmas.Int.{to_z-of_z}
 use Rattle.apfloat_model.specs.rounding.Standing.{up}
 use Rattle.apfloat_rounding.specs.Stored.{quanta_at}
-use Rattle.apfloat_rounding.proofs.StoredNumbers.{quanta_is}
-use Rattle.apfloat_rounding.proofs.ShapeExponents.{exponent_word}
+use Rattle.apfloat_rounding.proofs.{StoredNumbers.quanta_is, ShapeExponents.exponent_word}
 use Rattle.apfloat_conversions.proofs.NumberFractions.{fraction_size, fraction_number}
 use Rattle.apfloat_conversions.proofs.Nexts.{fraction_quanta, fraction_same}
 use Rattle.apfloat_conversions.proofs.scaling.number_fraction.Goals as goal

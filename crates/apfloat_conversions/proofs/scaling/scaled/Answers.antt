@@ -1,5 +1,4 @@
-use Rattle.std.proofs.Common.{w32}
-use Rattle.std.proofs.lemmas.Int.{to_z-of_z}
+use Rattle.std.proofs.{Common.w32, lemmas.Int.to_z-of_z}
 use Rattle.apfloat_rounding.specs.Shapes.{format_at}
 use Rattle.apfloat_conversions.proofs.StoredExponents.{zero_scaled}
 use Rattle.apfloat_model.specs.rounding.Flags.{bits_of}

@@ -1,11 +1,8 @@
 use Rattle.std.proofs.Common.{◌^◌, ◌≤◌, arith, w32}
-use Rattle.std.proofs.lemmas.Int.{ints, to_z-of_z}
-use Rattle.std.proofs.lemmas.Nat.{pow_pos}
-use Rattle.apfloat_rounding.specs.Shapes.{format_at}
-use Rattle.apfloat_rounding.specs.Stored.{quanta_at}
+use Rattle.std.proofs.lemmas.{Int.ints, Int.to_z-of_z, Nat.pow_pos}
+use Rattle.apfloat_rounding.specs.{Shapes.format_at, Stored.quanta_at}
 use Rattle.apfloat_rounding.proofs.ShapeExponents.{exponent_word}
-use Rattle.apfloat_conversions.proofs.StoredExponents.{fraction_places}
-use Rattle.apfloat_conversions.proofs.Wholes.{whole_fits}
+use Rattle.apfloat_conversions.proofs.{StoredExponents.fraction_places, Wholes.whole_fits}
 use Rattle.apfloat_conversions.proofs.whole.round_at_dot.Goals as goal
 
 pub round_fraction-requires : goal.round_fraction-requires

@@ -1,9 +1,6 @@
 use Rattle.std.proofs.Common.{◌≡◌, ◌-◌, ◌*◌, ◌^◌, ◌∙◌, arith}
-use Rattle.std.proofs.Math.Nat.{mod-eq_of_lt}
-use Rattle.std.proofs.lemmas.Int.{ints}
-use Rattle.std.proofs.lemmas.Nat.{pow_pos}
-use Rattle.apfloat_rounding.specs.Shapes.{format_at}
-use Rattle.apfloat_rounding.specs.Stored.{quanta_at}
+use Rattle.std.proofs.{Math.Nat.mod-eq_of_lt, lemmas.Int.ints, lemmas.Nat.pow_pos}
+use Rattle.apfloat_rounding.specs.{Shapes.format_at, Stored.quanta_at}
 use Rattle.apfloat_rounding.proofs.ShapeExponents.{exponent_word}
 use Rattle.apfloat_conversions.proofs.StoredExponents.{top_fits, word_places}
 use Rattle.apfloat_conversions.proofs.whole.round_word.Goals.{After-from}

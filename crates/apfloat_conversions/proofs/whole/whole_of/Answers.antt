@@ -1,8 +1,6 @@
 use Rattle.std.proofs.Common.{◌≡◌, ◌-◌, ◌*◌, ◌^◌, sym, ◌∙◌, arith, w32, to_z, of_z}
-use Rattle.std.proofs.lemmas.Int.{ints, to_z-of_z}
-use Rattle.std.proofs.lemmas.Nat.{pow_pos}
-use Rattle.apfloat_rounding.specs.Shapes.{format_at}
-use Rattle.apfloat_rounding.specs.Stored.{quanta_at}
+use Rattle.std.proofs.lemmas.{Int.ints, Int.to_z-of_z, Nat.pow_pos}
+use Rattle.apfloat_rounding.specs.{Shapes.format_at, Stored.quanta_at}
 use Rattle.apfloat_rounding.proofs.ShapeExponents.{exponent_word, scale_is}
 use Rattle.apfloat_conversions.proofs.Wholes.{too_large, places_up, whole_exactly, exactly_so}
 use Rattle.apfloat_conversions.proofs.whole.whole_of.Goals as goal

@@ -1,7 +1,6 @@
 use Rattle.std.proofs.Common.{◌≡◌, ◌^◌, arith, lit<, to_z, of_z, w32}
 use Rattle.std.proofs.lemmas.Int.{to_z-of_z, ints}
-use Rattle.apfloat_model.specs.arithmetic.Exact.{up, down}
-use Rattle.apfloat_model.specs.rounding.Flags.{bits_of}
+use Rattle.apfloat_model.specs.{arithmetic.Exact.up, arithmetic.Exact.down, rounding.Flags.bits_of}
 use Rattle.apfloat_ieee.specs.FlaggedTypes.{format_of}
 use Rattle.apfloat_decimals.proofs.cuts.Readings.{none_stand, fine_digits, decimal_delivered}
 use Rattle.apfloat_decimals.proofs.numbers.Values.{power_pos}

@@ -1,7 +1,5 @@
-use Rattle.std.proofs.Common.{sym, arith}
-use Rattle.std.proofs.lemmas.Fmt.{decimal_step_wide}
-use Rattle.apfloat_decimals.proofs.spelled.PutTexts.{put_same, put_then}
-use Rattle.apfloat_decimals.proofs.spelled.WrittenNumbers.{shorter}
+use Rattle.std.proofs.{Common.sym, Common.arith, lemmas.Fmt.decimal_step_wide}
+use Rattle.apfloat_decimals.proofs.spelled.{PutTexts.put_same, PutTexts.put_then, WrittenNumbers.shorter}
 use Rattle.apfloat_decimals.proofs.formatting.+put_long.Goals as goal
 
 pub put_long-at-requires : goal.put_long-at-requires

@@ -1,6 +1,5 @@
 use Rattle.std.proofs.Common.{sym, arith}
-use Rattle.apfloat_decimals.proofs.spelled.LastDigits.{counted_between}
-use Rattle.apfloat_decimals.proofs.spelled.WrittenNumbers.{single}
+use Rattle.apfloat_decimals.proofs.spelled.{LastDigits.counted_between, WrittenNumbers.single}
 use Rattle.apfloat_decimals.proofs.formatting.count_up_to_four.Goals as goal
 
 pub returns-then-number-lt10-clause-count : goal.returns-then-number-lt10-clause-count

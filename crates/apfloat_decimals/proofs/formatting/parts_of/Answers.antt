@@ -1,7 +1,6 @@
 use Rattle.std.proofs.Common.{ℕ, ◌*◌, ◌^◌, ◌<◌, ◌≤◌, ◌∙◌, sym, arith, lit<}
 use Rattle.std.proofs.Math.Nat.{div-eq_of_lt, mod-eq_of_lt, pow-le-pow_right}
-use Rattle.apfloat_decimals.proofs.digits.FoundDigits.{ten_most}
-use Rattle.apfloat_decimals.proofs.numbers.Values.{power_pos}
+use Rattle.apfloat_decimals.proofs.{digits.FoundDigits.ten_most, numbers.Values.power_pos}
 use Rattle.apfloat_decimals.proofs.spelled.WrittenNumbers.{ten_small, ten_great}
 use Rattle.apfloat_decimals.proofs.formatting.parts_of.Goals as goal
 

@@ -1,7 +1,6 @@
 use Rattle.std.proofs.Common.{◌≡◌, ℕ, ◌*◌, ◌%◌, ◌^◌, ◌<◌, ◌∙◌, ap, sym, arith}
 use Rattle.std.proofs.Math.Nat.{mod-eq_of_lt}
-use Rattle.apfloat_decimals.proofs.digits.FoundDigits.{ten_most}
-use Rattle.apfloat_decimals.proofs.numbers.DecimalPowers.{ten_split}
+use Rattle.apfloat_decimals.proofs.{digits.FoundDigits.ten_most, numbers.DecimalPowers.ten_split}
 use Rattle.apfloat_decimals.proofs.formatting.power_of_ten.Goals as goal
 
 -- a power of ten of one word is the power of five, moved up

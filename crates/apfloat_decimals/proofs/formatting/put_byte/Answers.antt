@@ -1,5 +1,4 @@
-use Rattle.std.proofs.Common.{arith, rules}
-use Rattle.std.proofs.lemmas.Grind.{common_steps}
+use Rattle.std.proofs.{Common.arith, Common.rules, lemmas.Grind.common_steps}
 use Rattle.apfloat_decimals.proofs.formatting.put_byte.Goals as goal
 
 pub returns : goal.returns

@@ -1,10 +1,7 @@
-use Rattle.std.proofs.Common.{◌≡◌, ◌∙◌, ◌+◌, ◌≤◌, Bool, true, false, if◌then◌else◌}
-use Rattle.std.proofs.Common.{List, ℕ, length, subst, sym}
-use Rattle.std.proofs.Common.{to_z, of_z, w32}
-use Rattle.std.proofs.lemmas.Int.{to_z-of_z}
+use Rattle.std.proofs.Common.{◌≡◌, ◌∙◌, ◌+◌, ◌≤◌, Bool, true, false, if◌then◌else◌, List, ℕ, length, subst, sym, to_z}
+use Rattle.std.proofs.{Common.of_z, Common.w32, lemmas.Int.to_z-of_z}
 use Rattle.apfloat_decimals.specs.Texts.{magnitude_text, plain_text, scientific_text}
-use Rattle.apfloat_decimals.proofs.spelled.Lines.{magnitude_by}
-use Rattle.apfloat_decimals.proofs.spelled.PutTexts.{put_same, put_then}
+use Rattle.apfloat_decimals.proofs.spelled.{Lines.magnitude_by, PutTexts.put_same, PutTexts.put_then}
 use Rattle.apfloat_decimals.proofs.formatting.put_magnitude.Goals.{After-is_plain}
 use Rattle.apfloat_decimals.proofs.formatting.put_magnitude.Goals as goal
 

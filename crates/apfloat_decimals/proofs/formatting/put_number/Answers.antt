@@ -1,8 +1,6 @@
-use Rattle.std.proofs.Common.{sym, arith}
-use Rattle.std.proofs.lemmas.Fmt.{decimal_digit}
+use Rattle.std.proofs.{Common.sym, Common.arith, lemmas.Fmt.decimal_digit}
 use Rattle.apfloat_decimals.proofs.spelled.LastDigits.{all_digits, counted_between}
-use Rattle.apfloat_decimals.proofs.spelled.PutTexts.{put_same}
-use Rattle.apfloat_decimals.proofs.spelled.WrittenNumbers.{single}
+use Rattle.apfloat_decimals.proofs.spelled.{PutTexts.put_same, WrittenNumbers.single}
 use Rattle.apfloat_decimals.proofs.formatting.put_number.Goals as goal
 
 pub put_byte-requires-clause-room : goal.put_byte-requires-clause-room

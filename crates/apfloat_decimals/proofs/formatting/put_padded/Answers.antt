@@ -1,7 +1,5 @@
-use Rattle.std.proofs.Common.{arith}
-use Rattle.std.proofs.lemmas.Fmt.{length-decimal-le_wide}
-use Rattle.apfloat_decimals.proofs.spelled.LastDigits.{padded_last}
-use Rattle.apfloat_decimals.proofs.spelled.PutTexts.{put_same}
+use Rattle.std.proofs.{Common.arith, lemmas.Fmt.length-decimal-le_wide}
+use Rattle.apfloat_decimals.proofs.spelled.{LastDigits.padded_last, PutTexts.put_same}
 use Rattle.apfloat_decimals.proofs.formatting.put_padded.Goals as goal
 
 pub returns-then-places-lt20 : goal.returns-then-places-lt20

@@ -1,7 +1,5 @@
-use Rattle.std.proofs.Common.{lit<}
-use Rattle.std.proofs.Math.Nat.{mod-lt}
-use Rattle.apfloat_decimals.proofs.numbers.Values.{power_pos}
-use Rattle.apfloat_decimals.proofs.spelled.PutTexts.{put_then}
+use Rattle.std.proofs.{Common.lit<, Math.Nat.mod-lt}
+use Rattle.apfloat_decimals.proofs.{numbers.Values.power_pos, spelled.PutTexts.put_then}
 use Rattle.apfloat_decimals.proofs.formatting.put_pointed.Goals as goal
 
 pub put_padded-requires-clause-few : goal.put_padded-requires-clause-few

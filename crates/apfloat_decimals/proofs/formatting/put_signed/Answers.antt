@@ -1,7 +1,5 @@
-use Rattle.std.proofs.Common.{arith, rules}
-use Rattle.std.proofs.lemmas.Grind.{common_steps}
-use Rattle.apfloat_decimals.proofs.spelled.Lines.{some_signed}
-use Rattle.apfloat_decimals.proofs.spelled.PutTexts.{put_same, put_then}
+use Rattle.std.proofs.{Common.arith, Common.rules, lemmas.Grind.common_steps}
+use Rattle.apfloat_decimals.proofs.spelled.{Lines.some_signed, PutTexts.put_same, PutTexts.put_then}
 use Rattle.apfloat_decimals.proofs.formatting.put_signed.Goals as goal
 
 pub put_sign-at-requires-clause-room : goal.put_sign-at-requires-clause-room

@@ -1,7 +1,6 @@
 use Rattle.std.proofs.Common.{◌≡◌, arith, to_z, of_z, w32}
 use Rattle.std.proofs.lemmas.Int.{to_z-of_z}
-use Rattle.apfloat_decimals.proofs.numbers.Values.{zeros}
-use Rattle.apfloat_decimals.proofs.spelled.Lines.{magnitude_length, sign_length}
+use Rattle.apfloat_decimals.proofs.{numbers.Values.zeros, spelled.Lines.magnitude_length, spelled.Lines.sign_length}
 use Rattle.apfloat_decimals.proofs.formatting.put_text.Goals as goal
 
 pub put_sign-at-requires-clause-zeros : goal.put_sign-at-requires-clause-zeros

@@ -1,8 +1,5 @@
-use Rattle.std.proofs.Common.{arith}
-use Rattle.std.proofs.lemmas.Fmt.{length-decimal-le_wide}
-use Rattle.apfloat_decimals.proofs.spelled.LastDigits.{all_digits}
-use Rattle.apfloat_decimals.proofs.spelled.PutTexts.{put_same}
-use Rattle.apfloat_decimals.proofs.spelled.WrittenNumbers.{below_power}
+use Rattle.std.proofs.{Common.arith, lemmas.Fmt.length-decimal-le_wide}
+use Rattle.apfloat_decimals.proofs.spelled.{LastDigits.all_digits, PutTexts.put_same, WrittenNumbers.below_power}
 use Rattle.apfloat_decimals.proofs.formatting.put_word.Goals as goal
 
 pub put_last-requires-clause-most : goal.put_last-requires-clause-most

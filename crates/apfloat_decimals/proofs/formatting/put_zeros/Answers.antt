@@ -1,6 +1,5 @@
 use Rattle.std.proofs.Common.{◌≡◌, ℕ, ◌+◌, ◌-◌, ◌≤◌, ◌∙◌, slice_index, arith, rules}
-use Rattle.std.proofs.lemmas.Grind.{common_steps}
-use Rattle.std.proofs.lemmas.List.{length-replicate}
+use Rattle.std.proofs.lemmas.{Grind.common_steps, List.length-replicate}
 use borrow.Rule.Slice.PartMut.{put_mid}
 use Rattle.apfloat_decimals.proofs.formatting.put_zeros.Goals as goal
 

@@ -1,7 +1,5 @@
-use Rattle.std.proofs.Common.{◌≡◌, ◌+◌, ◌-◌, ◌*◌, ◌/◌, ◌%◌, ◌<◌, ◌++◌, ◌∷◌, take, drop, List, ℕ, []}
-use Rattle.std.proofs.Common.{ap, ◌∙◌, true, refl, arith, rules}
-use Rattle.std.proofs.lemmas.Grind.{common_steps}
-use Rattle.std.proofs.lemmas.Slice.{take-put_mid}
+use Rattle.std.proofs.Common.{◌≡◌, ◌+◌, ◌-◌, ◌*◌, ◌/◌, ◌%◌, ◌<◌, ◌++◌, ◌∷◌, take, drop, List, ℕ, [], ap, ◌∙◌, true}
+use Rattle.std.proofs.{Common.refl, Common.arith, Common.rules, lemmas.Grind.common_steps, lemmas.Slice.take-put_mid}
 use Rattle.apfloat_decimals.specs.declared.formatting.TheConstants.{PAIRS}
 use Rattle.apfloat_decimals.proofs.spelled.LastDigits.{are_pairs, pair_after, pair_from}
 use Rattle.apfloat_decimals.proofs.formatting.store_pair.Goals as goal

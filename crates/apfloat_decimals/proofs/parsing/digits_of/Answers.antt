@@ -1,7 +1,6 @@
 use Rattle.std.proofs.Common.{arith}
 use Rattle.apfloat_decimals.specs.LeadingDigits.{number_from}
-use Rattle.apfloat_decimals.proofs.numbers.LeadingNumbers.{number_joined}
-use Rattle.apfloat_decimals.proofs.spelled.ParsedNumbers.{number_low}
+use Rattle.apfloat_decimals.proofs.{numbers.LeadingNumbers.number_joined, spelled.ParsedNumbers.number_low}
 use Rattle.apfloat_decimals.proofs.parsing.digits_of.Goals as goal
 
 pub returns-in-None : goal.returns-in-None

@@ -1,8 +1,7 @@
 use Rattle.std.specs.Int.{w32, w128}
 use Rattle.std.proofs.Common.{◌++◌, length, drop, pos, ◌-ℤ◌, refl, arith, to_z, of_z, FitsSigned, rules}
 use Rattle.std.proofs.lemmas.Int.{to_z-of_z}
-use Rattle.apfloat_model.specs.texts.Digits.{number}
-use Rattle.apfloat_model.specs.texts.Literals.{exponent_number}
+use Rattle.apfloat_model.specs.texts.{Digits.number, Literals.exponent_number}
 use Rattle.apfloat_conversions.specs.hex_texts.Saturation.{IsNear, far_bound}
 use Rattle.apfloat_conversions.proofs.hex_texts_lemmas.FaultsRead.{exponent_fits}
 use Rattle.apfloat_decimals.specs.DecimalTexts.{IsDecimalText}

@@ -1,11 +1,9 @@
 use Rattle.std.specs.Int.{w128}
 use Rattle.std.proofs.Common.{length, drop, pos, ◌-ℤ◌, List, ℕ, ◌%◌, ◌^◌, ap, sym, ◌∙◌}
-use Rattle.apfloat_model.specs.texts.Literals.{exponent_number}
 use Rattle.std.proofs.lemmas.Int.{to_z-of_z}
-use Rattle.apfloat_model.specs.rounding.Flags.{bits_of}
+use Rattle.apfloat_model.specs.{texts.Literals.exponent_number, rounding.Flags.bits_of}
 use Rattle.apfloat_ieee.specs.FlaggedTypes.{format_of}
-use Rattle.apfloat_conversions.proofs.hex_texts_lemmas.FaultsRead.{exponent_fits}
-use Rattle.apfloat_conversions.proofs.hex_texts_lemmas.Scanning.{refused_by}
+use Rattle.apfloat_conversions.proofs.hex_texts_lemmas.{FaultsRead.exponent_fits, Scanning.refused_by}
 use Rattle.apfloat_decimals.specs.LeadingDigits.{number_from}
 use Rattle.apfloat_decimals.proofs.digits.ShortNumbers.{word_joined}
 use Rattle.apfloat_decimals.proofs.spelled.SpelledTexts.{first_digits, fraction_digits, body_spelled, body_faulted}

@@ -1,7 +1,5 @@
-use Rattle.apfloat_model.specs.rounding.Flags.{bits_of}
-use Rattle.apfloat_model.specs.arithmetic.Products.{IsProduct}
-use Rattle.apfloat_model.proofs.arithmetic.ProductLaws.{opposite_product}
-use Rattle.apfloat_model.proofs.whole_numbers.SignedNumbers.{largest_some}
+use Rattle.apfloat_model.specs.{rounding.Flags.bits_of, arithmetic.Products.IsProduct}
+use Rattle.apfloat_model.proofs.{arithmetic.ProductLaws.opposite_product, whole_numbers.SignedNumbers.largest_some}
 use Rattle.apfloat_ieee.specs.FlaggedTypes.{format_of}
 use Rattle.apfloat_ieee.proofs.products.product.Goals as goal
 

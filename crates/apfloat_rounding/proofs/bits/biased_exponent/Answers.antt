@@ -1,6 +1,5 @@
 use Rattle.std.proofs.Common.{◌≡◌, ℕ, ◌+◌, ◌-◌, ◌/◌, ◌%◌, ◌^◌, ◌≤◌, refl, arith}
-use Rattle.std.proofs.Math.Nat.{mod-lt}
-use Rattle.std.proofs.Math.Pow.{mod-mod-pow}
+use Rattle.std.proofs.Math.{Nat.mod-lt, Pow.mod-mod-pow}
 use Rattle.std.proofs.lemmas.Nat.{pow_pos, mod-pow-add, div-mul-add}
 use Rattle.apfloat_model.specs.bits.Layout.{trailing_bits}
 use Rattle.apfloat_rounding.specs.Shapes.{format_at}

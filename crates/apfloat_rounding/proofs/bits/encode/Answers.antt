@@ -1,8 +1,5 @@
-use Rattle.apfloat_model.proofs.bits.FieldsOf.{fields_encode}
-use Rattle.apfloat_model.proofs.bits.EncodedOnce.{encoded_once}
-use Rattle.apfloat_rounding.specs.Shapes.{format_at}
-use Rattle.apfloat_rounding.specs.Encoded.{layout_at, fields_at}
-use Rattle.apfloat_rounding.specs.Stored.{datum_at}
+use Rattle.apfloat_model.proofs.bits.{FieldsOf.fields_encode, EncodedOnce.encoded_once}
+use Rattle.apfloat_rounding.specs.{Shapes.format_at, Encoded.layout_at, Encoded.fields_at, Stored.datum_at}
 use Rattle.apfloat_rounding.proofs.bits.encode.Goals as goal
 
 pub returns-clause-encoded : goal.returns-clause-encoded

@@ -1,11 +1,8 @@
 use Rattle.std.proofs.Common.{◌≡◌, ℕ, Bool, false}
-use Rattle.apfloat_model.specs.declared.kinds.NonfiniteBehavior.{NonfiniteBehavior}
-use Rattle.apfloat_model.specs.declared.kinds.NonfiniteBehavior.TheVariants.{NanNegativeZero}
-use Rattle.apfloat_model.specs.formats.Members.{IsNanSignificand}
-use Rattle.apfloat_model.specs.formats.Nan.{nan_sign}
+use Rattle.apfloat_model.specs.declared.kinds.NonfiniteBehavior.{NonfiniteBehavior, TheVariants.NanNegativeZero}
+use Rattle.apfloat_model.specs.formats.{Members.IsNanSignificand, Nan.nan_sign}
 use Rattle.apfloat_model.proofs.bits.FieldsOf.{nan_fields_of, one_nan_fields_of}
-use Rattle.apfloat_rounding.specs.Shapes.{format_at}
-use Rattle.apfloat_rounding.specs.Encoded.{layout_at}
+use Rattle.apfloat_rounding.specs.{Shapes.format_at, Encoded.layout_at}
 use Rattle.apfloat_rounding.proofs.bits.fields_of_nan.Goals as goal
 
 no_significand : (kind : NonfiniteBehavior) (explicit : Bool) (precision s : ℕ) → kind ≡ NanNegativeZero

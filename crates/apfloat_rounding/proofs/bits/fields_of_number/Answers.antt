@@ -1,17 +1,11 @@
 use Rattle.std.proofs.Common.{Bool, true, false, ℕ, subst, ◌≡◌, ◌+◌, ◌-◌, ◌*◌, ◌^◌, ◌≤◌, refl, arith, ℤ, pos, ◌-ℤ◌}
-use Rattle.std.proofs.Common.{cond}
-use Rattle.std.proofs.lemmas.Int.{ints}
-use Rattle.apfloat_model.specs.formats.Format.{smallest_normalized, largest}
-use Rattle.apfloat_model.specs.formats.Datum.{finite}
+use Rattle.std.proofs.{Common.cond, lemmas.Int.ints}
+use Rattle.apfloat_model.specs.formats.{Format.smallest_normalized, Format.largest, Datum.finite}
 use Rattle.apfloat_model.specs.bits.Interchange.{IsInterchange, AreFieldsOf}
-use Rattle.apfloat_model.proofs.bits.EncodedOnce.{fields_with}
-use Rattle.apfloat_model.proofs.bits.FieldsOf.{low_fields_of, high_fields_of}
-use Rattle.apfloat_rounding.specs.Shapes.{format_at}
-use Rattle.apfloat_rounding.specs.Stored.{quanta_at, IsNormalAt}
-use Rattle.apfloat_rounding.specs.declared.shape.Shape.{Shape}
-use Rattle.apfloat_rounding.specs.declared.bits.Widths.{Widths}
+use Rattle.apfloat_model.proofs.bits.{EncodedOnce.fields_with, FieldsOf.low_fields_of, FieldsOf.high_fields_of}
+use Rattle.apfloat_rounding.specs.{Shapes.format_at, Stored.quanta_at, Stored.IsNormalAt, declared.shape.Shape.Shape}
+use Rattle.apfloat_rounding.specs.{declared.bits.Widths.Widths, Encoded.layout_at}
 use Rattle.apfloat_rounding.proofs.StoredBack.{quanta_some}
-use Rattle.apfloat_rounding.specs.Encoded.{layout_at}
 use Rattle.apfloat_rounding.proofs.StoredNumbers.{quanta_low, quanta_low_below, quanta_high}
 use Rattle.apfloat_rounding.proofs.bits.fields_of_number.Goals as goal
 

@@ -1,12 +1,8 @@
 use Rattle.std.proofs.Common.{◌≡◌, ◌-◌, refl, subst, Bool, true, false, ℕ, cond}
 use Rattle.std.proofs.lemmas.Nat.{pow_pos}
-use Rattle.apfloat_model.specs.formats.Datum.{infinite}
-use Rattle.apfloat_model.specs.bits.Interchange.{AreFieldsOf}
-use Rattle.apfloat_model.specs.bits.Layout.{all_ones}
-use Rattle.apfloat_model.proofs.bits.EncodedOnce.{fields_with}
-use Rattle.apfloat_model.proofs.bits.FieldsOf.{low_fields_of, infinity_fields_of}
-use Rattle.apfloat_rounding.specs.Shapes.{format_at}
-use Rattle.apfloat_rounding.specs.Encoded.{layout_at}
+use Rattle.apfloat_model.specs.{formats.Datum.infinite, bits.Interchange.AreFieldsOf, bits.Layout.all_ones}
+use Rattle.apfloat_model.proofs.bits.{EncodedOnce.fields_with, FieldsOf.low_fields_of, FieldsOf.infinity_fields_of}
+use Rattle.apfloat_rounding.specs.{Shapes.format_at, Encoded.layout_at}
 use Rattle.apfloat_rounding.proofs.bits.fields_of_value.Goals as goal
 
 pub returns-in-Zero : goal.returns-in-Zero

@@ -1,6 +1,5 @@
 use Rattle.std.proofs.Common.{arith}
-use Rattle.apfloat_model.proofs.formats.Ranges.{low_within}
-use Rattle.apfloat_model.proofs.general.Powers.{twice_half}
+use Rattle.apfloat_model.proofs.{formats.Ranges.low_within, general.Powers.twice_half}
 use Rattle.apfloat_rounding.specs.Shapes.{format_at}
 use Rattle.apfloat_rounding.proofs.bits.implied_number.Goals as goal
 

@@ -2,8 +2,7 @@ use Rattle.std.proofs.Common.{rules, ◌+◌, ◌-◌, ◌^◌, ◌<◌, ◌∙�
 use Rattle.apfloat_model.specs.formats.Format.{smallest_normalized}
 use Rattle.apfloat_model.proofs.general.Powers.{twice_half}
 use Rattle.apfloat_model.proofs.formats.Ranges.{ieee_within, nan_only_within, negative_zero_within}
-use Rattle.apfloat_rounding.specs.Shapes.{format_at}
-use Rattle.apfloat_rounding.specs.Encoded.{layout_at}
+use Rattle.apfloat_rounding.specs.{Shapes.format_at, Encoded.layout_at}
 use Rattle.apfloat_rounding.proofs.bits.implied_value.Goals as goal
 use Rattle.apfloat_rounding.proofs.bits.implied_value.Goals.{else-is_greatest-via-then-is_greatest+else-fields-ones}
 use Rattle.apfloat_rounding.proofs.bits.implied_value.Goals.{else-is_greatest-via-else-is_greatest}

@@ -1,6 +1,5 @@
 use Rattle.std.proofs.Common.{ℕ, ◌<◌, ◌≤◌, ◌*◌, ◌^◌, ◌+◌, suc, Bool, true, false, cond, refl, arith}
-use Rattle.std.proofs.lemmas.Nat.{shl_whole, or_shifted, mul-add-lt}
-use Rattle.std.proofs.Math.Nat.{two-pow-succ}
+use Rattle.std.proofs.{lemmas.Nat.shl_whole, lemmas.Nat.or_shifted, lemmas.Nat.mul-add-lt, Math.Nat.two-pow-succ}
 use Rattle.apfloat_model.specs.bits.Layout.{trailing_bits}
 use Rattle.apfloat_rounding.specs.Shapes.{format_at}
 use Rattle.apfloat_rounding.proofs.bits.join.Goals as goal

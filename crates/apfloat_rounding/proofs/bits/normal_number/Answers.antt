@@ -1,10 +1,7 @@
 use Rattle.std.proofs.Common.{◌+◌, ◌-◌, ◌*◌, ◌^◌, ◌<◌, ◌≤◌, arith}
-use Rattle.std.proofs.lemmas.Nat.{pow_pos}
-use Rattle.std.proofs.lemmas.Bool.{ne_eqb}
-use Rattle.std.proofs.Math.Nat.{mul-pos, pow-le-pow_right}
+use Rattle.std.proofs.{lemmas.Nat.pow_pos, lemmas.Bool.ne_eqb, Math.Nat.mul-pos, Math.Nat.pow-le-pow_right}
 use Rattle.apfloat_model.specs.formats.Format.{smallest_normalized}
-use Rattle.apfloat_model.proofs.general.Powers.{two_pos, twice_half}
-use Rattle.apfloat_model.proofs.rounding.Deliveries.{signed_some}
+use Rattle.apfloat_model.proofs.{general.Powers.two_pos, general.Powers.twice_half, rounding.Deliveries.signed_some}
 use Rattle.apfloat_rounding.specs.Shapes.{format_at}
 use Rattle.apfloat_rounding.proofs.bits.normal_number.Goals as goal
 

@@ -1,8 +1,6 @@
 use Rattle.std.proofs.Common.{◌^◌, ◌<◌, arith}
-use Rattle.apfloat_model.proofs.bits.EncodedOnce.{explicit_kind}
-use Rattle.apfloat_model.proofs.formats.Ranges.{ieee_within}
-use Rattle.apfloat_rounding.specs.Shapes.{format_at}
-use Rattle.apfloat_rounding.specs.Encoded.{layout_at}
+use Rattle.apfloat_model.proofs.{bits.EncodedOnce.explicit_kind, formats.Ranges.ieee_within}
+use Rattle.apfloat_rounding.specs.{Shapes.format_at, Encoded.layout_at}
 use Rattle.apfloat_rounding.proofs.bits.written_number.Goals as goal
 
 pub from_quanta-requires-clause-near : goal.from_quanta-requires-clause-near

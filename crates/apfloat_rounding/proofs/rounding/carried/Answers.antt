@@ -1,7 +1,6 @@
 use Rattle.std.proofs.Common.{◌≡◌, ℕ, ◌-◌, ◌*◌, ◌^◌, ◌<◌, ap, sym, ◌∙◌, arith}
 use Rattle.std.proofs.lemmas.Nat.{pow_pos}
-use Rattle.apfloat_model.proofs.general.Powers.{twice_half}
-use Rattle.apfloat_model.proofs.rounding.Neighbours.{carried}
+use Rattle.apfloat_model.proofs.{general.Powers.twice_half, rounding.Neighbours.carried}
 use Rattle.apfloat_rounding.proofs.rounding.carried.Goals as goal
 
 pub returns-then-significand-power_of_two-clause-value : goal.returns-then-significand-power_of_two-clause-value

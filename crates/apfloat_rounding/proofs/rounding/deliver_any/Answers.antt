@@ -1,5 +1,4 @@
-use Rattle.std.proofs.Common.{w32}
-use Rattle.std.proofs.lemmas.Int.{to_z-of_z}
+use Rattle.std.proofs.{Common.w32, lemmas.Int.to_z-of_z}
 use Rattle.apfloat_rounding.proofs.rounding.deliver_any.Goals as goal
 
 pub returns-clause-delivered : goal.returns-clause-delivered

@@ -1,13 +1,10 @@
+use Rattle.std.proofs.{Math.Nat.pow-le-pow_right, lemmas.Int.ints, lemmas.Int.to_z-of_z}
 use Rattle.std.proofs.Common.{◌≡◌, ℕ, ◌+◌, ◌*◌, ◌^◌, ◌≤◌, ⊎_elim, arith, sym, ◌∙◌, subst, ℤ, pos, ◌+ℤ◌, to_z, of_z, w32}
-use Rattle.std.proofs.Math.Nat.{pow-le-pow_right}
-use Rattle.std.proofs.lemmas.Int.{ints, to_z-of_z}
-use Rattle.apfloat_model.proofs.general.Powers.{two_pos}
-use Rattle.apfloat_model.proofs.rounding.OddRoundings.{to_odd_least}
-use Rattle.apfloat_rounding.proofs.FineCuts.{all_kept}
+use Rattle.apfloat_model.proofs.{general.Powers.two_pos, rounding.OddRoundings.to_odd_least}
 use Rattle.apfloat_model.specs.declared.loss.Loss.TheVariants.{ExactlyZero}
 use Rattle.apfloat_model.specs.rounding.Standing.{StandsFor, up, down}
+use Rattle.apfloat_rounding.proofs.{FineCuts.all_kept, rounding.deliver_counted_u128.Goals.After-unit_place-unit}
 use Rattle.apfloat_rounding.specs.Shapes.{format_at}
-use Rattle.apfloat_rounding.proofs.rounding.deliver_counted_u128.Goals.{After-unit_place-unit}
 use Rattle.apfloat_rounding.proofs.rounding.deliver_counted_u128.Goals as goal
 
 -- the unit, counted from the quantum

@@ -1,6 +1,5 @@
 use Rattle.std.proofs.Common.{◌*◌, ◌^◌, sym, refl, arith}
-use Rattle.apfloat_model.proofs.rounding.Deliveries.{past_is}
-use Rattle.apfloat_model.proofs.rounding.PickedPoints.{past_same, past_other}
+use Rattle.apfloat_model.proofs.rounding.{Deliveries.past_is, PickedPoints.past_same, PickedPoints.past_other}
 use Rattle.apfloat_rounding.specs.Shapes.{format_at}
 use Rattle.apfloat_rounding.proofs.rounding.is_past.Goals as goal
 

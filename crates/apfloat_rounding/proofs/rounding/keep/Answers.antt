@@ -1,9 +1,7 @@
 use Rattle.std.proofs.Common.{◌≡◌, ℕ, ◌+◌, ◌-◌, ◌*◌, ◌/◌, ◌%◌, ◌^◌, ◌<◌, sym, ap, ◌∙◌, subst, arith, pos, ◌≤ℤ◌, w32}
-use Rattle.std.proofs.Math.Path.{subst₂}
-use Rattle.std.proofs.Math.Nat.{mul-pos}
-use Rattle.std.proofs.lemmas.Nat.{pow_pos, shr-shr}
+use Rattle.std.proofs.Math.{Path.subst₂, Nat.mul-pos}
+use Rattle.std.proofs.lemmas.{Nat.pow_pos, Nat.shr-shr, Int.ints, Int.to_z-of_z}
 use Rattle.apfloat_model.specs.declared.loss.Loss.{Loss}
-use Rattle.std.proofs.lemmas.Int.{ints, to_z-of_z}
 use Rattle.apfloat_model.specs.rounding.Standing.{StandsFor, up, down}
 use Rattle.apfloat_model.proofs.rounding.KeptDigits.{cut_fits, cut_full, shift_fits, shift_full, cut_kept, shift_kept}
 use Rattle.apfloat_model.proofs.rounding.KeptDigits.{zero_kept, exact_zero, exact_shift}

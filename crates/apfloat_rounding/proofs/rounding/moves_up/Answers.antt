@@ -1,6 +1,5 @@
 use Rattle.std.proofs.Common.{ap, ◌∙◌}
-use Rattle.apfloat_model.specs.declared.loss.Loss.{Loss}
-use Rattle.apfloat_model.specs.rounding.Enclosure.{rounds_up}
+use Rattle.apfloat_model.specs.{declared.loss.Loss.Loss, rounding.Enclosure.rounds_up}
 use Rattle.apfloat_rounding.proofs.rounding.moves_up.Goals as goal
 
 pub returns : goal.returns

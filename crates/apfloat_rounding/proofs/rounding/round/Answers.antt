@@ -1,15 +1,9 @@
-use Rattle.std.proofs.Common.{◌≡◌, ℕ, ◌⊎◌, ◌-◌, ◌*◌, ◌%◌, ◌^◌, ◌≤◌, eqb, ◌∙◌, ap, sym, subst, refl, inl}
-use Rattle.std.proofs.Common.{inr, ⊎_elim}
-use Rattle.std.proofs.Math.Nat.{le_trans}
-use Rattle.std.proofs.lemmas.Bool.{le-ltb}
-use Rattle.apfloat_model.specs.rounding.Enclosure.{rounds_up}
-use Rattle.apfloat_model.specs.rounding.Flags.{bits_of}
-use Rattle.apfloat_model.specs.rounding.Rounding.{is_tiny}
+use Rattle.std.proofs.{Math.Nat.le_trans, lemmas.Bool.le-ltb}
+use Rattle.std.proofs.Common.{◌≡◌, ℕ, ◌⊎◌, ◌-◌, ◌*◌, ◌%◌, ◌^◌, ◌≤◌, eqb, ◌∙◌, ap, sym, subst, refl, inl, inr, ⊎_elim}
+use Rattle.apfloat_model.specs.rounding.{Enclosure.rounds_up, Flags.bits_of, Rounding.is_tiny}
 use Rattle.apfloat_model.specs.formats.Format.{largest}
-use Rattle.apfloat_rounding.specs.Cuts.{loss_at}
-use Rattle.apfloat_rounding.specs.Shapes.{format_at}
-use Rattle.apfloat_rounding.specs.Stored.{datum_at}
 use Rattle.apfloat_model.proofs.rounding.Deliveries.{delivered_past}
+use Rattle.apfloat_rounding.specs.{Cuts.loss_at, Shapes.format_at, Stored.datum_at}
 use Rattle.apfloat_rounding.proofs.CutRests.{picked_if_moved, delivered_within}
 use Rattle.apfloat_rounding.proofs.rounding.round.Goals.{After-pick_with_status-picked}
 use Rattle.apfloat_rounding.proofs.rounding.round.Goals as goal

@@ -1,15 +1,10 @@
-use Rattle.std.proofs.Common.{◌≡◌, ℕ, ◌*◌, ◌%◌, ◌^◌, ◌≤◌, eqb, ◌∙◌, ap, refl, inl, arith}
-use Rattle.std.proofs.lemmas.Bool.{le-ltb}
-use Rattle.apfloat_model.specs.rounding.Enclosure.{rounds_up}
-use Rattle.apfloat_model.specs.rounding.Flags.{bits_of}
-use Rattle.apfloat_model.specs.rounding.Rounding.{signed_quanta}
+use Rattle.std.proofs.Common.{◌≡◌, ℕ, ◌*◌, ◌%◌, ◌^◌, ◌≤◌, eqb, ◌∙◌, ap, refl, inl}
+use Rattle.std.proofs.{Common.arith, lemmas.Bool.le-ltb}
+use Rattle.apfloat_model.specs.rounding.{Enclosure.rounds_up, Flags.bits_of, Rounding.signed_quanta}
 use Rattle.apfloat_model.specs.formats.Format.{largest}
 use Rattle.apfloat_model.proofs.formats.Ranges.{half_within}
-use Rattle.apfloat_rounding.specs.Cuts.{loss_at}
-use Rattle.apfloat_rounding.specs.Shapes.{format_at}
-use Rattle.apfloat_rounding.specs.Stored.{datum_at}
-use Rattle.apfloat_rounding.proofs.CutRests.{delivered_within}
-use Rattle.apfloat_rounding.proofs.FineCuts.{below_whole}
+use Rattle.apfloat_rounding.specs.{Cuts.loss_at, Shapes.format_at, Stored.datum_at}
+use Rattle.apfloat_rounding.proofs.{CutRests.delivered_within, FineCuts.below_whole}
 use Rattle.apfloat_rounding.proofs.rounding.round_below.Goals as goal
 
 pub pick_with_status-picked-requires-clause-fits : goal.pick_with_status-picked-requires-clause-fits

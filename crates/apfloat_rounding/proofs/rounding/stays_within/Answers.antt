@@ -1,7 +1,6 @@
 use Rattle.std.proofs.Common.{◌^◌}
 use Rattle.apfloat_rounding.specs.Shapes.{format_at}
-use Rattle.apfloat_rounding.proofs.CutRests.{within_format}
-use Rattle.apfloat_rounding.proofs.FineCuts.{below_last}
+use Rattle.apfloat_rounding.proofs.{CutRests.within_format, FineCuts.below_last}
 use Rattle.apfloat_rounding.proofs.rounding.stays_within.Goals as goal
 
 pub returns-clause-within : goal.returns-clause-within

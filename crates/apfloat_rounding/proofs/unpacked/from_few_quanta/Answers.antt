@@ -1,11 +1,8 @@
-use Rattle.std.proofs.Common.{◌≡◌, ◌-◌, ◌*◌, ◌^◌, ◌<◌, ◌≤◌, sym, ◌∙◌, arith, to_z, of_z, w32}
-use Rattle.std.proofs.lemmas.Int.{ints, to_z-of_z}
+use Rattle.std.proofs.Common.{◌≡◌, ◌-◌, ◌*◌, ◌^◌, ◌<◌, ◌≤◌, sym, ◌∙◌, arith, to_z}
+use Rattle.std.proofs.{Common.of_z, Common.w32, lemmas.Int.ints, lemmas.Int.to_z-of_z, lemmas.Nat.pow_pos}
 use Rattle.std.proofs.Math.Nat.{mod-eq_of_lt, pow-le-pow_right}
-use Rattle.std.proofs.lemmas.Nat.{pow_pos}
-use Rattle.apfloat_model.proofs.general.Powers.{two_pos, twice_half}
-use Rattle.apfloat_model.proofs.formats.Ranges.{half_within}
-use Rattle.apfloat_model.proofs.rounding.KeptDigits.{digits_le, fits_shifted}
-use Rattle.apfloat_model.proofs.rounding.Deliveries.{signed_some}
+use Rattle.apfloat_model.proofs.{general.Powers.two_pos, general.Powers.twice_half, formats.Ranges.half_within}
+use Rattle.apfloat_model.proofs.rounding.{KeptDigits.digits_le, KeptDigits.fits_shifted, Deliveries.signed_some}
 use Rattle.apfloat_rounding.specs.Shapes.{format_at}
 use Rattle.apfloat_rounding.proofs.StoredNumbers.{IsMovedUp, moved_up_quanta, moved_up_normal}
 use Rattle.apfloat_rounding.proofs.unpacked.from_few_quanta.Goals.{After-digits, Else-quanta-eq0}

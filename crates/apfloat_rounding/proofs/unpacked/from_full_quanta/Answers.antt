@@ -1,7 +1,5 @@
 use Rattle.std.proofs.Common.{◌≡◌, ◌-◌, ◌*◌, ◌^◌, ◌<◌, sym, arith, to_z, of_z, w32}
-use Rattle.std.proofs.lemmas.Int.{ints, to_z-of_z}
-use Rattle.std.proofs.Math.Nat.{mul-pos}
-use Rattle.std.proofs.lemmas.Nat.{pow_pos}
+use Rattle.std.proofs.{lemmas.Int.ints, lemmas.Int.to_z-of_z, lemmas.Nat.pow_pos, Math.Nat.mul-pos}
 use Rattle.apfloat_model.proofs.rounding.Deliveries.{signed_some}
 use Rattle.apfloat_rounding.proofs.StoredNumbers.{IsMovedUp, moved_up_quanta, moved_up_normal}
 use Rattle.apfloat_rounding.proofs.unpacked.from_full_quanta.Goals as goal

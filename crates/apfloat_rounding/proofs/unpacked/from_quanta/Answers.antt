@@ -1,9 +1,6 @@
 use Rattle.std.proofs.Common.{rules, ◌-◌, ◌*◌, ◌^◌, ◌<◌, sym, arith, to_z, of_z, w32}
-use Rattle.std.proofs.lemmas.Int.{ints, to_z-of_z}
-use Rattle.std.proofs.Math.Nat.{mul-pos}
-use Rattle.std.proofs.lemmas.Nat.{pow_pos}
-use Rattle.apfloat_model.proofs.rounding.KeptDigits.{digits_le, fits_shifted}
-use Rattle.apfloat_model.proofs.rounding.Deliveries.{signed_some}
+use Rattle.std.proofs.{lemmas.Int.ints, lemmas.Int.to_z-of_z, lemmas.Nat.pow_pos, Math.Nat.mul-pos}
+use Rattle.apfloat_model.proofs.rounding.{KeptDigits.digits_le, KeptDigits.fits_shifted, Deliveries.signed_some}
 use Rattle.apfloat_rounding.proofs.StoredNumbers.{IsMovedUp, moved_up_quanta, moved_up_normal}
 use Rattle.apfloat_rounding.proofs.unpacked.from_quanta.Goals as goal
 

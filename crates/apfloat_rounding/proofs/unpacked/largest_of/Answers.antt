@@ -1,6 +1,5 @@
 use Rattle.std.proofs.Common.{◌<◌, ◌-◌, ◌*◌, ◌^◌, refl, arith}
-use Rattle.std.proofs.lemmas.Nat.{pow_pos}
-use Rattle.std.proofs.Math.Nat.{mul-pos}
+use Rattle.std.proofs.{lemmas.Nat.pow_pos, Math.Nat.mul-pos}
 use Rattle.apfloat_model.proofs.rounding.Deliveries.{signed_some}
 use Rattle.apfloat_rounding.proofs.unpacked.largest_of.Goals as goal
 

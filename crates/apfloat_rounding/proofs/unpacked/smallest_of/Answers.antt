@@ -1,7 +1,6 @@
 use Rattle.std.proofs.Common.{◌≤◌, ◌^◌, arith}
 use Rattle.std.proofs.Math.Nat.{pow-le-pow_right}
-use Rattle.apfloat_model.proofs.general.Powers.{two_pos}
-use Rattle.apfloat_model.proofs.formats.Ranges.{one_within}
+use Rattle.apfloat_model.proofs.{general.Powers.two_pos, formats.Ranges.one_within}
 use Rattle.apfloat_rounding.specs.Shapes.{format_at}
 use Rattle.apfloat_rounding.proofs.unpacked.smallest_of.Goals as goal
 

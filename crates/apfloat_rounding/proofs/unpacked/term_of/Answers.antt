@@ -1,5 +1,4 @@
-use Rattle.std.proofs.Common.{arith}
-use Rattle.std.proofs.lemmas.Int.{ints}
+use Rattle.std.proofs.{Common.arith, lemmas.Int.ints}
 use Rattle.apfloat_rounding.proofs.unpacked.term_of.Goals as goal
 
 pub last_exponent-requires : goal.last_exponent-requires

@@ -1,9 +1,8 @@
-use Rattle.std.proofs.Common.{◌≡◌, ℕ, ◌*◌, ◌/◌, ◌%◌, ◌^◌, ◌<◌, ◌≤◌, ◌∙◌, ap, arith}
-use Rattle.std.proofs.Math.Nat.{mod-eq_of_lt, pow-le-pow_right, mul-le-mul_left, mul-lt-mul_of_pos_right}
-use Rattle.std.proofs.lemmas.Nat.{pow_pos}
+use Rattle.std.proofs.Common.{◌≡◌, ℕ, ◌*◌, ◌/◌, ◌%◌, ◌^◌, ◌<◌, ◌≤◌, ◌∙◌, ap}
+use Rattle.std.proofs.{Common.arith, Math.Nat.mod-eq_of_lt, Math.Nat.pow-le-pow_right, Math.Nat.mul-le-mul_left}
+use Rattle.std.proofs.{Math.Nat.mul-lt-mul_of_pos_right, lemmas.Nat.pow_pos}
 use Rattle.apfloat_model.specs.rounding.RoundingToOdd.{odd_for_rest}
-use Rattle.apfloat_model.proofs.general.Powers.{two_pos}
-use Rattle.apfloat_model.proofs.rounding.KeptDigits.{fits_shifted}
+use Rattle.apfloat_model.proofs.{general.Powers.two_pos, rounding.KeptDigits.fits_shifted}
 use Rattle.apfloat_words.proofs.guessed_quotient.divide_by_guess.Goals as goal
 
 -- the dividend, moved up, fits in a u128

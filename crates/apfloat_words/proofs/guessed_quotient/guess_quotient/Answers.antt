@@ -1,6 +1,5 @@
-use Rattle.std.proofs.Common.{◌≡◌, ℕ, ◌+◌, ◌-◌, ◌*◌, ◌/◌, ◌%◌, ◌^◌, ◌<◌, ◌≤◌, arith}
-use Rattle.std.proofs.Math.Nat.{mod-eq_of_lt, le-div_iff_mul-le}
-use Rattle.std.proofs.lemmas.Nat.{pow_pos}
+use Rattle.std.proofs.Common.{◌≡◌, ℕ, ◌+◌, ◌-◌, ◌*◌, ◌/◌, ◌%◌, ◌^◌, ◌<◌, ◌≤◌}
+use Rattle.std.proofs.{Common.arith, Math.Nat.mod-eq_of_lt, Math.Nat.le-div_iff_mul-le, lemmas.Nat.pow_pos}
 use Rattle.apfloat_model.proofs.rounding.KeptDigits.{fits_shifted, full_shifted}
 use Rattle.apfloat_words.proofs.guessed_quotient.guess_quotient.Goals as goal
 

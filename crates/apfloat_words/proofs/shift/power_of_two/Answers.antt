@@ -1,6 +1,5 @@
 use Rattle.std.proofs.Common.{◌∙◌, arith}
-use Rattle.std.proofs.Math.Nat.{mod-eq_of_lt}
-use Rattle.std.proofs.Math.Pow.{pow-lt}
+use Rattle.std.proofs.Math.{Nat.mod-eq_of_lt, Pow.pow-lt}
 use Rattle.apfloat_words.proofs.shift.power_of_two.Goals as goal
 
 pub returns : goal.returns

@@ -1,12 +1,11 @@
 use Rattle.std.proofs.Common.{◌≡◌, ◌≤ℤ◌, ◌^◌, ◌<◌, ◌≤◌, ℤ, Bool, ⊎_elim, to_z, of_z, w32, ◌∙◌, sym, refl, subst, arith}
 use Rattle.std.proofs.lemmas.Int.{ints}
-use Rattle.apfloat_words.specs.declared.terms.Term.{Term}
-use Rattle.apfloat_words.specs.Totals.{counted, StandsForSigned}
+use Rattle.apfloat_words.specs.{declared.terms.Term.Term, Totals.counted, Totals.StandsForSigned}
+use Rattle.apfloat_words.proofs.Orders.{of_high, of_low, greater_first, like_in_order, like_out_of_order}
+use Rattle.apfloat_words.proofs.Orders.{sign_unless_zero, sign_of_zero}
+use Rattle.apfloat_words.proofs.{LossTotals.total_swapped, sum.add_terms.Goals.After-sum_of-total}
 use Rattle.apfloat_model.specs.rounding.Bounds.{IsWithin, exponent_bound}
-use Rattle.apfloat_words.proofs.Orders.{of_high, of_low, greater_first, like_in_order, like_out_of_order, sign_unless_zero, sign_of_zero}
 use Rattle.apfloat_model.proofs.arithmetic.Signs.{swapped_sum}
-use Rattle.apfloat_words.proofs.LossTotals.{total_swapped}
-use Rattle.apfloat_words.proofs.sum.add_terms.Goals.{After-sum_of-total}
 use Rattle.apfloat_words.proofs.sum.add_terms.Goals as goal
 
 pub sum_of-total-requires-clause-above : goal.sum_of-total-requires-clause-above

@@ -1,5 +1,6 @@
 use Rattle.std.proofs.Common.{◌-◌, ◌<◌, arith}
-use Rattle.apfloat_words.proofs.LossTotals.{level_difference, even_difference, borrowed_difference, reversed_difference, cut_alone}
+use Rattle.apfloat_words.proofs.LossTotals.{level_difference, even_difference, borrowed_difference, reversed_difference}
+use Rattle.apfloat_words.proofs.LossTotals.{cut_alone}
 use Rattle.apfloat_words.proofs.sum.apart.Goals as goal
 
 pub returns-then-gap-eq0-clause-is : goal.returns-then-gap-eq0-clause-is

@@ -1,10 +1,9 @@
 use Rattle.std.proofs.Common.{◌≡◌, ◌+ℤ◌, pos, ◌-◌, Bool, cond, refl, sym, ap, ◌∙◌, subst, to_z, of_z, w32, arith}
-use Rattle.std.proofs.lemmas.Bool.{false≢true}
-use Rattle.std.proofs.lemmas.Int.{to_z-of_z, ints}
+use Rattle.std.proofs.lemmas.{Bool.false≢true, Int.to_z-of_z, Int.ints}
 use Rattle.apfloat_words.specs.Totals.{StandsForSigned, counted}
 use Rattle.apfloat_words.proofs.LossTotals.{together_stands, apart_stands, exponent_is}
-use Rattle.apfloat_model.proofs.general.Choices.{like, unlike}
 use Rattle.apfloat_words.proofs.sum.sum_of.Goals.{then-difference, else-difference}
+use Rattle.apfloat_model.proofs.general.Choices.{like, unlike}
 use Rattle.apfloat_words.proofs.sum.sum_of.Goals as goal
 
 pub returns-then-high-low-clause-stands : goal.returns-then-high-low-clause-stands

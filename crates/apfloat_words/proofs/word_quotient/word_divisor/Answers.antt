@@ -1,6 +1,5 @@
-use Rattle.std.proofs.Common.{◌≡◌, ℕ, ◌+◌, ◌-◌, ◌*◌, ◌/◌, ◌%◌, ◌^◌, ◌<◌, ◌≤◌, arith}
-use Rattle.std.proofs.Math.Nat.{le-div_iff_mul-le, div-lt_iff_lt-mul}
-use Rattle.std.proofs.lemmas.Nat.{pow_pos}
+use Rattle.std.proofs.Common.{◌≡◌, ℕ, ◌+◌, ◌-◌, ◌*◌, ◌/◌, ◌%◌, ◌^◌, ◌<◌, ◌≤◌}
+use Rattle.std.proofs.{Common.arith, Math.Nat.le-div_iff_mul-le, Math.Nat.div-lt_iff_lt-mul, lemmas.Nat.pow_pos}
 use Rattle.apfloat_words.proofs.MovedUp.{HasDigits, digits_few, up_narrow, up_full, up_whole}
 use Rattle.apfloat_words.proofs.word_quotient.word_divisor.Goals.{After-digits-up}
 use Rattle.apfloat_words.proofs.word_quotient.word_divisor.Goals as goal

@@ -1,6 +1,5 @@
 use Rattle.std.proofs.Common.{◌≡◌, ℕ, List, [], ◌∷◌, ◌++◌, Some, append_assoc, refl}
-use Rattle.std.proofs.lemmas.Bool.Decides.{Decides-eqb}
-use Rattle.std.proofs.lemmas.Slice.Eq.{strip_prefix_is}
+use Rattle.std.proofs.lemmas.{Bool.Decides.Decides-eqb, Slice.Eq.strip_prefix_is}
 use Rattle.rustc_apfloat.specs.Flags.{bits_of}
 use Rattle.commands.specs.Replies.{hexadecimal_text, line_text, status_text}
 use Rattle.commands.proofs.Hexadecimals.{last_digits}

@@ -1,5 +1,4 @@
-use Rattle.std.proofs.Common.{arith}
-use Rattle.std.proofs.lemmas.Bool.{lt-ltb, le-ltb}
+use Rattle.std.proofs.{Common.arith, lemmas.Bool.lt-ltb, lemmas.Bool.le-ltb}
 use Rattle.commands.proofs.output.hexadecimal_digit.Goals as goal
 
 pub returns-then-digit-lt10 : goal.returns-then-digit-lt10

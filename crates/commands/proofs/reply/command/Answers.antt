@@ -1,6 +1,5 @@
 use Rattle.std.proofs.Common.{arith, length, map, string_bytes}
-use Rattle.std.proofs.lemmas.Grind.{common_steps}
-use Rattle.std.proofs.lemmas.List.{length-map}
+use Rattle.std.proofs.lemmas.{Grind.common_steps, List.length-map}
 use Rattle.commands.proofs.Counted.{only_count, only_counted}
 use Rattle.commands.proofs.reply.command.Goals as goal
 

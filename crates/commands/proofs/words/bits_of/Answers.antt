@@ -1,4 +1,5 @@
-use Rattle.std.proofs.Common.{◌≡◌, ℕ, ◌+◌, true, false, List, length, take, drop, codes, Option, Some, None, MatchOption, Bor, refl, ap, ◌∙◌}
+use Rattle.std.proofs.Common.{◌≡◌, ℕ, ◌+◌, true, false, List, length, take, drop, codes, Option, Some, None}
+use Rattle.std.proofs.Common.{MatchOption, Bor, refl, ap, ◌∙◌}
 use Rattle.std.specs.Prelude.{unwrap_or}
 use Rattle.rustc_apfloat.specs.Digits.{same}
 use Rattle.commands.specs.Commands.{after_0x, bits_of_digits}

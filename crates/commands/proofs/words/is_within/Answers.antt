@@ -1,6 +1,5 @@
 use Rattle.std.proofs.Common.{◌^◌, ◌≤◌, ◌<◌, arith, lit<, sym, ◌∙◌}
-use Rattle.std.proofs.Math.Nat.{pow-le-pow_right}
-use Rattle.std.proofs.lemmas.Bool.{lt-ltb, le-leb}
+use Rattle.std.proofs.{Math.Nat.pow-le-pow_right, lemmas.Bool.lt-ltb, lemmas.Bool.le-leb}
 use Rattle.commands.proofs.words.is_within.Goals as goal
 
 pub returns-then-width-ge128 : goal.returns-then-width-ge128

@@ -1,4 +1,5 @@
-use Rattle.apfloat_pair_theory.proofs.calls.PairFlagsTogether.{pair_sum_together, pair_difference_together, pair_product_together}
+use Rattle.apfloat_pair_theory.proofs.calls.PairFlagsTogether.{pair_sum_together, pair_difference_together}
+use Rattle.apfloat_pair_theory.proofs.calls.PairFlagsTogether.{pair_product_together}
 use Rattle.conformance.proofs.pair_statuses.chains.Goals as goal
 
 pub returns-clause-sum : goal.returns-clause-sum

@@ -1,4 +1,5 @@
-use Rattle.apfloat_pair_theory.proofs.calls.PairFlagsTogether.{pair_next_up_together, pair_next_down_together, pair_round_to_integral_together}
+use Rattle.apfloat_pair_theory.proofs.calls.PairFlagsTogether.{pair_next_up_together, pair_next_down_together}
+use Rattle.apfloat_pair_theory.proofs.calls.PairFlagsTogether.{pair_round_to_integral_together}
 use Rattle.conformance.proofs.pair_statuses.neighbours_and_integral.Goals as goal
 
 pub returns-clause-up : goal.returns-clause-up

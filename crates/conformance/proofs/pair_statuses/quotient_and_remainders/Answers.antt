@@ -1,4 +1,6 @@
-use Rattle.apfloat_pair_theory.proofs.calls.PairFlagsTogether.{pair_quotient_together, pair_truncated_remainder_together, pair_nearest_remainder_together}
+use Rattle.apfloat_pair_theory.proofs.calls.PairFlagsTogether.{pair_quotient_together}
+use Rattle.apfloat_pair_theory.proofs.calls.PairFlagsTogether.{pair_truncated_remainder_together}
+use Rattle.apfloat_pair_theory.proofs.calls.PairFlagsTogether.{pair_nearest_remainder_together}
 use Rattle.conformance.proofs.pair_statuses.quotient_and_remainders.Goals as goal
 
 pub returns-clause-quotient : goal.returns-clause-quotient

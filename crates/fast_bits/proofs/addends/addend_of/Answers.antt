@@ -1,10 +1,8 @@
+use Rattle.std.proofs.{Math.Nat.pow-le-pow_right, lemmas.Nat.pow_pos}
 use Rattle.std.proofs.Common.{◌≡◌, ℕ, ◌-◌, ◌*◌, ◌%◌, ◌^◌, ◌<◌, ◌≤◌, Bool, cond, not, refl, ap, ◌∙◌, arith}
-use Rattle.std.proofs.Math.Nat.{pow-le-pow_right}
-use Rattle.std.proofs.lemmas.Nat.{pow_pos}
 use Rattle.apfloat_model.specs.declared.kinds.Round.{Round}
 use Rattle.apfloat_model.proofs.general.Powers.{twice_half, two_pos}
-use Rattle.fast_bits.specs.Words.{IsLongAddend}
-use Rattle.fast_bits.specs.declared.addends.LongAddend.{LongAddend}
+use Rattle.fast_bits.specs.{Words.IsLongAddend, declared.addends.LongAddend.LongAddend}
 use Rattle.fast_bits.proofs.lanes_lemmas.Moves.{added_below, added_for, addend_rounds, odd_for, odd_most}
 use Rattle.fast_bits.proofs.addends.addend_of.Goals as goal
 

@@ -1,6 +1,4 @@
-use Rattle.std.proofs.Common.{arith}
-use Rattle.std.proofs.lemmas.Int.{ints}
-use Rattle.std.proofs.lemmas.Nat.{pow_pos}
+use Rattle.std.proofs.{Common.arith, lemmas.Int.ints, lemmas.Nat.pow_pos}
 use Rattle.apfloat_ieee.specs.FlaggedTypes.{format_of}
 use Rattle.fast_bits.proofs.Kept.{lengthened_kept}
 use Rattle.fast_bits.proofs.conversions.lengthened.Goals as goal

@@ -1,9 +1,7 @@
 use Rattle.std.proofs.Common.{◌*◌, ◌/◌, ◌%◌, ◌^◌, arith}
-use Rattle.std.proofs.lemmas.Int.{ints}
-use Rattle.std.proofs.lemmas.Nat.{pow_pos}
+use Rattle.std.proofs.lemmas.{Int.ints, Nat.pow_pos}
 use Rattle.apfloat_ieee.specs.FlaggedTypes.{format_of}
-use Rattle.fast_bits.proofs.Kept.{IsKeptNumber, shortened_kept}
-use Rattle.fast_bits.proofs.conversions.shortened.Given.{Over}
+use Rattle.fast_bits.proofs.{Kept.IsKeptNumber, Kept.shortened_kept, conversions.shortened.Given.Over}
 use Rattle.fast_bits.proofs.conversions.shortened.Goals as goal
 
 kept_is : (g : Over) (c : goal.After-struct_known-in-Some-1 g) → IsKeptNumber g.T.Flagged.PRECISION

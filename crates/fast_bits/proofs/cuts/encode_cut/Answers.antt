@@ -1,10 +1,8 @@
 use Rattle.std.proofs.Common.{ℕ, ◌+◌, ◌*◌, ◌^◌, cond, subst, arith}
-use Rattle.apfloat_model.specs.bits.Layout.{IsEncodedBy}
-use Rattle.apfloat_model.specs.formats.Datum.{finite}
-use Rattle.apfloat_ieee.specs.FlaggedTypes.{constants_of, format_of, layout_of}
+use Rattle.apfloat_model.specs.{bits.Layout.IsEncodedBy, formats.Datum.finite}
 use Rattle.apfloat_model.proofs.bits.Encodings.{lawful_interchange}
-use Rattle.fast_bits.proofs.Kept.{word_room}
-use Rattle.fast_bits.proofs.Roundings.{inner_delivered, moved_high, moved_low}
+use Rattle.apfloat_ieee.specs.FlaggedTypes.{constants_of, format_of, layout_of}
+use Rattle.fast_bits.proofs.{Kept.word_room, Roundings.inner_delivered, Roundings.moved_high, Roundings.moved_low}
 use Rattle.fast_bits.proofs.cuts.encode_cut.Goals as goal
 
 pub next_word_if-picked-requires : goal.next_word_if-picked-requires

@@ -1,5 +1,4 @@
-use Rattle.std.proofs.Common.{leb, arith}
-use Rattle.std.proofs.lemmas.Bool.{leb-true, leb-false}
+use Rattle.std.proofs.{Common.leb, Common.arith, lemmas.Bool.leb-true, lemmas.Bool.leb-false}
 use Rattle.apfloat_ieee.specs.FlaggedTypes.{constants_of}
 use Rattle.apfloat_model.proofs.bits.Encodings.{lawful_interchange}
 use Rattle.fast_bits.proofs.OrderedNumbers.{numbers_in_order, some_above}

@@ -1,9 +1,7 @@
 use Rattle.std.proofs.Common.{◌*◌, ◌^◌, Bool, subst, arith}
-use Rattle.std.proofs.lemmas.Int.{ints}
-use Rattle.std.proofs.lemmas.Nat.{pow_pos}
+use Rattle.std.proofs.lemmas.{Int.ints, Nat.pow_pos}
 use Rattle.apfloat_ieee.specs.FlaggedTypes.{constants_of, format_of}
-use Rattle.fast_bits.specs.Encoded.{IsEncodedNumber}
-use Rattle.fast_bits.specs.Numbers.{quanta_of}
+use Rattle.fast_bits.specs.{Encoded.IsEncodedNumber, Numbers.quanta_of}
 use Rattle.fast_bits.proofs.Operands.{product_kept}
 use Rattle.fast_bits.proofs.products.multiply_numbers.Goals as goal
 

@@ -1,11 +1,9 @@
 use Rattle.std.proofs.Common.{◌*◌, ◌^◌, refl, sym}
-use Rattle.std.specs.Prelude.{IfSome}
 use Rattle.std.proofs.Math.Path.{subst₂}
-use Rattle.apfloat_model.specs.arithmetic.Exact.{product_sign}
-use Rattle.apfloat_model.specs.arithmetic.Products.{IsProduct}
+use Rattle.std.specs.Prelude.{IfSome}
+use Rattle.apfloat_model.specs.arithmetic.{Exact.product_sign, Products.IsProduct}
 use Rattle.apfloat_ieee.specs.FlaggedTypes.{constants_of, format_of}
-use Rattle.fast_bits.specs.Encoded.{IsNumberAnswer}
-use Rattle.fast_bits.specs.Numbers.{quanta_of}
+use Rattle.fast_bits.specs.{Encoded.IsNumberAnswer, Numbers.quanta_of}
 use Rattle.fast_bits.proofs.Operands.{answered_if_some}
 use Rattle.fast_bits.proofs.products.multiply_words.Goals as goal
 

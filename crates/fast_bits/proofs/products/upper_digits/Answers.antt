@@ -1,6 +1,5 @@
 use Rattle.std.proofs.Common.{◌/◌, ◌^◌, arith}
-use Rattle.fast_bits.proofs.Kept.{word_room}
-use Rattle.fast_bits.proofs.Operands.{upper_fits, upper_full}
+use Rattle.fast_bits.proofs.{Kept.word_room, Operands.upper_fits, Operands.upper_full}
 use Rattle.fast_bits.proofs.products.upper_digits.Goals as goal
 
 pub overflow_cast-result : goal.overflow_cast-result

@@ -1,5 +1,4 @@
-use Rattle.std.proofs.Common.{arith}
-use Rattle.std.proofs.lemmas.Int.{ints}
+use Rattle.std.proofs.{Common.arith, lemmas.Int.ints}
 use Rattle.fast_bits.proofs.roots.halved_place.Goals as goal
 
 pub returns-clause-balance : goal.returns-clause-balance

@@ -1,6 +1,5 @@
 use Rattle.std.proofs.Common.{◌+◌, ◌-◌, arith}
-use Rattle.fast_bits.proofs.Kept.{word_room}
-use Rattle.fast_bits.proofs.RootAnswers.{root_fits}
+use Rattle.fast_bits.proofs.{Kept.word_room, RootAnswers.root_fits}
 use Rattle.fast_bits.proofs.roots.root_digits_in_steps.Goals as goal
 
 pub overflow_cast-result : goal.overflow_cast-result

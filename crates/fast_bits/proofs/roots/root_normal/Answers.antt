@@ -1,7 +1,6 @@
 use Rattle.std.proofs.Common.{subst, sym}
 use Rattle.std.specs.Prelude.{IfSome}
-use Rattle.apfloat_model.specs.arithmetic.Roots.{IsRoot}
-use Rattle.apfloat_model.specs.formats.Datum.{Datum}
+use Rattle.apfloat_model.specs.{arithmetic.Roots.IsRoot, formats.Datum.Datum}
 use Rattle.apfloat_ieee.specs.FlaggedTypes.{constants_of, format_of}
 use Rattle.fast_bits.specs.Encoded.{IsEncodedAnswer}
 use Rattle.fast_bits.proofs.RootAnswers.{root_if_some}

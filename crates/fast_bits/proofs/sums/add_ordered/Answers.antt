@@ -1,16 +1,12 @@
 use Rattle.std.proofs.Common.{◌≡◌, ◌+◌, ◌^◌, ◌≤◌, ◌+ℤ◌, refl, to_z, of_z, w32, arith}
-use Rattle.std.proofs.Math.Nat.{pow-le-pow_right}
-use Rattle.std.proofs.lemmas.Int.{ints}
-use Rattle.apfloat_model.specs.arithmetic.Exact.{signed, sign_of, magnitude}
-use Rattle.apfloat_model.specs.arithmetic.Sums.{zero_sum_sign}
-use Rattle.apfloat_model.proofs.general.Powers.{two_pos}
-use Rattle.apfloat_model.proofs.rounding.OddRoundings.{to_odd_least}
+use Rattle.std.proofs.{Math.Nat.pow-le-pow_right, lemmas.Int.ints}
+use Rattle.apfloat_model.specs.arithmetic.{Exact.signed, Exact.sign_of, Exact.magnitude, Sums.zero_sum_sign}
+use Rattle.apfloat_model.proofs.{general.Powers.two_pos, rounding.OddRoundings.to_odd_least}
 use Rattle.apfloat_words.proofs.OddTotals.{moved_fits, moved_free, moved_full}
 use Rattle.apfloat_arithmetic.proofs.Additions.{read_odd_sign}
 use Rattle.apfloat_ieee.specs.FlaggedTypes.{constants_of}
 use Rattle.fast_bits.specs.Numbers.{quanta_of}
-use Rattle.fast_bits.proofs.Operands.{answered_if_some}
-use Rattle.fast_bits.proofs.OrderedNumbers.{ordered_total}
+use Rattle.fast_bits.proofs.{Operands.answered_if_some, OrderedNumbers.ordered_total}
 use Rattle.fast_bits.proofs.sums.add_ordered.Goals as goal
 
 pub total_of-total-requires-clause-high_full : goal.total_of-total-requires-clause-high_full

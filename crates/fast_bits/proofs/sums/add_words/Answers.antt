@@ -1,10 +1,8 @@
-use Rattle.std.proofs.Common.{false, sym}
+use Rattle.std.proofs.{Common.false, Common.sym, Math.Path.subst₂}
 use Rattle.std.specs.Prelude.{IfSome}
-use Rattle.std.proofs.Math.Path.{subst₂}
 use Rattle.apfloat_model.specs.arithmetic.Sums.{IsSum}
 use Rattle.apfloat_ieee.specs.FlaggedTypes.{constants_of, format_of}
-use Rattle.fast_bits.specs.Encoded.{IsNumberAnswer}
-use Rattle.fast_bits.specs.Numbers.{opposite_if}
+use Rattle.fast_bits.specs.{Encoded.IsNumberAnswer, Numbers.opposite_if}
 use Rattle.fast_bits.proofs.OrderedNumbers.{ordered_sum}
 use Rattle.fast_bits.proofs.sums.add_words.Goals as goal
 

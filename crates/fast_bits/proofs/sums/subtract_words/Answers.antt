@@ -1,14 +1,11 @@
-use Rattle.std.proofs.Common.{true, sym, subst}
+use Rattle.std.proofs.{Common.true, Common.sym, Common.subst, Math.Path.subst₂}
 use Rattle.std.specs.Prelude.{IfSome}
-use Rattle.std.proofs.Math.Path.{subst₂}
 use Rattle.apfloat_model.specs.arithmetic.Sums.{IsDifference, IsSum}
 use Rattle.apfloat_model.specs.formats.Datum.{Datum, finite}
 use Rattle.apfloat_model.proofs.rounding.Laws.{number_swapped}
 use Rattle.apfloat_ieee.specs.FlaggedTypes.{constants_of, format_of}
-use Rattle.fast_bits.specs.Encoded.{IsNumberAnswer}
-use Rattle.fast_bits.specs.Numbers.{opposite_if, quanta_of}
-use Rattle.fast_bits.proofs.Operands.{quanta_some}
-use Rattle.fast_bits.proofs.OrderedNumbers.{ordered_sum}
+use Rattle.fast_bits.specs.{Encoded.IsNumberAnswer, Numbers.opposite_if, Numbers.quanta_of}
+use Rattle.fast_bits.proofs.{Operands.quanta_some, OrderedNumbers.ordered_sum}
 use Rattle.fast_bits.proofs.sums.subtract_words.Goals as goal
 
 pub returns-in-Some : goal.returns-in-Some

@@ -1,5 +1,4 @@
-use Rattle.std.proofs.Common.{false, sym, arith}
-use Rattle.std.proofs.lemmas.Bool.{le-ltb}
+use Rattle.std.proofs.{Common.false, Common.sym, Common.arith, lemmas.Bool.le-ltb}
 use Rattle.apfloat_words.proofs.OddTotals.{apart_to_odd}
 use Rattle.fast_bits.proofs.OrderedNumbers.{cut_below}
 use Rattle.fast_bits.proofs.sums.total_of.Goals as goal

@@ -1,11 +1,10 @@
 use Rattle.std.proofs.Common.{◌-◌, ◌/◌, ◌^◌, ◌<◌, ◌≤◌, arith, w32}
 use Rattle.std.proofs.lemmas.Int.{ints, to_z-of_z}
-use borrow.Author.Differences.{fits_in}
 use Rattle.apfloat_model.specs.rounding.Standing.{up, down}
 use Rattle.apfloat_model.proofs.general.Powers.{some_digits}
 use Rattle.apfloat_rounding.proofs.OddCuts.{word_digits}
-use Rattle.fast_bits.proofs.Operands.{total_full, total_kept}
-use Rattle.fast_bits.proofs.totals.encode_odd.Given.{Over}
+use Rattle.fast_bits.proofs.{Operands.total_full, Operands.total_kept, totals.encode_odd.Given.Over}
+use borrow.Author.Differences.{fits_in}
 use Rattle.fast_bits.proofs.totals.encode_odd.Goals as goal
 
 pub at_top-top-requires-clause-word : goal.at_top-top-requires-clause-word

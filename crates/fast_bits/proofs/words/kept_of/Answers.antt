@@ -1,7 +1,6 @@
 use Rattle.std.proofs.Common.{◌≡◌, ℕ, ◌+◌, ◌/◌, ◌^◌, ◌<◌, ◌≤◌, arith}
+use Rattle.std.proofs.{Math.Nat.pow-le-pow_right, lemmas.Nat.and_le_r, lemmas.Nat.div_below, lemmas.Nat.pow_pos}
 use Rattle.std.specs.Int.RustNames.{bit_and}
-use Rattle.std.proofs.Math.Nat.{pow-le-pow_right}
-use Rattle.std.proofs.lemmas.Nat.{and_le_r, div_below, pow_pos}
 use Rattle.apfloat_model.proofs.general.Powers.{two_pos}
 use Rattle.fast_bits.proofs.words.kept_of.Goals as goal
 

@@ -1,9 +1,8 @@
 use Rattle.std.proofs.Common.{sym, ap, ◌∙◌, refl}
-use Rattle.apfloat_model.specs.formats.Nan.{invalid_if}
-use Rattle.apfloat_model.specs.rounding.Negation.{negated}
+use Rattle.apfloat_model.specs.{formats.Nan.invalid_if, rounding.Negation.negated}
+use Rattle.apfloat_model.proofs.order.Categories.{nan_category}
 use Rattle.apfloat_ieee.specs.FlaggedTypes.{format_of}
 use Rattle.ieee_operations.proofs.Logarithms.{log_b_of_nan, log_b_of_infinity, log_b_of_zero, log_b_of_number}
-use Rattle.apfloat_model.proofs.order.Categories.{nan_category}
 use Rattle.ieee_operations.proofs.Logarithms.{same_wide}
 use Rattle.ieee_operations.proofs.exponents.log_b.Goals as goal
 

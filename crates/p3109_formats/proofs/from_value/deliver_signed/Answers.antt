@@ -1,8 +1,7 @@
 use Rattle.std.proofs.Common.{◌≡◌, ℕ, ◌-◌, ◌^◌, ◌<◌, ◌≤◌, cond, eqb, ltb, ap, ◌∙◌, arith}
 use Rattle.apfloat_model.specs.declared.kinds.NonfiniteBehavior.TheVariants.{NanNegativeZero}
-use Rattle.apfloat_model.specs.rounding.Rounding.{signed_quanta}
+use Rattle.apfloat_model.specs.rounding.{Rounding.signed_quanta, Flags.bits_of}
 use Rattle.small_formats.specs.Codes.{point}
-use Rattle.apfloat_model.specs.rounding.Flags.{bits_of}
 use Rattle.p3109_formats.specs.Projections.{largest_index, projected_datum}
 use Rattle.p3109_formats.proofs.Values.{has_point, within_projected}
 use Rattle.p3109_formats.proofs.from_value.deliver_signed.Goals as goal

@@ -1,5 +1,4 @@
-use Rattle.std.proofs.Common.{arith}
-use Rattle.std.proofs.lemmas.Int.{ints}
+use Rattle.std.proofs.{Common.arith, lemmas.Int.ints}
 use Rattle.apfloat_ieee.specs.FlaggedTypes.{constants_of, format_of}
 use Rattle.round_to_odd.proofs.LastDigits.{ends_above, ends_below, scale_is}
 use Rattle.round_to_odd.proofs.numbers.digits_below_quantum.Goals as goal

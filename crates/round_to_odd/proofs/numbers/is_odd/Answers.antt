@@ -1,12 +1,10 @@
-use Rattle.std.proofs.Common.{◌≡◌, ℕ, ◌/◌, ◌%◌, ◌^◌, eqb, ap, ◌∙◌, pos, ◌+ℤ◌, w32, arith}
-use Rattle.std.proofs.lemmas.Int.{ints, to_z-of_z}
-use Rattle.apfloat_model.specs.order.Classes.{quanta_of}
-use Rattle.apfloat_model.specs.rounding.Standing.{down}
+use Rattle.std.proofs.Common.{◌≡◌, ℕ, ◌/◌, ◌%◌, ◌^◌, eqb, ap, ◌∙◌, pos, ◌+ℤ◌, w32}
+use Rattle.std.proofs.{Common.arith, lemmas.Int.ints, lemmas.Int.to_z-of_z}
+use Rattle.apfloat_model.specs.{order.Classes.quanta_of, rounding.Standing.down}
 use Rattle.apfloat_model.proofs.arithmetic.Significands.{exponent_fits}
 use Rattle.apfloat_ieee.specs.FlaggedTypes.{format_of}
 use Rattle.round_to_odd.proofs.LastDigits.{few_below, odd_read}
-use Rattle.round_to_odd.proofs.numbers.is_odd.Given.{Over}
-use Rattle.round_to_odd.proofs.numbers.is_odd.Goals.{After-digits_below_quantum}
+use Rattle.round_to_odd.proofs.numbers.is_odd.{Given.Over, Goals.After-digits_below_quantum}
 use Rattle.round_to_odd.proofs.numbers.is_odd.Goals as goal
 
 -- how many digits are below the quantum

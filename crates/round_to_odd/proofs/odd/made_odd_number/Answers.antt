@@ -1,7 +1,6 @@
 use Rattle.apfloat_model.specs.rounding.Flags.{bits_of}
+use Rattle.apfloat_model.proofs.{formats.LawfulRanges.ranges_of, order.PositiveValues.magnitude_positive}
 use Rattle.apfloat_ieee.specs.FlaggedTypes.{constants_of, format_of}
-use Rattle.apfloat_model.proofs.formats.LawfulRanges.{ranges_of}
-use Rattle.apfloat_model.proofs.order.PositiveValues.{magnitude_positive}
 use Rattle.round_to_odd.proofs.Moved.{stays_made, moves_made}
 use Rattle.round_to_odd.proofs.odd.made_odd_number.Goals as goal
 

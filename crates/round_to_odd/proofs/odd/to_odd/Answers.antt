@@ -1,10 +1,9 @@
 use Rattle.std.proofs.Common.{◌≡◌, true, false, refl, sym, ap, ◌∙◌}
-use Rattle.apfloat_model.specs.rounding.Flags.{bits_of}
-use Rattle.apfloat_model.specs.rounding.Rounding.{inexact_bit}
+use Rattle.apfloat_model.specs.rounding.{Flags.bits_of, Rounding.inexact_bit}
 use Rattle.apfloat_model.proofs.general.Choices.{match_true, match_false}
+use Rattle.apfloat_model.proofs.formats.LawfulRanges.{ranges_of}
 use Rattle.apfloat_ieee.specs.FlaggedTypes.{constants_of, format_of}
 use Rattle.round_to_odd.specs.Odd.{has_flag}
-use Rattle.apfloat_model.proofs.formats.LawfulRanges.{ranges_of}
 use Rattle.round_to_odd.proofs.MadeOdd.{odd_of_truncated}
 use Rattle.round_to_odd.proofs.odd.to_odd.Goals as goal
 

@@ -1,6 +1,5 @@
-use Rattle.std.proofs.Common.{arith}
+use Rattle.std.proofs.{Common.arith, lemmas.Int.to_z-of_z}
 use Rattle.std.specs.Int.{w128}
-use Rattle.std.proofs.lemmas.Int.{to_z-of_z}
 use Rattle.round_to_odd.proofs.Wholes.{negative_is}
 use Rattle.round_to_odd.proofs.whole_numbers.from_i128_odd.Goals as goal
 

@@ -1,11 +1,8 @@
 use Rattle.std.proofs.Common.{ℕ, sym, refl, ap, ◌∙◌}
-use Rattle.apfloat_model.specs.formats.Datum.{finite}
-use Rattle.apfloat_model.specs.rounding.Flags.{bits_of}
+use Rattle.apfloat_model.specs.{formats.Datum.finite, rounding.Flags.bits_of}
 use Rattle.apfloat_ieee.specs.Types.{format_of}
-use Rattle.small_formats.specs.Codes.{datum_of}
-use Rattle.small_formats.specs.Types.{constants_of}
-use Rattle.small_formats.proofs.CodesCompared.{zero_point}
-use Rattle.small_formats.proofs.WideResults.{value_projected, zero_projected}
+use Rattle.small_formats.specs.{Codes.datum_of, Types.constants_of}
+use Rattle.small_formats.proofs.{CodesCompared.zero_point, WideResults.value_projected, WideResults.zero_projected}
 use Rattle.small_formats.proofs.arithmetic.projected.Goals as goal
 
 pub returns-then-is_zero : goal.returns-then-is_zero

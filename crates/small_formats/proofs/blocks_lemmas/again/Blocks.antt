@@ -1,31 +1,25 @@
 -- A block that was dequantized exactly, quantized again.
-use Rattle.std.proofs.Common.{◌≡◌, ℕ, ◌+◌, ◌*◌, ◌^◌, ◌<◌, ◌≤◌, true, sym, ap, ◌∙◌, subst, ⊎_elim, arith}
-use Rattle.std.proofs.Common.{List, length, get_or, Some}
-use Rattle.std.proofs.Math.Nat.{mul-le-mul_right}
+use Rattle.std.proofs.Common.{◌≡◌, ℕ, ◌+◌, ◌*◌, ◌^◌, ◌<◌, ◌≤◌, true, sym, ap, ◌∙◌}
+use Rattle.std.proofs.Common.{subst, ⊎_elim, arith, List, length, get_or, Some}
+use Rattle.std.proofs.{Math.Nat.mul-le-mul_right, lemmas.Bool.MatchBool-at_true}
+use Rattle.std.proofs.lemmas.{Nat.pow-add, Nat.pow_pos, Option.slice_get-get_or, Option.slice_get_within}
 use Rattle.std.specs.Prelude.{All, slice_get}
-use Rattle.std.proofs.lemmas.Bool.{MatchBool-at_true}
-use Rattle.std.proofs.lemmas.Nat.{pow-add, pow_pos}
-use Rattle.std.proofs.lemmas.Option.{slice_get-get_or, slice_get_within}
 use Rattle.apfloat_model.specs.declared.kinds.Round.{Round}
-use Rattle.apfloat_model.specs.formats.Datum.{Datum}
-use Rattle.apfloat_model.specs.formats.Format.{Format, largest}
-use Rattle.apfloat_model.specs.order.Classes.{is_finite, quanta_of}
-use Rattle.apfloat_model.specs.rounding.Grid.{IsOnGrid}
+use Rattle.apfloat_model.specs.formats.{Datum.Datum, Format.Format, Format.largest}
+use Rattle.apfloat_model.specs.{order.Classes.is_finite, order.Classes.quanta_of, rounding.Grid.IsOnGrid}
 use Rattle.apfloat_model.proofs.rounding.Laws.{zero_on_grid}
 use Rattle.small_formats.specs.Scales.{nan_code}
 use Rattle.small_formats.specs.blocks.Again.{IsKept, IsQuantizedAgain, greatest_element}
-use Rattle.small_formats.specs.declared.blocks.elements.ElementFormat.{ElementFormat}
 use Rattle.small_formats.specs.blocks.Elements.{IsQuotientBy, element_datum, format_of_element, max_exp, width}
-use Rattle.small_formats.specs.blocks.Laws.{IsExactlyScaled}
-use Rattle.small_formats.specs.blocks.Magnitudes.{are_finite, greatest_magnitude}
-use Rattle.small_formats.specs.declared.blocks.mx_scales.ScaleRule.TheVariants.{Floor}
+use Rattle.small_formats.specs.blocks.{Laws.IsExactlyScaled, Magnitudes.are_finite, Magnitudes.greatest_magnitude}
 use Rattle.small_formats.specs.blocks.MxBlocks.{IsBlockOfNan, IsBlockOfNumbers}
-use Rattle.small_formats.specs.blocks.Places.{AreElementsInPlaces}
+use Rattle.small_formats.specs.{blocks.Places.AreElementsInPlaces, declared.blocks.elements.ElementFormat.ElementFormat}
+use Rattle.small_formats.specs.declared.blocks.mx_scales.ScaleRule.TheVariants.{Floor}
 use Rattle.small_formats.proofs.blocks_lemmas.ElementNumbers.{IsElementNumber, element_number}
 use Rattle.small_formats.proofs.blocks_lemmas.ElementsOnce.{code_of_element_once}
 use Rattle.small_formats.proofs.blocks_lemmas.again.Elements.{kept_element, same_element}
-use Rattle.small_formats.proofs.blocks_lemmas.again.Lists.{all_at, at_most_element, finite_places, greatest_has, same_lists}
-use Rattle.small_formats.proofs.blocks_lemmas.again.Lists.{scaled_greatest, some_at, there}
+use Rattle.small_formats.proofs.blocks_lemmas.again.Lists.{all_at, at_most_element, finite_places, greatest_has}
+use Rattle.small_formats.proofs.blocks_lemmas.again.Lists.{same_lists, scaled_greatest, some_at, there}
 use Rattle.small_formats.proofs.blocks_lemmas.again.Lowered.{below_end, lowered, moved_within}
 
 -- a value and its element are finite

@@ -1,21 +1,15 @@
 -- An element that is quantized again by another scale, which divides it exactly.
 use Rattle.std.proofs.Common.{◌≡◌, ℕ, ◌+◌, ◌*◌, ◌^◌, ◌<◌, ◌≤◌, false, ltb, sym, refl, ap, ◌∙◌, subst, arith}
 use Rattle.std.proofs.Math.Nat.{eq_of_mul-eq-mul_right, mul-pos}
-use Rattle.std.proofs.lemmas.Bool.{le-ltb}
-use Rattle.std.proofs.lemmas.Nat.{pow-add, pow_pos}
+use Rattle.std.proofs.lemmas.{Bool.le-ltb, Nat.pow-add, Nat.pow_pos}
 use Rattle.apfloat_model.specs.declared.kinds.Round.{Round}
-use Rattle.apfloat_model.specs.formats.Datum.{Datum, finite}
-use Rattle.apfloat_model.specs.formats.Format.{Format, largest}
-use Rattle.apfloat_model.specs.rounding.Grid.{IsOnGrid}
-use Rattle.apfloat_model.specs.rounding.Rounding.{delivered_status}
-use Rattle.apfloat_model.proofs.rounding.Laws.{exact_delivered, exact_is_picked}
-use Rattle.apfloat_model.proofs.rounding.Picks.{pick_unique}
+use Rattle.apfloat_model.specs.formats.{Datum.Datum, Datum.finite, Format.Format, Format.largest}
+use Rattle.apfloat_model.specs.rounding.{Grid.IsOnGrid, Rounding.delivered_status}
+use Rattle.apfloat_model.proofs.rounding.{Laws.exact_delivered, Laws.exact_is_picked, Picks.pick_unique}
 use Rattle.round_to_odd.proofs.OddPoints.{moved_on_grid}
-use Rattle.small_formats.specs.Conversions.{saturated_value}
-use Rattle.small_formats.specs.blocks.Again.{IsKept}
-use Rattle.small_formats.specs.declared.blocks.elements.ElementFormat.{ElementFormat}
+use Rattle.small_formats.specs.{Conversions.saturated_value, blocks.Again.IsKept, blocks.Laws.IsExactlyScaled}
+use Rattle.small_formats.specs.{declared.blocks.elements.ElementFormat.ElementFormat}
 use Rattle.small_formats.specs.blocks.Elements.{IsElement, IsQuotientBy, element_datum, format_of_element}
-use Rattle.small_formats.specs.blocks.Laws.{IsExactlyScaled}
 
 -- the quotient in quanta of the element format
 same_quotient : (y n into quantum scale other more : ℕ) → other + more ≡ scale

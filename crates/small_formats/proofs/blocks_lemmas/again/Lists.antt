@@ -1,19 +1,15 @@
 -- What holds in each place of a block, and its greatest magnitude.
-use Rattle.std.proofs.Common.{◌≡◌, ℕ, zero, suc, ◌*◌, ◌<◌, ◌≤◌, max, true, refl, sym, ap, ◌∙◌, subst}
-use Rattle.std.proofs.Common.{⊎_elim, arith, List, [], ◌∷◌, length, Some}
+use Rattle.std.proofs.Common.{◌≡◌, ℕ, zero, suc, ◌*◌, ◌<◌, ◌≤◌, max, true, refl, sym, ap}
+use Rattle.std.proofs.Common.{◌∙◌, subst, ⊎_elim, arith, List, [], ◌∷◌, length, Some}
 use Rattle.std.proofs.Math.Nat.{mul-le-mul_right, le_of_mul-le-mul_right}
-use Rattle.std.specs.Prelude.{All, map, option_map, slice_get}
 use Rattle.std.proofs.lemmas.Bool.{and_from, cases_lt}
 use Rattle.std.proofs.lemmas.Option.{get_or_from_slice_get, slice_get-map, slice_get_within}
-use Rattle.apfloat_model.specs.formats.Datum.{Datum}
-use Rattle.apfloat_model.specs.order.Classes.{is_finite, quanta_of}
-use Rattle.small_formats.specs.blocks.Again.{greatest_element}
-use Rattle.small_formats.specs.declared.blocks.elements.ElementFormat.{ElementFormat}
-use Rattle.small_formats.specs.blocks.Elements.{element_datum}
+use Rattle.std.specs.Prelude.{All, map, option_map, slice_get}
+use Rattle.apfloat_model.specs.{formats.Datum.Datum, order.Classes.is_finite, order.Classes.quanta_of}
+use Rattle.small_formats.specs.blocks.{Again.greatest_element, Elements.element_datum}
 use Rattle.small_formats.specs.blocks.Magnitudes.{are_finite, greatest_magnitude}
-use Rattle.small_formats.specs.blocks.Places.{AreElementsInPlaces}
-use Rattle.small_formats.proofs.blocks_lemmas.Greatest.{at_most_greatest}
-use Rattle.small_formats.proofs.blocks_lemmas.PlacesOnce.{rest_in_places}
+use Rattle.small_formats.specs.{blocks.Places.AreElementsInPlaces, declared.blocks.elements.ElementFormat.ElementFormat}
+use Rattle.small_formats.proofs.blocks_lemmas.{Greatest.at_most_greatest, PlacesOnce.rest_in_places}
 
 -- ---- places
 

@@ -1,26 +1,20 @@
 -- The scale of a block that is quantized again: as many binades lower as its greatest element is below the binade of
 -- the largest number, but not below the least scale.
-use Rattle.std.proofs.Common.{◌≡◌, ℕ, zero, suc, ◌+◌, ◌-◌, ◌*◌, ◌^◌, ◌<◌, ◌≤◌, ap, ◌∙◌, subst, ⊎_elim, arith}
-use Rattle.std.proofs.Common.{ℤ, pos, ◌+ℤ◌, ◌-ℤ◌, min}
+use Rattle.std.proofs.Common.{◌≡◌, ℕ, zero, suc, ◌+◌, ◌-◌, ◌*◌, ◌^◌, ◌<◌, ◌≤◌, ap}
+use Rattle.std.proofs.Common.{◌∙◌, subst, ⊎_elim, arith, ℤ, pos, ◌+ℤ◌, ◌-ℤ◌, min}
 use Rattle.std.proofs.Math.Nat.{mul-lt-mul_of_pos_right}
-use Rattle.std.proofs.lemmas.Bool.{MatchBool-at_false, MatchBool-at_true, eq-eqb}
-use Rattle.std.proofs.lemmas.Nat.{pow-add, pow_pos}
-use Rattle.apfloat_model.specs.arithmetic.Exact.{up}
-use Rattle.apfloat_model.specs.formats.Format.{Format, largest}
-use Rattle.apfloat_model.specs.formats.Log.{log2}
+use Rattle.std.proofs.lemmas.{Bool.MatchBool-at_false, Bool.MatchBool-at_true, Bool.eq-eqb, Nat.pow-add, Nat.pow_pos}
+use Rattle.apfloat_model.specs.{arithmetic.Exact.up, formats.Format.Format, formats.Format.largest, formats.Log.log2}
 use Rattle.apfloat_model.specs.rounding.Grid.{IsOnGrid}
-use Rattle.apfloat_model.proofs.general.Choices.{not_zero}
-use Rattle.apfloat_model.proofs.general.Logarithms.{log2_bounds}
+use Rattle.apfloat_model.proofs.general.{Choices.not_zero, Logarithms.log2_bounds}
 use Rattle.apfloat_model.proofs.general.Powers.{both_above_zero, both_zero, exponent_between, twice_power}
 use Rattle.round_to_odd.proofs.OddPoints.{moved_on_grid}
-use Rattle.small_formats.specs.blocks.Again.{HasPlace}
+use Rattle.small_formats.specs.blocks.{Again.HasPlace, Elements.format_of_element, Elements.max_exp}
+use Rattle.small_formats.specs.blocks.MxScales.{IsBlockScale, IsScaleOfNumber}
 use Rattle.small_formats.specs.declared.blocks.elements.ElementFormat.{ElementFormat}
 use Rattle.small_formats.specs.declared.blocks.elements.ElementFormat.TheVariants.{E5M2, E4M3FN, E3M2FN, E2M3FN, E2M1FN}
-use Rattle.small_formats.specs.blocks.Elements.{format_of_element, max_exp}
-use Rattle.small_formats.specs.blocks.MxScales.{IsBlockScale, IsScaleOfNumber}
 use Rattle.small_formats.proofs.blocks_lemmas.again.Binades.{below_again, clamped_again, same_place, within_top}
-use Rattle.small_formats.proofs.blocks_lemmas.again.Fifteens.{moved_there, top_cases}
-use Rattle.small_formats.proofs.blocks_lemmas.exact.Rooms.{short}
+use Rattle.small_formats.proofs.blocks_lemmas.{again.Fifteens.moved_there, again.Fifteens.top_cases, exact.Rooms.short}
 
 -- `more` is how many binades the elements move up
 pub record IsLowered (element : ElementFormat) (scale greatest other : ℕ) : Type 0 where

@@ -1,8 +1,7 @@
 -- Blocks of finite elements, in a format that has the products of all of them.
 use Rattle.std.proofs.Common.{◌≡◌, ◌^◌, ◌<◌, true}
 use Rattle.apfloat_model.specs.order.Classes.{is_finite}
-use Rattle.small_formats.specs.blocks.Again.{IsExactBlock}
-use Rattle.small_formats.specs.blocks.Elements.{element_datum, width}
+use Rattle.small_formats.specs.blocks.{Again.IsExactBlock, Elements.element_datum, Elements.width}
 use Rattle.small_formats.proofs.blocks_lemmas.again.Lists.{all_at}
 
 pub exact_block : IsExactBlock

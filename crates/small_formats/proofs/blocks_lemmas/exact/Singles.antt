@@ -1,36 +1,23 @@
 -- Blocks that were quantized from singles come back exactly.
-use Rattle.std.proofs.Common.{lit<}
-use Rattle.std.proofs.Common.{◌≡◌, ℕ, suc, ◌+◌, ◌-◌, ◌*◌, ◌^◌, ◌<◌, ◌≤◌, Bool, true, false, cond, ltb, eqb, min, refl, ap, ◌∙◌}
-use Rattle.std.proofs.Common.{arith, List, [], ◌∷◌, length, get_or, ℤ, pos, ◌+ℤ◌, ◌-ℤ◌}
+use Rattle.std.proofs.Common.{lit<, ◌≡◌, ℕ, suc, ◌+◌, ◌-◌, ◌*◌, ◌^◌, ◌<◌, ◌≤◌, Bool, true, false, cond, ltb, eqb, min}
+use Rattle.std.proofs.Common.{refl, ap, ◌∙◌, arith, List, [], ◌∷◌, length, get_or, ℤ, pos, ◌+ℤ◌, ◌-ℤ◌}
 use Rattle.std.proofs.Math.Nat.{mul-lt-mul_of_pos_right}
+use Rattle.std.proofs.lemmas.{Int.ints, Nat.pow-add, Nat.pow_pos, Option.slice_get-get_or}
 use Rattle.std.specs.Bool.{MatchBool}
 use Rattle.std.specs.Prelude.{All, ◌≤ℤ◌}
-use Rattle.std.proofs.lemmas.Int.{ints}
-use Rattle.std.proofs.lemmas.Nat.{pow-add, pow_pos}
-use Rattle.std.proofs.lemmas.Option.{slice_get-get_or}
-use Rattle.apfloat_model.specs.arithmetic.Exact.{up}
-use Rattle.apfloat_model.specs.declared.kinds.Round.{Round}
-use Rattle.apfloat_model.specs.formats.Datum.{Datum, finite, infinite, nan}
-use Rattle.apfloat_model.specs.formats.Format.{Format, largest}
-use Rattle.apfloat_model.specs.formats.Formats.{single_constants}
-use Rattle.apfloat_model.specs.formats.Lawful.{format_with}
-use Rattle.apfloat_model.specs.formats.Members.{IsMember}
+use Rattle.apfloat_model.specs.{arithmetic.Exact.up, declared.kinds.Round.Round}
+use Rattle.apfloat_model.specs.formats.{Datum.Datum, Datum.finite, Datum.infinite, Datum.nan, Format.Format}
+use Rattle.apfloat_model.specs.formats.{Format.largest, Formats.single_constants, Lawful.format_with, Members.IsMember}
 use Rattle.apfloat_model.specs.order.Classes.{is_finite, is_negative, quanta_of}
-use Rattle.apfloat_model.proofs.arithmetic.SingleScalings.{up_le}
-use Rattle.apfloat_model.proofs.general.Powers.{exponent_below}
-use Rattle.small_formats.specs.Scales.{nan_code}
-use Rattle.small_formats.specs.blocks.Again.{IsExactFromSingles}
-use Rattle.small_formats.specs.declared.blocks.elements.ElementFormat.{ElementFormat}
-use Rattle.small_formats.specs.declared.blocks.mx.Block.{Block}
+use Rattle.apfloat_model.proofs.{arithmetic.SingleScalings.up_le, general.Powers.exponent_below}
+use Rattle.small_formats.specs.{Scales.nan_code, blocks.Again.IsExactFromSingles, blocks.MxScales.IsScaleOfNumber}
+use Rattle.small_formats.specs.{declared.blocks.elements.ElementFormat.ElementFormat}
+use Rattle.small_formats.specs.blocks.{Magnitudes.are_finite, Magnitudes.greatest_magnitude, MxBlocks.IsBlockBy}
+use Rattle.small_formats.specs.blocks.{MxBlocks.IsBlockOfNan, MxBlocks.IsBlockOfNumbers, MxScales.IsBlockScale}
 use Rattle.small_formats.specs.blocks.Elements.{IsQuotientBy, element_datum, format_of_element, max_exp}
-use Rattle.small_formats.specs.blocks.Magnitudes.{are_finite, greatest_magnitude}
-use Rattle.small_formats.specs.declared.blocks.mx_scales.ScaleRule.TheVariants.{Floor}
-use Rattle.small_formats.specs.blocks.MxBlocks.{IsBlockBy, IsBlockOfNan, IsBlockOfNumbers}
-use Rattle.small_formats.specs.blocks.MxScales.{IsBlockScale, IsScaleOfNumber}
-use Rattle.small_formats.proofs.blocks_lemmas.ExactBlocks.{exact_into_single}
-use Rattle.small_formats.proofs.blocks_lemmas.again.Lists.{some_at}
-use Rattle.small_formats.proofs.blocks_lemmas.exact.Blocks.{exact_block}
-use Rattle.small_formats.proofs.blocks_lemmas.exact.Rooms.{short}
+use Rattle.small_formats.specs.declared.blocks.{mx.Block.Block, mx_scales.ScaleRule.TheVariants.Floor}
+use Rattle.small_formats.proofs.blocks_lemmas.{ExactBlocks.exact_into_single, again.Lists.some_at}
+use Rattle.small_formats.proofs.blocks_lemmas.exact.{Blocks.exact_block, Rooms.short}
 
 -- ---- the scale
 

@@ -1,5 +1,4 @@
-use Rattle.std.proofs.Common.{arith, w32}
-use Rattle.std.proofs.lemmas.Int.{to_z-of_z}
+use Rattle.std.proofs.{Common.arith, Common.w32, lemmas.Int.to_z-of_z}
 use Rattle.small_formats.proofs.cuts.cut.Goals as goal
 
 pub returns-clause-rest : goal.returns-clause-rest

@@ -1,7 +1,5 @@
 use Rattle.std.proofs.Common.{◌*◌, ◌^◌, ◌<◌, w32, arith}
-use Rattle.std.proofs.Math.Nat.{mul-pos}
-use Rattle.std.proofs.lemmas.Int.{to_z-of_z}
-use Rattle.std.proofs.lemmas.Nat.{pow_pos}
+use Rattle.std.proofs.{Math.Nat.mul-pos, lemmas.Int.to_z-of_z, lemmas.Nat.pow_pos}
 use Rattle.apfloat_model.specs.rounding.Standing.{up, down}
 use Rattle.apfloat_model.proofs.rounding.KeptDigits.{cut_fits, cut_full, cut_kept}
 use Rattle.small_formats.proofs.cuts.cut_number.Goals as goal

@@ -1,7 +1,6 @@
 use Rattle.std.proofs.Common.{◌<◌, ◌≤◌, arith}
 use Rattle.apfloat_model.specs.rounding.Flags.{bits_of}
-use Rattle.small_formats.specs.Codes.{largest_index}
-use Rattle.small_formats.specs.Types.{constants_of}
+use Rattle.small_formats.specs.{Codes.largest_index, Types.constants_of}
 use Rattle.small_formats.proofs.StoredPicks.{past_delivered, within_delivered}
 use Rattle.small_formats.proofs.from_value.deliver_pick.Goals as goal
 

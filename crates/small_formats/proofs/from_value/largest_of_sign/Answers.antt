@@ -1,7 +1,6 @@
 use Rattle.std.proofs.Common.{ℕ, ap, ◌∙◌}
 use Rattle.apfloat_model.specs.formats.Datum.{finite}
-use Rattle.small_formats.specs.Codes.{point}
-use Rattle.small_formats.specs.Types.{constants_of}
+use Rattle.small_formats.specs.{Codes.point, Types.constants_of}
 use Rattle.small_formats.proofs.StoredPicks.{largest_point}
 use Rattle.small_formats.proofs.from_value.largest_of_sign.Goals as goal
 

@@ -1,9 +1,7 @@
 use Rattle.std.proofs.Common.{◌*◌, ◌^◌}
-use Rattle.apfloat_model.specs.order.Classes.{quanta_of}
-use Rattle.apfloat_model.specs.rounding.Flags.{bits_of}
+use Rattle.apfloat_model.specs.{order.Classes.quanta_of, rounding.Flags.bits_of}
 use Rattle.apfloat_ieee.specs.Types.{format_of}
-use Rattle.small_formats.specs.Storage.{format_with}
-use Rattle.small_formats.specs.Types.{constants_of}
+use Rattle.small_formats.specs.{Storage.format_with, Types.constants_of}
 use Rattle.small_formats.proofs.ModePicks.{saturated_by}
 use Rattle.small_formats.proofs.from_value_by.round_positive.Goals as goal
 

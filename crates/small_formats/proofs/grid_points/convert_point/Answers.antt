@@ -1,6 +1,5 @@
 use Rattle.std.proofs.Common.{◌*◌, ◌^◌, refl, w32, pos, ◌+ℤ◌}
-use Rattle.std.proofs.lemmas.Int.{to_z-of_z}
-use Rattle.std.proofs.lemmas.Nat.{pow_pos}
+use Rattle.std.proofs.lemmas.{Int.to_z-of_z, Nat.pow_pos}
 use Rattle.apfloat_ieee.specs.FlaggedTypes.{format_of}
 use Rattle.small_formats.proofs.StoredNumbers.{point_in_quanta}
 use Rattle.small_formats.proofs.grid_points.convert_point.Goals as goal

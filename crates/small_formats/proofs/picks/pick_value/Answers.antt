@@ -1,9 +1,8 @@
 use Rattle.std.proofs.Common.{◌*◌, ◌^◌, w32}
-use Rattle.std.proofs.lemmas.Int.{to_z-of_z}
-use Rattle.std.proofs.lemmas.Nat.{pow_pos}
+use Rattle.std.proofs.lemmas.{Int.to_z-of_z, Nat.pow_pos}
 use Rattle.apfloat_model.specs.order.Classes.{quanta_of}
-use Rattle.apfloat_ieee.specs.Types.{format_of}
 use Rattle.apfloat_model.proofs.arithmetic.Significands.{exponent_fits}
+use Rattle.apfloat_ieee.specs.Types.{format_of}
 use Rattle.small_formats.proofs.picks.pick_value.Goals as goal
 
 pub returns : goal.returns

@@ -1,13 +1,10 @@
 use Rattle.std.proofs.Common.{◌-◌, ◌^◌, ◌≤◌, arith, w32}
 use Rattle.std.proofs.lemmas.Int.{ints, to_z-of_z}
-use Rattle.apfloat_model.specs.order.Classes.{quanta_of}
-use Rattle.apfloat_model.specs.rounding.Flags.{bits_of}
-use Rattle.apfloat_ieee.specs.Types.{format_of}
+use Rattle.apfloat_model.specs.{order.Classes.quanta_of, rounding.Flags.bits_of}
 use Rattle.apfloat_model.proofs.arithmetic.Significands.{exponent_fits}
-use Rattle.small_formats.specs.Storage.{format_with}
-use Rattle.small_formats.specs.Types.{constants_of}
-use Rattle.small_formats.proofs.QuotientPicks.{quotient_long, quotient_stands}
-use Rattle.small_formats.proofs.StoredPicks.{saturated}
+use Rattle.apfloat_ieee.specs.Types.{format_of}
+use Rattle.small_formats.specs.{Storage.format_with, Types.constants_of}
+use Rattle.small_formats.proofs.{QuotientPicks.quotient_long, QuotientPicks.quotient_stands, StoredPicks.saturated}
 use Rattle.small_formats.proofs.quotients.divide_positive.Goals as goal
 
 -- at least 126 digits

@@ -1,9 +1,6 @@
 use Rattle.std.proofs.Common.{◌≡◌, ℕ, ◌*◌, ◌%◌, ◌^◌, ◌<◌, eqb, subst, ◌∙◌, arith, w32}
-use Rattle.std.proofs.Math.Nat.{mul-pos}
-use Rattle.std.proofs.lemmas.Int.{ints, to_z-of_z}
-use Rattle.std.proofs.lemmas.Nat.{pow_pos}
-use Rattle.apfloat_model.specs.rounding.Flags.{bits_of}
-use Rattle.apfloat_model.specs.rounding.Standing.{StandsFor, up, down}
+use Rattle.std.proofs.{Math.Nat.mul-pos, lemmas.Int.ints, lemmas.Int.to_z-of_z, lemmas.Nat.pow_pos}
+use Rattle.apfloat_model.specs.rounding.{Flags.bits_of, Standing.StandsFor, Standing.up, Standing.down}
 use Rattle.apfloat_model.proofs.arithmetic.SingleScalings.{down_far}
 use Rattle.small_formats.proofs.ScalePicks.{MovesCode, below_least, code_moves, cut_stands, exact_scale}
 use Rattle.small_formats.proofs.ScalePicks.{least_delivered, picked_code_is, scale_past, scale_within}

@@ -1,11 +1,9 @@
 use Rattle.std.proofs.Common.{subst}
 use Rattle.apfloat_model.specs.rounding.Flags.{bits_of}
-use Rattle.apfloat_rounding.specs.Shapes.{format_at}
-use Rattle.apfloat_rounding.specs.Stored.{datum_at}
+use Rattle.apfloat_rounding.specs.{Shapes.format_at, Stored.datum_at}
 use Rattle.apfloat_arithmetic.specs.declared.other_formats.operands.Operand.{Operand}
 use Rattle.apfloat_arithmetic.specs.other_formats.Extended.{Extended, number, infinity}
-use Rattle.apfloat_arithmetic.specs.other_formats.Operands.{StandsFor}
-use Rattle.apfloat_arithmetic.specs.other_formats.FormatOf.{IsFusedSumOf}
+use Rattle.apfloat_arithmetic.specs.other_formats.{Operands.StandsFor, FormatOf.IsFusedSumOf}
 use Rattle.apfloat_arithmetic.proofs.other_formats_lemmas.Cases.{of_infinity, of_number}
 use Rattle.apfloat_arithmetic.proofs.other_formats.fused.multiply_add.Goals as goal
 

@@ -1,10 +1,7 @@
 use Rattle.std.proofs.Common.{◌≡◌, ◌<◌}
-use Rattle.apfloat_model.specs.rounding.Flags.{bits_of}
-use Rattle.apfloat_model.specs.rounding.Outcome.{invalid}
-use Rattle.apfloat_rounding.specs.Shapes.{format_at}
-use Rattle.apfloat_rounding.specs.Stored.{datum_at}
-use Rattle.apfloat_arithmetic.specs.other_formats.Extended.{infinity}
-use Rattle.apfloat_arithmetic.specs.other_formats.FormatOf.{sum_of}
+use Rattle.apfloat_model.specs.rounding.{Flags.bits_of, Outcome.invalid}
+use Rattle.apfloat_rounding.specs.{Shapes.format_at, Stored.datum_at}
+use Rattle.apfloat_arithmetic.specs.other_formats.{Extended.infinity, FormatOf.sum_of}
 use Rattle.apfloat_arithmetic.proofs.other_formats_lemmas.Cases.{some_yields, zero_yields}
 use Rattle.apfloat_arithmetic.proofs.other_formats_lemmas.Exponents.{no_term, some_term}
 use Rattle.apfloat_arithmetic.proofs.other_formats.fused.multiply_add_infinity.Goals as goal

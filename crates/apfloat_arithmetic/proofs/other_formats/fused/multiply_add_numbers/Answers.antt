@@ -1,12 +1,8 @@
 use Rattle.std.proofs.Common.{◌+◌, ◌*◌, ◌^◌, ◌+ℤ◌, subst}
-use Rattle.apfloat_model.specs.arithmetic.Exact.{product_sign, signed}
-use Rattle.apfloat_model.specs.rounding.Flags.{bits_of}
-use Rattle.apfloat_rounding.specs.Shapes.{format_at}
-use Rattle.apfloat_rounding.specs.Stored.{datum_at}
-use Rattle.apfloat_arithmetic.specs.declared.other_formats.operands.Operand.{Operand}
-use Rattle.apfloat_arithmetic.specs.other_formats.Extended.{Extended, number}
-use Rattle.apfloat_arithmetic.specs.other_formats.Operands.{StandsFor}
-use Rattle.apfloat_arithmetic.specs.other_formats.FormatOf.{IsFusedSumOf}
+use Rattle.apfloat_model.specs.{arithmetic.Exact.product_sign, arithmetic.Exact.signed, rounding.Flags.bits_of}
+use Rattle.apfloat_rounding.specs.{Shapes.format_at, Stored.datum_at}
+use Rattle.apfloat_arithmetic.specs.{declared.other_formats.operands.Operand.Operand, other_formats.Extended.Extended}
+use Rattle.apfloat_arithmetic.specs.other_formats.{Extended.number, Operands.StandsFor, FormatOf.IsFusedSumOf}
 use Rattle.apfloat_arithmetic.proofs.other_formats_lemmas.Cases.{of_number}
 use Rattle.apfloat_arithmetic.proofs.other_formats.fused.multiply_add_numbers.Goals as goal
 

@@ -1,9 +1,7 @@
-use Rattle.std.proofs.Common.{◌≡◌, ◌-◌, ℕ, ℤ, pos, neg_ℤ, ◌-ℤ◌, ◌+ℤ◌, w32, to_z, of_z, sym, subst, inr, arith}
-use Rattle.std.proofs.lemmas.Int.{to_z-of_z, ints}
+use Rattle.std.proofs.Common.{◌≡◌, ◌-◌, ℕ, ℤ, pos, neg_ℤ, ◌-ℤ◌, ◌+ℤ◌, w32, to_z, of_z, sym}
+use Rattle.std.proofs.{Common.subst, Common.inr, Common.arith, lemmas.Int.to_z-of_z, lemmas.Int.ints}
 use Rattle.apfloat_model.specs.rounding.Bounds.{IsWithin, number_bound}
-use Rattle.apfloat_rounding.specs.declared.shape.Shape.{Shape}
-use Rattle.apfloat_rounding.specs.Shapes.{format_at}
-use Rattle.apfloat_rounding.specs.Stored.{IsQuantaAt, quanta_at}
+use Rattle.apfloat_rounding.specs.{declared.shape.Shape.Shape, Shapes.format_at, Stored.IsQuantaAt, Stored.quanta_at}
 use Rattle.apfloat_rounding.proofs.ShapeExponents.{scale_is}
 use Rattle.apfloat_arithmetic.proofs.other_formats_lemmas.Exponents.{moved_amount}
 use Rattle.apfloat_arithmetic.proofs.other_formats.operands.number_term.Goals as goal

@@ -1,15 +1,11 @@
 use Rattle.std.proofs.Common.{◌+◌, ◌*◌, ◌^◌, Bool, ℕ, ℤ, pos, sym, subst}
-use Rattle.std.specs.Prelude.{◌*ℤ◌}
 use Rattle.std.proofs.Math.Path.{subst₂}
-use Rattle.apfloat_model.specs.arithmetic.Exact.{product_sign, signed, IsRounded}
-use Rattle.apfloat_model.specs.arithmetic.Sums.{zero_sum_sign}
-use Rattle.apfloat_model.specs.rounding.Flags.{bits_of}
-use Rattle.apfloat_model.specs.rounding.Rounding.{IsDelivered}
+use Rattle.std.specs.Prelude.{◌*ℤ◌}
+use Rattle.apfloat_model.specs.arithmetic.{Exact.product_sign, Exact.signed, Exact.IsRounded, Sums.zero_sum_sign}
+use Rattle.apfloat_model.specs.rounding.{Flags.bits_of, Rounding.IsDelivered}
 use Rattle.apfloat_model.proofs.arithmetic.Signs.{magnitude_signed}
-use Rattle.apfloat_rounding.specs.Shapes.{format_at}
-use Rattle.apfloat_rounding.specs.Stored.{datum_at}
-use Rattle.apfloat_arithmetic.proofs.other_formats_lemmas.OddTotals.{sign_of_product}
-use Rattle.apfloat_arithmetic.proofs.other_formats_lemmas.ScaledTotals.{signed_scaled}
+use Rattle.apfloat_rounding.specs.{Shapes.format_at, Stored.datum_at}
+use Rattle.apfloat_arithmetic.proofs.other_formats_lemmas.{OddTotals.sign_of_product, ScaledTotals.signed_scaled}
 use Rattle.apfloat_arithmetic.proofs.other_formats.products.multiply_numbers.Goals as goal
 
 pub returns-clause-product : goal.returns-clause-product

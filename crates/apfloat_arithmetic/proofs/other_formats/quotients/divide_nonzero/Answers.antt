@@ -1,13 +1,9 @@
-use Rattle.std.proofs.Common.{◌≡◌, ◌+◌, ◌-◌, ◌*◌, ◌^◌, ◌<◌, ◌≤◌, Bool, pos, neg_ℤ, ◌-ℤ◌, w32, to_z, of_z, subst, inr, arith}
-use Rattle.std.proofs.Math.Nat.{pow-le-pow_right, mul-pos}
-use Rattle.std.proofs.lemmas.Int.{to_z-of_z, ints}
-use Rattle.std.proofs.lemmas.Nat.{pow_pos}
-use Rattle.apfloat_model.specs.rounding.Flags.{bits_of}
-use Rattle.apfloat_model.specs.rounding.Rounding.{IsDelivered}
-use Rattle.apfloat_model.proofs.general.Powers.{two_pos}
-use Rattle.apfloat_model.proofs.arithmetic.Fractions.{quotient_full}
-use Rattle.apfloat_rounding.specs.Shapes.{format_at}
-use Rattle.apfloat_rounding.specs.Stored.{datum_at}
+use Rattle.std.proofs.Common.{◌≡◌, ◌+◌, ◌-◌, ◌*◌, ◌^◌, ◌<◌, ◌≤◌, Bool, pos, neg_ℤ, ◌-ℤ◌, w32, to_z, of_z, subst, inr}
+use Rattle.std.proofs.{Common.arith, Math.Nat.pow-le-pow_right, Math.Nat.mul-pos}
+use Rattle.std.proofs.lemmas.{Int.to_z-of_z, Int.ints, Nat.pow_pos}
+use Rattle.apfloat_model.specs.rounding.{Flags.bits_of, Rounding.IsDelivered}
+use Rattle.apfloat_model.proofs.{general.Powers.two_pos, arithmetic.Fractions.quotient_full}
+use Rattle.apfloat_rounding.specs.{Shapes.format_at, Stored.datum_at}
 use Rattle.apfloat_arithmetic.proofs.other_formats_lemmas.Cases.{all_digits}
 use Rattle.apfloat_arithmetic.proofs.other_formats_lemmas.Exponents.{some_amount, quotient_amount}
 use Rattle.apfloat_arithmetic.proofs.other_formats.quotients.divide_nonzero.Goals as goal

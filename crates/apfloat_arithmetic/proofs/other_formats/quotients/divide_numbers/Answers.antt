@@ -1,17 +1,10 @@
-use Rattle.std.proofs.Common.{◌≡◌, ◌+◌, ◌*◌, ◌^◌, ◌<◌, Bool, ℕ, eqb, sym, subst, arith}
-use Rattle.std.proofs.Common.{if◌then◌else◌}
-use Rattle.std.proofs.Math.Nat.{mul-pos}
-use Rattle.std.proofs.lemmas.Nat.{pow_pos}
-use Rattle.apfloat_model.specs.formats.Constants.{infinity_of}
-use Rattle.apfloat_model.specs.formats.Format.{Format}
-use Rattle.apfloat_model.specs.rounding.Answer.{IsAnswer}
-use Rattle.apfloat_model.specs.rounding.Flags.{bits_of}
-use Rattle.apfloat_model.specs.rounding.Outcome.{Outcome, settled, rounded, invalid}
-use Rattle.apfloat_model.specs.rounding.Rounding.{IsDelivered}
-use Rattle.apfloat_model.specs.arithmetic.Exact.{product_sign}
-use Rattle.apfloat_model.specs.arithmetic.Quotients.{div_by_zero_bit}
-use Rattle.apfloat_rounding.specs.Shapes.{format_at}
-use Rattle.apfloat_rounding.specs.Stored.{datum_at}
+use Rattle.std.proofs.{Math.Nat.mul-pos, lemmas.Nat.pow_pos}
+use Rattle.std.proofs.Common.{◌≡◌, ◌+◌, ◌*◌, ◌^◌, ◌<◌, Bool, ℕ, eqb, sym, subst, arith, if◌then◌else◌}
+use Rattle.apfloat_model.specs.formats.{Constants.infinity_of, Format.Format}
+use Rattle.apfloat_model.specs.rounding.{Answer.IsAnswer, Flags.bits_of, Outcome.Outcome, Outcome.settled}
+use Rattle.apfloat_model.specs.rounding.{Outcome.rounded, Outcome.invalid, Rounding.IsDelivered}
+use Rattle.apfloat_model.specs.arithmetic.{Exact.product_sign, Quotients.div_by_zero_bit}
+use Rattle.apfloat_rounding.specs.{Shapes.format_at, Stored.datum_at}
 use Rattle.apfloat_arithmetic.proofs.other_formats_lemmas.Cases.{zero_yields, some_yields}
 use Rattle.apfloat_arithmetic.proofs.other_formats_lemmas.Exponents.{no_term, some_term}
 use Rattle.apfloat_arithmetic.proofs.other_formats.quotients.divide_numbers.Goals as goal

@@ -1,16 +1,11 @@
 use Rattle.std.proofs.Common.{◌≡◌, ◌+◌, ◌*◌, ◌^◌, ◌≤◌, ℤ, pos, ap, ◌∙◌, subst, arith}
+use Rattle.std.proofs.{Math.Nat.pow-le-pow_right, lemmas.Nat.pow_pos}
 use Rattle.std.specs.Prelude.{◌*ℤ◌}
-use Rattle.std.proofs.Math.Nat.{pow-le-pow_right}
-use Rattle.std.proofs.lemmas.Nat.{pow_pos}
 use Rattle.apfloat_model.specs.arithmetic.Exact.{magnitude, signed, IsRounded}
-use Rattle.apfloat_model.specs.arithmetic.Sums.{zero_sum_sign}
-use Rattle.apfloat_model.specs.rounding.Flags.{bits_of}
-use Rattle.apfloat_rounding.specs.Shapes.{format_at}
-use Rattle.apfloat_rounding.specs.Stored.{datum_at}
-use Rattle.apfloat_model.proofs.general.Powers.{two_pos}
-use Rattle.apfloat_model.proofs.rounding.OddRoundings.{to_odd_least}
-use Rattle.apfloat_arithmetic.proofs.other_formats_lemmas.Exponents.{in_target}
-use Rattle.apfloat_arithmetic.proofs.other_formats_lemmas.ScaledTotals.{signed_scaled}
+use Rattle.apfloat_model.specs.{arithmetic.Sums.zero_sum_sign, rounding.Flags.bits_of}
+use Rattle.apfloat_model.proofs.{general.Powers.two_pos, rounding.OddRoundings.to_odd_least}
+use Rattle.apfloat_rounding.specs.{Shapes.format_at, Stored.datum_at}
+use Rattle.apfloat_arithmetic.proofs.other_formats_lemmas.{Exponents.in_target, ScaledTotals.signed_scaled}
 use Rattle.apfloat_arithmetic.proofs.other_formats.results.deliver_total_in.Goals as goal
 
 pub returns-clause-delivered : goal.returns-clause-delivered

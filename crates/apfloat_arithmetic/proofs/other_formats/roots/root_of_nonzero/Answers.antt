@@ -1,15 +1,10 @@
+use Rattle.std.proofs.{Math.Nat.pow-le-pow_right, lemmas.Int.to_z-of_z, lemmas.Int.ints, lemmas.Nat.pow_pos}
 use Rattle.std.proofs.Common.{◌≡◌, ◌+◌, ◌-◌, ◌*◌, ◌^◌, ◌≤◌, ℤ, pos, ◌+ℤ◌, ◌-ℤ◌, w32, to_z, of_z, inr, arith}
-use Rattle.std.proofs.Math.Nat.{pow-le-pow_right}
-use Rattle.std.proofs.lemmas.Int.{to_z-of_z, ints}
-use Rattle.std.proofs.lemmas.Nat.{pow_pos}
-use borrow.Author.Differences.{fits_in}
-use Rattle.apfloat_model.specs.rounding.Flags.{bits_of}
-use Rattle.apfloat_model.specs.rounding.Standing.{up, down}
+use Rattle.apfloat_model.specs.rounding.{Flags.bits_of, Standing.up, Standing.down}
 use Rattle.apfloat_model.proofs.general.Powers.{two_pos}
-use Rattle.apfloat_rounding.specs.Shapes.{format_at}
-use Rattle.apfloat_rounding.specs.Stored.{datum_at}
-use Rattle.apfloat_arithmetic.proofs.RootStandings.{delivered_of_standing}
-use Rattle.apfloat_arithmetic.proofs.other_formats_lemmas.RootExponents.{root_is}
+use Rattle.apfloat_rounding.specs.{Shapes.format_at, Stored.datum_at}
+use Rattle.apfloat_arithmetic.proofs.{RootStandings.delivered_of_standing, other_formats_lemmas.RootExponents.root_is}
+use borrow.Author.Differences.{fits_in}
 use Rattle.apfloat_arithmetic.proofs.other_formats.roots.root_of_nonzero.Goals as goal
 
 pub deliver-requires-clause-fine : goal.deliver-requires-clause-fine

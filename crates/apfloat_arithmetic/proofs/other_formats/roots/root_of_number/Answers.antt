@@ -1,7 +1,6 @@
 use Rattle.std.proofs.Common.{◌≡◌, ◌<◌}
 use Rattle.apfloat_model.specs.rounding.Flags.{bits_of}
-use Rattle.apfloat_rounding.specs.Shapes.{format_at}
-use Rattle.apfloat_rounding.specs.Stored.{datum_at}
+use Rattle.apfloat_rounding.specs.{Shapes.format_at, Stored.datum_at}
 use Rattle.apfloat_arithmetic.proofs.other_formats_lemmas.Cases.{zero_root, positive_root}
 use Rattle.apfloat_arithmetic.proofs.other_formats_lemmas.Exponents.{no_term, some_term}
 use Rattle.apfloat_arithmetic.proofs.other_formats.roots.root_of_number.Goals as goal

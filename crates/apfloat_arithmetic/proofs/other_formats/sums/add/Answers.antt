@@ -1,11 +1,8 @@
 use Rattle.std.proofs.Common.{subst}
 use Rattle.apfloat_model.specs.rounding.Flags.{bits_of}
-use Rattle.apfloat_rounding.specs.Shapes.{format_at}
-use Rattle.apfloat_rounding.specs.Stored.{datum_at}
+use Rattle.apfloat_rounding.specs.{Shapes.format_at, Stored.datum_at}
 use Rattle.apfloat_arithmetic.specs.declared.other_formats.operands.Operand.{Operand}
-use Rattle.apfloat_arithmetic.specs.other_formats.Extended.{Extended}
-use Rattle.apfloat_arithmetic.specs.other_formats.Operands.{StandsFor}
-use Rattle.apfloat_arithmetic.specs.other_formats.FormatOf.{IsSumOf}
+use Rattle.apfloat_arithmetic.specs.other_formats.{Extended.Extended, Operands.StandsFor, FormatOf.IsSumOf}
 use Rattle.apfloat_arithmetic.proofs.other_formats_lemmas.Cases.{of_infinity, of_number}
 use Rattle.apfloat_arithmetic.proofs.other_formats.sums.add.Goals as goal
 

@@ -1,4 +1,5 @@
-use Rattle.apfloat_arithmetic.proofs.other_formats_lemmas.Once.{has_one_sum, has_one_difference, has_one_product, has_one_quotient, has_one_fused_sum, has_one_root}
+use Rattle.apfloat_arithmetic.proofs.other_formats_lemmas.Once.{has_one_sum, has_one_difference, has_one_product}
+use Rattle.apfloat_arithmetic.proofs.other_formats_lemmas.Once.{has_one_quotient, has_one_fused_sum, has_one_root}
 use Rattle.apfloat_arithmetic.proofs.other_formats.theorems.operations_have_one_answer.Goals as goal
 
 pub returns-clause-sum : goal.returns-clause-sum

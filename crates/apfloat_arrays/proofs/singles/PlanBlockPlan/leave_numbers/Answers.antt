@@ -1,5 +1,4 @@
-use Rattle.std.proofs.Common.{◌≡◌, ℕ, List, ◌/◌, ◌%◌, ◌^◌, ◌<◌, ◌*◌, sym, subst, ap}
-use Rattle.std.proofs.Common.{◌∙◌}
+use Rattle.std.proofs.Common.{◌≡◌, ℕ, List, ◌/◌, ◌%◌, ◌^◌, ◌<◌, ◌*◌, sym, subst, ap, ◌∙◌}
 use Rattle.std.proofs.lemmas.Bool.{true≢false}
 use Rattle.apfloat_arrays.specs.{Blocks.value_at, Bytes.number_of, Rows.AreTaken, Rows.number_from, Singles.AreHalves}
 use Rattle.apfloat_arrays.proofs.Rows.{finite_there, upper_alike}

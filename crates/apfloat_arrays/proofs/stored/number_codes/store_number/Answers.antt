@@ -1,5 +1,4 @@
-use Rattle.std.proofs.Common.{◌≡◌, ℕ, ◌+◌, ◌-◌, ◌^◌, ◌<◌, eqb, not, sym, ap, subst, arith, pos}
-use Rattle.std.proofs.Common.{◌-ℤ◌}
+use Rattle.std.proofs.Common.{◌≡◌, ℕ, ◌+◌, ◌-◌, ◌^◌, ◌<◌, eqb, not, sym, ap, subst, arith, pos, ◌-ℤ◌}
 use Rattle.std.proofs.lemmas.{Int.ints, Nat.pow_pos}
 use Rattle.apfloat_model.specs.{formats.Datum.Datum, rounding.Rounding.leads_out}
 use Rattle.rustc_apfloat.specs.{Flags.bits_of, Types.constants_of, Types.format_of}

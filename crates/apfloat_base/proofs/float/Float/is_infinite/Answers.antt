@@ -1,9 +1,8 @@
 use Rattle.std.proofs.Common.{◌≡◌, refl}
-use denote.Enum.Bare.{sameb}
 use Rattle.apfloat_model.specs.declared.kinds.Category.{Category}
 use Rattle.apfloat_model.specs.declared.kinds.Category.TheVariants.{Infinity, NaN, Normal, Zero}
-use Rattle.apfloat_model.specs.contracts.kinds.Category.{the_type}
-use Rattle.apfloat_model.specs.order.Predicates.{is_infinite_category}
+use Rattle.apfloat_model.specs.{contracts.kinds.Category.the_type, order.Predicates.is_infinite_category}
+use denote.Enum.Bare.{sameb}
 use Rattle.apfloat_base.proofs.float.Float.is_infinite.Goals as goal
 
 -- infinity is the only infinite category

@@ -1,6 +1,5 @@
 use Rattle.std.proofs.Common.{ℕ, ◌+◌, ◌/◌, ◌%◌, ◌^◌, refl, arith}
-use Rattle.std.proofs.Math.Dec.{eqb}
-use Rattle.std.proofs.lemmas.Bool.{agree_below_at}
+use Rattle.std.proofs.{Math.Dec.eqb, lemmas.Bool.agree_below_at}
 use Rattle.apfloat_model.specs.texts.Digits.{is_hexadecimal}
 use Rattle.apfloat_conversions.specs.declared.hex_texts.characters.TheConstants.{HEXADECIMAL}
 use Rattle.apfloat_conversions.proofs.hex_texts.characters.is_hexadecimal.Goals as goal

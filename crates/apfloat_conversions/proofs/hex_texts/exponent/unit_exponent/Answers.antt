@@ -1,6 +1,5 @@
-use Rattle.std.proofs.Common.{w32}
+use Rattle.std.proofs.{Common.w32, lemmas.Int.to_z-of_z}
 use Rattle.std.specs.Int.{w128}
-use Rattle.std.proofs.lemmas.Int.{to_z-of_z}
 use Rattle.apfloat_conversions.proofs.hex_texts_lemmas.Saturations.{near_sum}
 use Rattle.apfloat_conversions.proofs.hex_texts.exponent.unit_exponent.Goals as goal
 

@@ -1,6 +1,5 @@
-use Rattle.std.proofs.Common.{refl}
+use Rattle.std.proofs.{Common.refl, lemmas.Int.to_z-of_z}
 use Rattle.std.specs.Int.{w128}
-use Rattle.std.proofs.lemmas.Int.{to_z-of_z}
 use Rattle.apfloat_conversions.proofs.hex_texts_lemmas.FaultsRead.{literal_read, empty_text, some_text, exponent_fits}
 use Rattle.apfloat_conversions.proofs.hex_texts.literal.read_literal.Goals as goal
 

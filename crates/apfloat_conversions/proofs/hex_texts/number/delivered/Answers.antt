@@ -1,12 +1,10 @@
 use Rattle.std.proofs.Common.{◌∙◌, ◌<◌, ◌^◌, arith, ap, w32}
+use Rattle.std.proofs.{lemmas.Int.to_z-of_z, Math.Nat.pos_of_ne-zero}
 use Rattle.std.specs.Int.{w128}
-use Rattle.std.proofs.lemmas.Int.{to_z-of_z}
-use Rattle.std.proofs.Math.Nat.{pos_of_ne-zero}
 use Rattle.apfloat_model.specs.rounding.Flags.{bits_of}
-use Rattle.apfloat_rounding.specs.Shapes.{format_at}
-use Rattle.apfloat_rounding.specs.Stored.{datum_at}
-use Rattle.apfloat_rounding.specs.declared.unpacked.Unpacked.{Unpacked}
-use Rattle.apfloat_conversions.proofs.hex_texts_lemmas.ReadNumbers.{zero_delivered, fine_digits, bounded, number_delivered}
+use Rattle.apfloat_rounding.specs.{Shapes.format_at, Stored.datum_at, declared.unpacked.Unpacked.Unpacked}
+use Rattle.apfloat_conversions.proofs.hex_texts_lemmas.ReadNumbers.{zero_delivered, fine_digits, bounded}
+use Rattle.apfloat_conversions.proofs.hex_texts_lemmas.ReadNumbers.{number_delivered}
 use Rattle.apfloat_conversions.proofs.hex_texts.number.delivered.Goals as goal
 
 pub returns-then-digits-eq0-clause-delivered : goal.returns-then-digits-eq0-clause-delivered

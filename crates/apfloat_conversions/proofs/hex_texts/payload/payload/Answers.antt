@@ -1,8 +1,11 @@
 use Rattle.std.proofs.Common.{◌∙◌, ap, sym, rules}
 use Rattle.apfloat_model.specs.texts.Specials.{plain_payload}
-use Rattle.apfloat_conversions.proofs.hex_texts_lemmas.Parentheses.{inside_is, within, without_start, without_end, too_short}
+use Rattle.apfloat_conversions.proofs.hex_texts_lemmas.Parentheses.{inside_is, within, without_start, without_end}
+use Rattle.apfloat_conversions.proofs.hex_texts_lemmas.Parentheses.{too_short}
 use Rattle.apfloat_conversions.proofs.hex_texts.payload.payload.Goals as goal
-use Rattle.apfloat_conversions.proofs.hex_texts.payload.payload.Goals.{in_default-via-then-text-lt2, in_default-via-else-text-lt2+in-40+in_default-1, in_default-via-else-text-lt2+in_default-1}
+use Rattle.apfloat_conversions.proofs.hex_texts.payload.payload.Goals.{in_default-via-then-text-lt2}
+use Rattle.apfloat_conversions.proofs.hex_texts.payload.payload.Goals.{in_default-via-else-text-lt2+in-40+in_default-1}
+use Rattle.apfloat_conversions.proofs.hex_texts.payload.payload.Goals.{in_default-via-else-text-lt2+in_default-1}
 
 pub returns-in-empty : goal.returns-in-empty
 returns-in-empty c = search rules

@@ -1,8 +1,6 @@
 use Rattle.std.proofs.Common.{◌∙◌, List, ℕ, drop, sym, ap}
 use Rattle.apfloat_model.specs.rounding.Flags.{bits_of}
-use Rattle.apfloat_model.specs.texts.Digits.{is_empty}
-use Rattle.apfloat_model.specs.texts.Specials.{is_minus}
-use Rattle.apfloat_model.specs.texts.Faults.{begins_literal}
+use Rattle.apfloat_model.specs.texts.{Digits.is_empty, Specials.is_minus, Faults.begins_literal}
 use Rattle.apfloat_conversions.proofs.hex_texts_lemmas.FaultsRead.{some_text}
 use Rattle.apfloat_conversions.proofs.hex_texts_lemmas.TextReadings.{special_read, literal_text}
 use Rattle.apfloat_conversions.proofs.hex_texts.reading.read_bytes.Goals as goal

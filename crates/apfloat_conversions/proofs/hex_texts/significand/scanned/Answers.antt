@@ -1,10 +1,10 @@
 use Rattle.std.proofs.Common.{◌≡◌, List, ℕ, ◌∷◌, ◌-◌, ◌≤◌, length, get_or, take, drop, arith}
-use Rattle.apfloat_conversions.specs.hex_texts.Scans.{IsScan}
-use Rattle.apfloat_conversions.specs.declared.hex_texts.significand.Scan.{Scan}
-use Rattle.apfloat_model.proofs.general.ListLaws.{parted}
+use Rattle.apfloat_conversions.specs.{hex_texts.Scans.IsScan, declared.hex_texts.significand.Scan.Scan}
 use Rattle.apfloat_conversions.proofs.hex_texts_lemmas.Scanning.{refused_by}
+use Rattle.apfloat_model.proofs.general.ListLaws.{parted}
 use Rattle.apfloat_conversions.proofs.hex_texts.significand.scanned.Goals as goal
-use Rattle.apfloat_conversions.proofs.hex_texts.significand.scanned.Goals.{then-left-lt1, in-46+in_ok-with_dot, else-left-lt1+in_default-1}
+use Rattle.apfloat_conversions.proofs.hex_texts.significand.scanned.Goals.{then-left-lt1, in-46+in_ok-with_dot}
+use Rattle.apfloat_conversions.proofs.hex_texts.significand.scanned.Goals.{else-left-lt1+in_default-1}
 
 -- what is left begins with the dot
 at_dot : (rest left : List ℕ) (scan : Scan) → 1 ≤ length left → get_or left 0 0 ≡ 46 → IsScan rest left scan

@@ -1,5 +1,5 @@
-use Rattle.std.proofs.Common.{◌≡◌, ℕ, Bool, true, false, if◌then◌else◌, List, take, drop, Option, Some, None, refl, rules}
-use Rattle.std.proofs.lemmas.List.{take_rest}
+use Rattle.std.proofs.Common.{◌≡◌, ℕ, Bool, true, false, if◌then◌else◌, List, take, drop, Option, Some, None, refl}
+use Rattle.std.proofs.{Common.rules, lemmas.List.take_rest}
 use Rattle.apfloat_model.specs.texts.Digits.{begins}
 use Rattle.apfloat_model.specs.texts.Specials.{is_s, is_nan_name, named_nan, payload_of, with_payload}
 use Rattle.apfloat_conversions.specs.hex_texts.Payloads.{named_payload}

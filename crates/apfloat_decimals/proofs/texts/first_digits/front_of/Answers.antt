@@ -1,6 +1,5 @@
 use Rattle.std.proofs.Common.{◌+◌, ◌-◌, ◌^◌, ◌≤◌, length, arith}
-use Rattle.apfloat_decimals.proofs.digits.FoundDigits.{ten_most}
-use Rattle.apfloat_decimals.proofs.digits.ShortNumbers.{both_fit}
+use Rattle.apfloat_decimals.proofs.digits.{FoundDigits.ten_most, ShortNumbers.both_fit}
 use Rattle.apfloat_decimals.proofs.spelled.TextFronts.{long_front, short_front}
 use Rattle.apfloat_decimals.proofs.texts.first_digits.front_of.Goals as goal
 

@@ -1,6 +1,5 @@
 use Rattle.std.proofs.Common.{◌≡◌, ℕ, ◌+◌, ◌-◌, ◌*◌, ◌^◌, ◌<◌, ◌≤◌, List, length, take, get_or, sym, ap, ◌∙◌, subst}
-use Rattle.std.proofs.Common.{arith}
-use Rattle.std.proofs.lemmas.List.{take_all}
+use Rattle.std.proofs.{Common.arith, lemmas.List.take_all}
 use Rattle.apfloat_decimals.specs.LeadingDigits.{number_from}
 use Rattle.apfloat_decimals.proofs.numbers.LeadingNumbers.{digit_of, value_of_digit, number_next}
 use Rattle.apfloat_decimals.proofs.digits.ShortNumbers.{digit_fits, digit_room, no_more}

@@ -1,8 +1,9 @@
-use Rattle.std.proofs.Common.{◌≡◌, ℕ, ◌+◌, ◌*◌, ◌-◌, ◌%◌, ◌^◌, ◌∙◌, List, drop, take, true, false, get_or, sym, ap, arith}
+use Rattle.std.proofs.Common.{◌≡◌, ℕ, ◌+◌, ◌*◌, ◌-◌, ◌%◌, ◌^◌, ◌∙◌, List, drop, take, true, false, get_or, sym, ap}
+use Rattle.std.proofs.Common.{arith}
 use Rattle.apfloat_model.specs.texts.Digits.{begins, is_decimal}
 use Rattle.apfloat_decimals.specs.LeadingDigits.{number_from}
-use Rattle.apfloat_decimals.proofs.numbers.LeadingNumbers.{begins_next, begins_none, decimal_value}
-use Rattle.apfloat_decimals.proofs.numbers.LeadingNumbers.{every_next, number_next, split_until}
+use Rattle.apfloat_decimals.proofs.numbers.LeadingNumbers.{begins_next, begins_none, decimal_value, every_next}
+use Rattle.apfloat_decimals.proofs.numbers.LeadingNumbers.{number_next, split_until}
 use Rattle.apfloat_decimals.proofs.texts.parts.split_number.Goals.{After-split_at, then-loop-count-test+else-is_decimal}
 use Rattle.apfloat_decimals.proofs.texts.parts.split_number.Goals.{else-loop-count-test}
 use Rattle.apfloat_decimals.proofs.texts.parts.split_number.Goals as goal

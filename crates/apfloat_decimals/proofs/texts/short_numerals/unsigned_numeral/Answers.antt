@@ -1,11 +1,9 @@
 use Rattle.std.specs.Int.{w32, w128}
-use Rattle.std.proofs.Common.{◌≡◌, ℕ, ◌%◌, ◌^◌, ◌++◌, ◌∙◌, ◌-ℤ◌, ℤ, List, ap, arith, drop, length, of_z, pos, subst, sym, to_z}
-use Rattle.std.proofs.lemmas.Int.{ints, to_z-of_z}
+use Rattle.std.proofs.Common.{◌≡◌, ℕ, ◌%◌, ◌^◌, ◌++◌, ◌∙◌, ◌-ℤ◌, ℤ, List, ap, arith, drop, length, of_z, pos, subst}
+use Rattle.std.proofs.{Common.sym, Common.to_z, lemmas.Int.ints, lemmas.Int.to_z-of_z}
 use Rattle.apfloat_conversions.proofs.hex_texts_lemmas.FaultsRead.{exponent_fits}
-use Rattle.apfloat_model.specs.texts.Digits.{number}
-use Rattle.apfloat_model.specs.texts.Literals.{exponent_number}
-use Rattle.apfloat_decimals.specs.DecimalTexts.{IsDecimalText}
-use Rattle.apfloat_decimals.specs.LeadingDigits.{number_from}
+use Rattle.apfloat_model.specs.texts.{Digits.number, Literals.exponent_number}
+use Rattle.apfloat_decimals.specs.{DecimalTexts.IsDecimalText, LeadingDigits.number_from}
 use Rattle.apfloat_decimals.proofs.digits.ShortNumbers.{word_is, word_joined}
 use Rattle.apfloat_decimals.proofs.spelled.SpelledTexts.{body_text, first_digits, fraction_digits}
 use Rattle.apfloat_decimals.proofs.texts.short_numerals.unsigned_numeral.Goals as goal

@@ -1,16 +1,13 @@
 use Rattle.std.proofs.Common.{◌-◌, ◌^◌, ◌<◌, arith, w32}
-use Rattle.std.proofs.lemmas.Int.{ints, to_z-of_z}
-use Rattle.std.proofs.lemmas.Nat.{pow_pos}
+use Rattle.std.proofs.lemmas.{Int.ints, Int.to_z-of_z, Nat.pow_pos}
 use Rattle.apfloat_model.specs.order.Classes.{quanta_of}
 use Rattle.apfloat_model.proofs.arithmetic.Significands.{significand_value}
 use Rattle.apfloat_ieee.specs.Types.{format_of}
 use Rattle.apfloat_decimals.specs.ExactDecimals.{IsNumberOf}
-use Rattle.apfloat_decimals.proofs.digits.ExactDecimals.{number_of}
-use Rattle.apfloat_decimals.proofs.numbers.QuantumPlaces.{number_exponent}
+use Rattle.apfloat_decimals.proofs.{digits.ExactDecimals.number_of, numbers.QuantumPlaces.number_exponent}
 use Rattle.apfloat_digits.proofs.decimal_lemmas.DigitPlaces.{counted, last_below}
 use Rattle.apfloat_digits.proofs.decimal_lemmas.ScaledValues.{last_of, first_within}
-use Rattle.apfloat_digits.proofs.decimal.counted.count_of.Given.{Over}
-use Rattle.apfloat_digits.proofs.decimal.counted.count_of.Goals.{After-first_place}
+use Rattle.apfloat_digits.proofs.decimal.counted.count_of.{Given.Over, Goals.After-first_place}
 use Rattle.apfloat_digits.proofs.decimal.counted.count_of.Goals as goal
 
 pub last_place-place-requires-clause-some : goal.last_place-place-requires-clause-some

@@ -1,6 +1,5 @@
 use Rattle.std.proofs.Common.{◌≡◌, ℕ, subst}
-use Rattle.apfloat_model.specs.declared.kinds.Category.TheVariants.{Normal}
-use Rattle.apfloat_model.specs.order.Classes.{category_of}
+use Rattle.apfloat_model.specs.{declared.kinds.Category.TheVariants.Normal, order.Classes.category_of}
 use Rattle.apfloat_ieee.specs.Types.{format_of}
 use Rattle.apfloat_digits.specs.decimal.DigitCounts.{IsDigitCount}
 use Rattle.apfloat_digits.proofs.decimal_lemmas.RoundedTexts.{quanta_same}

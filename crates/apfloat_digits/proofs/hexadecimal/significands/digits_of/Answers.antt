@@ -1,17 +1,13 @@
-use Rattle.std.proofs.Common.{◌≡◌, ℕ, ◌-◌, ◌*◌, ◌%◌, ◌^◌, ◌<◌, ◌≤◌, sym, ap, subst, arith, to_z, of_z, w32}
-use Rattle.std.proofs.Math.Nat.{mod-eq_of_lt}
-use Rattle.std.proofs.lemmas.Int.{to_z-of_z}
-use Rattle.apfloat_model.specs.arithmetic.Exponents.{IsLogarithm}
-use Rattle.apfloat_model.specs.order.Classes.{quanta_of}
-use Rattle.apfloat_model.proofs.arithmetic.Significands.{significand_logarithm}
-use Rattle.apfloat_model.proofs.formats.LawfulRanges.{ranges_of}
+use Rattle.std.proofs.Common.{◌≡◌, ℕ, ◌-◌, ◌*◌, ◌%◌, ◌^◌, ◌<◌, ◌≤◌, sym, ap, subst}
+use Rattle.std.proofs.{Common.arith, Common.to_z, Common.of_z, Common.w32, Math.Nat.mod-eq_of_lt, lemmas.Int.to_z-of_z}
+use Rattle.apfloat_model.specs.{arithmetic.Exponents.IsLogarithm, order.Classes.quanta_of}
+use Rattle.apfloat_model.proofs.{arithmetic.Significands.significand_logarithm, formats.LawfulRanges.ranges_of}
 use Rattle.apfloat_model.proofs.order.PositiveValues.{logarithm_within}
 use Rattle.apfloat_ieee.specs.Types.{constants_of, format_of}
 use Rattle.apfloat_decimals.proofs.numbers.QuantumPlaces.{number_exponent}
 use Rattle.apfloat_digits.specs.hexadecimal.HexTexts.{IsNumberOf}
 use Rattle.apfloat_digits.proofs.hexadecimal_lemmas.AlignedDigits.{IsWide, widened}
-use Rattle.apfloat_digits.proofs.hexadecimal.significands.digits_of.Given.{Over}
-use Rattle.apfloat_digits.proofs.hexadecimal.significands.digits_of.Goals.{After-exponent_above}
+use Rattle.apfloat_digits.proofs.hexadecimal.significands.digits_of.{Given.Over, Goals.After-exponent_above}
 use Rattle.apfloat_digits.proofs.hexadecimal.significands.digits_of.Goals as goal
 
 -- the exponent of the first digit

@@ -1,5 +1,4 @@
-use Rattle.std.proofs.Common.{arith, w32}
-use Rattle.std.proofs.lemmas.Int.{to_z-of_z}
+use Rattle.std.proofs.{Common.arith, Common.w32, lemmas.Int.to_z-of_z}
 use Rattle.apfloat_digits.proofs.hexadecimal_lemmas.Lengths.{front_length, tail_room}
 use Rattle.apfloat_model.proofs.arithmetic.Significands.{exponent_fits}
 use Rattle.apfloat_digits.proofs.hexadecimal.texts.push_number.Goals as goal

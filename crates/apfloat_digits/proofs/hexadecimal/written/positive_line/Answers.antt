@@ -1,9 +1,8 @@
-use Rattle.std.proofs.Common.{refl, arith, w32}
-use Rattle.std.proofs.lemmas.Int.{ints, to_z-of_z}
+use Rattle.std.proofs.{Common.refl, Common.arith, Common.w32, lemmas.Int.ints, lemmas.Int.to_z-of_z}
 use Rattle.apfloat_model.specs.order.Classes.{quanta_of}
+use Rattle.apfloat_model.proofs.arithmetic.Significands.{exponent_fits}
 use Rattle.apfloat_ieee.specs.Types.{format_of}
 use Rattle.apfloat_digits.proofs.hexadecimal_lemmas.AlignedDigits.{shortest}
-use Rattle.apfloat_model.proofs.arithmetic.Significands.{exponent_fits}
 use Rattle.apfloat_digits.proofs.hexadecimal.written.positive_line.Goals as goal
 
 pub returns-clause-text : goal.returns-clause-text

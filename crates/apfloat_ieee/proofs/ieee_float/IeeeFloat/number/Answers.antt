@@ -1,15 +1,12 @@
 use Rattle.std.proofs.Common.{◌≡◌, ℕ, ◌*◌, ◌^◌, ◌∙◌, ℤ, ap, sym, subst, arith}
-use Rattle.std.specs.Prelude.{◌-ℤ◌}
 use Rattle.std.proofs.lemmas.Int.{ints}
-use Rattle.apfloat_model.specs.declared.kinds.Category.{Category}
-use Rattle.apfloat_model.specs.declared.kinds.Category.TheVariants.{Normal}
-use Rattle.apfloat_model.specs.formats.Datum.{Datum}
-use Rattle.apfloat_model.specs.order.Classes.{category_of, quanta_of}
+use Rattle.std.specs.Prelude.{◌-ℤ◌}
+use Rattle.apfloat_model.specs.declared.kinds.Category.{Category, TheVariants.Normal}
+use Rattle.apfloat_model.specs.{formats.Datum.Datum, order.Classes.category_of, order.Classes.quanta_of}
 use Rattle.apfloat_model.specs.rounding.Standing.{up, down}
 use Rattle.apfloat_rounding.proofs.ShapeExponents.{scale_is}
 use Rattle.apfloat_rounding.specs.Stored.{IsNormal, IsStored, IsStoredBy, datum_at, datum_by, quanta_at}
-use Rattle.apfloat_rounding.specs.declared.shape.Shape.{Shape}
-use Rattle.apfloat_rounding.specs.declared.unpacked.Unpacked.{Unpacked}
+use Rattle.apfloat_rounding.specs.declared.{shape.Shape.Shape, unpacked.Unpacked.Unpacked}
 use Rattle.apfloat_ieee.specs.FlaggedTypes.{shape_of}
 use Rattle.apfloat_ieee.proofs.ieee_float.IeeeFloat.number.Goals as goal
 

@@ -1,7 +1,5 @@
 use Rattle.std.proofs.Common.{◌≡◌, sym, subst}
-use Rattle.apfloat_model.specs.formats.Datum.{Datum}
-use Rattle.apfloat_model.specs.order.Classes.{category_of}
-use Rattle.apfloat_model.specs.formats.Members.{IsMember}
+use Rattle.apfloat_model.specs.{formats.Datum.Datum, formats.Members.IsMember, order.Classes.category_of}
 use Rattle.apfloat_ieee.specs.FlaggedTypes.{shape_of, format_of}
 use Rattle.apfloat_rounding.proofs.StoredMembers.{category_is, member_is}
 use Rattle.apfloat_ieee.proofs.ieee_float.IeeeFloat.unpacked.Goals as goal

@@ -1,5 +1,4 @@
-use Rattle.std.proofs.Common.{w32}
-use Rattle.std.proofs.lemmas.Int.{to_z-of_z}
+use Rattle.std.proofs.{Common.w32, lemmas.Int.to_z-of_z}
 use Rattle.apfloat_ieee.proofs.impls.IeeeFloatFloat.ilogb.Goals as goal
 
 pub returns : goal.returns

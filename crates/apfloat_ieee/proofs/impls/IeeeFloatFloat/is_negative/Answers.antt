@@ -2,9 +2,7 @@ use Rattle.std.proofs.Common.{◌≡◌, refl}
 use Rattle.apfloat_model.specs.declared.kinds.Category.{Category}
 use Rattle.apfloat_model.specs.declared.kinds.Category.TheVariants.{Infinity, NaN, Normal, Zero}
 use Rattle.apfloat_model.specs.order.Classes.{is_negative}
-use Rattle.apfloat_rounding.specs.declared.shape.Shape.{Shape}
-use Rattle.apfloat_rounding.specs.declared.unpacked.Unpacked.{Unpacked}
-use Rattle.apfloat_rounding.specs.Stored.{datum_by}
+use Rattle.apfloat_rounding.specs.{declared.shape.Shape.Shape, declared.unpacked.Unpacked.Unpacked, Stored.datum_by}
 use Rattle.apfloat_ieee.specs.FlaggedTypes.{shape_of}
 use Rattle.apfloat_ieee.proofs.impls.IeeeFloatFloat.is_negative.Goals as goal
 

@@ -1,7 +1,6 @@
 use Rattle.std.proofs.Common.{◌^◌, ◌≤◌, arith}
 use Rattle.std.proofs.Math.Nat.{pow-le-pow_right}
-use Rattle.apfloat_model.proofs.general.Powers.{two_pos}
-use Rattle.apfloat_model.proofs.arithmetic.NextBack.{next_back}
+use Rattle.apfloat_model.proofs.{general.Powers.two_pos, arithmetic.NextBack.next_back}
 use Rattle.apfloat_rounding.specs.Stored.{datum_at}
 use Rattle.apfloat_rounding.proofs.StoredMembers.{member_is}
 use Rattle.apfloat_ieee.specs.FlaggedTypes.{shape_of, format_of}

@@ -1,10 +1,7 @@
 use Rattle.std.proofs.Common.{◌≡◌, ◌∙◌, subst}
-use Rattle.apfloat_model.specs.formats.Constants.{smallest_normalized_datum}
-use Rattle.apfloat_model.specs.formats.Datum.{Datum}
-use Rattle.apfloat_rounding.specs.declared.shape.Shape.{Shape}
-use Rattle.apfloat_rounding.specs.declared.unpacked.Unpacked.{Unpacked}
-use Rattle.apfloat_rounding.specs.Shapes.{format_at}
-use Rattle.apfloat_rounding.specs.Stored.{datum_at}
+use Rattle.apfloat_model.specs.formats.{Constants.smallest_normalized_datum, Datum.Datum}
+use Rattle.apfloat_rounding.specs.declared.{shape.Shape.Shape, unpacked.Unpacked.Unpacked}
+use Rattle.apfloat_rounding.specs.{Shapes.format_at, Stored.datum_at}
 use Rattle.apfloat_ieee.proofs.impls.IeeeFloatFloat.smallest_normalized.Goals as goal
 
 of_shape : (datum : Datum) (x : Unpacked) (shape other : Shape) → datum ≡ datum_at other x → shape ≡ other

@@ -1,11 +1,10 @@
 use Rattle.std.proofs.Common.{◌≡◌, refl, arith, w32}
 use Rattle.std.proofs.lemmas.Int.{ints, to_z-of_z}
-use borrow.Author.Differences.{fits_in}
 use Rattle.apfloat_model.specs.rounding.Standing.{up, down}
-use Rattle.apfloat_rounding.proofs.OddCuts.{no_up}
-use Rattle.apfloat_rounding.proofs.QuantumCuts.{IsQuantumCut, quantum_fits, quantum_stands, quantum_encloses}
-use Rattle.apfloat_rounding.proofs.QuantumCuts.{quantum_finely}
+use Rattle.apfloat_rounding.proofs.{OddCuts.no_up, QuantumCuts.IsQuantumCut}
+use Rattle.apfloat_rounding.proofs.QuantumCuts.{quantum_fits, quantum_stands, quantum_encloses, quantum_finely}
 use Rattle.apfloat_rounding.proofs.rounding.denormal.cut_at_quantum.Goals.{After-word_power}
+use borrow.Author.Differences.{fits_in}
 use Rattle.apfloat_rounding.proofs.rounding.denormal.cut_at_quantum.Goals as goal
 
 -- the facts that both clauses share

@@ -1,12 +1,9 @@
 use Rattle.std.proofs.Common.{◌-◌, ◌*◌, ◌^◌, ◌<◌, ◌≤◌, arith, w32}
-use Rattle.std.proofs.Math.Nat.{mul-pos}
-use Rattle.std.proofs.lemmas.Int.{ints, to_z-of_z}
-use Rattle.std.proofs.lemmas.Nat.{pow_pos}
-use borrow.Author.Differences.{fits_in}
+use Rattle.std.proofs.{Math.Nat.mul-pos, lemmas.Int.ints, lemmas.Int.to_z-of_z, lemmas.Nat.pow_pos}
 use Rattle.apfloat_model.specs.rounding.Standing.{up, down}
 use Rattle.apfloat_model.proofs.rounding.KeptDigits.{fits_cut, full_cut}
-use Rattle.apfloat_rounding.proofs.QuantumCuts.{folded_odd}
-use Rattle.apfloat_rounding.proofs.rounding.denormal.in_word.Goals.{After-shift_right-kept}
+use Rattle.apfloat_rounding.proofs.{QuantumCuts.folded_odd, rounding.denormal.in_word.Goals.After-shift_right-kept}
+use borrow.Author.Differences.{fits_in}
 use Rattle.apfloat_rounding.proofs.rounding.denormal.in_word.Goals as goal
 
 -- at most 62 digits are kept

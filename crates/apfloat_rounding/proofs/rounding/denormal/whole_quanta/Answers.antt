@@ -1,14 +1,11 @@
 use Rattle.std.proofs.Common.{◌≡◌, ℕ, ◌-◌, ◌*◌, ◌/◌, ◌%◌, ◌^◌, ◌<◌, ◌≤◌, ◌∙◌, ap, sym, ⊎_elim, arith, unsigned_abs, w32}
 use Rattle.std.proofs.Math.Nat.{div-eq_of_lt, mod-eq_of_lt, pow-le-pow_right}
-use Rattle.std.proofs.lemmas.Int.{ints, to_z-of_z}
-use Rattle.std.proofs.lemmas.Nat.{pow_pos}
-use borrow.Author.Differences.{fits_in}
+use Rattle.std.proofs.lemmas.{Int.ints, Int.to_z-of_z, Nat.pow_pos}
 use Rattle.apfloat_model.specs.rounding.Standing.{up, down}
-use Rattle.apfloat_model.proofs.general.Powers.{two_pos}
-use Rattle.apfloat_model.proofs.rounding.KeptDigits.{fits_shifted}
-use Rattle.apfloat_rounding.proofs.OddCuts.{no_up, no_down}
-use Rattle.apfloat_rounding.proofs.QuantumCuts.{whole_down, whole_below}
+use Rattle.apfloat_model.proofs.{general.Powers.two_pos, rounding.KeptDigits.fits_shifted}
+use Rattle.apfloat_rounding.proofs.{OddCuts.no_up, OddCuts.no_down, QuantumCuts.whole_down, QuantumCuts.whole_below}
 use Rattle.apfloat_rounding.proofs.rounding.denormal.whole_quanta.Goals.{Else-significand-eq0}
+use borrow.Author.Differences.{fits_in}
 use Rattle.apfloat_rounding.proofs.rounding.denormal.whole_quanta.Goals as goal
 
 pub returns-then-unit-lt0-clause-few : goal.returns-then-unit-lt0-clause-few

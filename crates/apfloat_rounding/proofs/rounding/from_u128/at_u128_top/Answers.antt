@@ -1,5 +1,4 @@
-use Rattle.std.proofs.Common.{arith}
-use Rattle.std.proofs.Math.Nat.{mod-eq_of_lt}
+use Rattle.std.proofs.{Common.arith, Math.Nat.mod-eq_of_lt}
 use Rattle.apfloat_rounding.proofs.OddCuts.{top_fits}
 use Rattle.apfloat_rounding.proofs.rounding.from_u128.at_u128_top.Goals as goal
 

@@ -1,10 +1,8 @@
 use Rattle.std.proofs.Common.{◌≡◌, ℕ, ℤ, pos, ◌+ℤ◌, ◌≤ℤ◌, ◌+◌, ◌*◌, ◌^◌, ◌<◌, sym, ◌∙◌, subst, to_z, of_z, w32, arith}
 use Rattle.std.proofs.lemmas.Int.{ints, to_z-of_z}
-use Rattle.apfloat_model.specs.rounding.RoundingToOdd.{IsRoundedToOdd}
-use Rattle.apfloat_model.specs.rounding.Standing.{up, down}
+use Rattle.apfloat_model.specs.rounding.{RoundingToOdd.IsRoundedToOdd, Standing.up, Standing.down}
 use Rattle.apfloat_rounding.specs.Shapes.{format_at}
-use Rattle.apfloat_rounding.proofs.FineCuts.{all_kept}
-use Rattle.apfloat_rounding.proofs.OddCuts.{few_digits}
+use Rattle.apfloat_rounding.proofs.{FineCuts.all_kept, OddCuts.few_digits}
 use Rattle.apfloat_rounding.proofs.rounding.from_u128.deliver_u128.Goals.{else-digits-gt0-via-then-digits-gt0+else-unit-digits}
 use Rattle.apfloat_rounding.proofs.rounding.from_u128.deliver_u128.Goals.{else-digits-gt0-via-else-digits-gt0}
 use Rattle.apfloat_rounding.proofs.rounding.from_u128.deliver_u128.Goals as goal

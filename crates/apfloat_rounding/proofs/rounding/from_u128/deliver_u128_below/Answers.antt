@@ -1,13 +1,9 @@
 use Rattle.std.proofs.Common.{ℤ, pos, ◌+ℤ◌, ◌+◌, ◌*◌, ◌/◌, ◌%◌, ◌^◌, ⊎_elim, arith, w32}
-use Rattle.std.proofs.Math.Nat.{mul-pos}
-use Rattle.std.proofs.lemmas.Int.{ints, to_z-of_z}
-use Rattle.std.proofs.lemmas.Nat.{pow_pos}
-use borrow.Author.Differences.{fits_in}
+use Rattle.std.proofs.{Math.Nat.mul-pos, lemmas.Int.ints, lemmas.Int.to_z-of_z, lemmas.Nat.pow_pos}
 use Rattle.apfloat_model.specs.rounding.Standing.{up, down}
-use Rattle.apfloat_rounding.specs.Cuts.{loss_at}
-use Rattle.apfloat_rounding.specs.Shapes.{format_at}
-use Rattle.apfloat_rounding.proofs.OddCuts.{exact_if_short}
-use Rattle.apfloat_rounding.proofs.QuantumCuts.{folded_stands, quarters_stand}
+use Rattle.apfloat_rounding.specs.{Cuts.loss_at, Shapes.format_at}
+use Rattle.apfloat_rounding.proofs.{OddCuts.exact_if_short, QuantumCuts.folded_stands, QuantumCuts.quarters_stand}
+use borrow.Author.Differences.{fits_in}
 use Rattle.apfloat_rounding.proofs.rounding.from_u128.deliver_u128_below.Goals as goal
 
 pub returns-then-unit_place-geminus2-clause-delivered : goal.returns-then-unit_place-geminus2-clause-delivered

@@ -1,5 +1,4 @@
-use Rattle.std.proofs.Common.{arith, w32}
-use Rattle.std.proofs.lemmas.Int.{to_z-of_z}
+use Rattle.std.proofs.{Common.arith, Common.w32, lemmas.Int.to_z-of_z}
 use Rattle.apfloat_model.specs.rounding.Standing.{up, down}
 use Rattle.apfloat_rounding.proofs.QuantumCuts.{quarters_fit, quarters_full, quarters_cut}
 use Rattle.apfloat_rounding.proofs.rounding.from_word.cut_quarters.Goals as goal

@@ -1,7 +1,6 @@
 use Rattle.std.proofs.Common.{◌≡◌, ℤ, ◌+◌, ◌*◌, ◌^◌, sym, ◌∙◌, subst, to_z, of_z, w32}
 use Rattle.std.proofs.lemmas.Int.{to_z-of_z}
-use Rattle.apfloat_model.specs.rounding.RoundingToOdd.{IsRoundedToOdd}
-use Rattle.apfloat_model.specs.rounding.Standing.{up, down}
+use Rattle.apfloat_model.specs.rounding.{RoundingToOdd.IsRoundedToOdd, Standing.up, Standing.down}
 use Rattle.apfloat_rounding.proofs.FineCuts.{all_kept}
 use Rattle.apfloat_rounding.proofs.rounding.from_word.deliver_counted_word.Goals as goal
 

@@ -1,14 +1,9 @@
 use Rattle.std.proofs.Common.{◌≡◌, ℕ, ℤ, pos, ◌+ℤ◌, ◌≤ℤ◌, ◌+◌, ◌*◌, ◌^◌, ◌<◌, ◌⊎◌, sym, ap, ◌∙◌, subst, inl, inr, to_z}
-use Rattle.std.proofs.Common.{of_z, w32, arith}
-use Rattle.std.proofs.lemmas.Int.{ints, to_z-of_z}
-use Rattle.apfloat_model.specs.rounding.RoundingToOdd.{IsRoundedToOdd}
-use Rattle.apfloat_model.specs.declared.loss.Loss.TheVariants.{ExactlyZero}
-use Rattle.apfloat_model.specs.rounding.Standing.{StandsFor, up, down}
-use Rattle.apfloat_model.specs.rounding.Flags.{bits_of}
-use Rattle.apfloat_rounding.specs.Shapes.{format_at}
-use Rattle.apfloat_rounding.specs.Stored.{datum_at}
-use Rattle.apfloat_rounding.proofs.FineCuts.{all_kept}
-use Rattle.apfloat_rounding.proofs.OddCuts.{word_digits, exact_below}
+use Rattle.std.proofs.{Common.of_z, Common.w32, Common.arith, lemmas.Int.ints, lemmas.Int.to_z-of_z}
+use Rattle.apfloat_model.specs.{rounding.Flags.bits_of, declared.loss.Loss.TheVariants.ExactlyZero}
+use Rattle.apfloat_model.specs.rounding.{RoundingToOdd.IsRoundedToOdd, Standing.StandsFor, Standing.up, Standing.down}
+use Rattle.apfloat_rounding.specs.{Shapes.format_at, Stored.datum_at}
+use Rattle.apfloat_rounding.proofs.{FineCuts.all_kept, OddCuts.word_digits, OddCuts.exact_below}
 use Rattle.apfloat_rounding.proofs.QuantumCuts.{whole_delivered}
 use Rattle.apfloat_rounding.proofs.rounding.from_word.deliver_word.Goals.{else-digits-gt0-via-then-digits-gt0+else-unit-digits}
 use Rattle.apfloat_rounding.proofs.rounding.from_word.deliver_word.Goals.{else-digits-gt0-via-else-digits-gt0}

@@ -1,11 +1,11 @@
 use Rattle.std.proofs.Common.{◌≡◌, ◌≤◌, false, nat_le, refl, subst}
 use Rattle.std.proofs.lemmas.Bool.{lt-leb}
-use Rattle.rustc_apfloat.specs.Types.{constants_of}
-use Rattle.rustc_apfloat.specs.FusedSums.{fused_limit}
+use Rattle.rustc_apfloat.specs.{Types.constants_of, FusedSums.fused_limit}
 use Rattle.commands.specs.Operands.{words_of}
 use Rattle.commands.proofs.RepliesOnce.{only_fused, only_in_format}
 use Rattle.commands.proofs.calculation.CalculationInFormat.in_format.Goals as goal
-use Rattle.commands.proofs.calculation.CalculationInFormat.in_format.Goals.{in_default-via-in-FusedSum+else-PRECISION-le-FUSED_LIMIT, in_default-via-in_default}
+use Rattle.commands.proofs.calculation.CalculationInFormat.in_format.Goals.{in_default-via-in-FusedSum+else-PRECISION-le-FUSED_LIMIT}
+use Rattle.commands.proofs.calculation.CalculationInFormat.in_format.Goals.{in_default-via-in_default}
 
 pub returns-in-FusedSum : goal.returns-in-FusedSum
 returns-in-FusedSum g c =

@@ -1,15 +1,10 @@
 use Rattle.std.proofs.Common.{◌≡◌, ℕ, ◌+◌, ◌*◌, ◌/◌, ◌%◌, ◌^◌, ◌<◌, Bool, eqb, ◌&&◌, ◌∙◌, refl, sym, ap, subst, arith}
-use Rattle.std.proofs.lemmas.Bool.{ne_eqb}
-use Rattle.std.proofs.lemmas.Nat.{pow_pos}
-use Rattle.apfloat_model.specs.bits.Layout.{datum_of}
-use Rattle.apfloat_model.specs.formats.Datum.{finite}
+use Rattle.std.proofs.lemmas.{Bool.ne_eqb, Nat.pow_pos}
+use Rattle.apfloat_model.specs.{bits.Layout.datum_of, formats.Datum.finite}
+use Rattle.fast_bits.specs.lanes.{Scaled.IsReachedLane, Sides.IsSideOf, Targets.has_one_zero}
 use Rattle.fast_bits.specs.lanes.At.{format_at, layout_at}
-use Rattle.fast_bits.specs.lanes.Scaled.{IsReachedLane}
-use Rattle.fast_bits.specs.lanes.Sides.{IsSideOf}
-use Rattle.fast_bits.specs.lanes.Targets.{has_one_zero}
+use Rattle.fast_bits.proofs.lanes_lemmas.{Specials.past_single, Specials.target_reach, Words.both_zero, Words.word_is}
 use Rattle.fast_bits.proofs.lanes_lemmas.Singles.{lane_converted, place_of, significand_of, single_read}
-use Rattle.fast_bits.proofs.lanes_lemmas.Specials.{past_single, target_reach}
-use Rattle.fast_bits.proofs.lanes_lemmas.Words.{both_zero, word_is}
 use Rattle.fast_bits.proofs.lanes.lanes.convert_number.Goals.{then-negative, else-negative}
 use Rattle.fast_bits.proofs.lanes.lanes.convert_number.Goals as goal
 

@@ -1,12 +1,10 @@
-use Rattle.std.proofs.Common.{◌≡◌, false, ◌∙◌, ℕ, ◌+◌, ◌*◌, ◌/◌, ◌%◌, ◌^◌, ◌<◌, ◌≤◌, Bool, true, not, ◌&&◌, ◌||◌, eqb, leb, refl, sym, ap, subst, inl, inr, ⊎_elim, arith}
-use Rattle.std.proofs.Math.Bool.{and-false}
+use Rattle.std.proofs.Common.{◌≡◌, false, ◌∙◌, ℕ, ◌+◌, ◌*◌, ◌/◌, ◌%◌, ◌^◌, ◌<◌}
+use Rattle.std.proofs.Common.{◌≤◌, Bool, true, not, ◌&&◌, ◌||◌, eqb, leb, refl, sym, ap, subst, inl, inr}
+use Rattle.std.proofs.{Common.⊎_elim, Common.arith, Math.Bool.and-false}
 use Rattle.std.proofs.lemmas.Bool.{cases_lt, le-leb, lt-leb, true_from_ne_false}
-use Rattle.apfloat_model.specs.bits.Layout.{Layout}
-use Rattle.apfloat_model.specs.formats.Format.{Format}
+use Rattle.apfloat_model.specs.{bits.Layout.Layout, formats.Format.Format}
 use Rattle.fast_bits.specs.declared.lanes.lanes.Lane.{Lane}
-use Rattle.fast_bits.specs.lanes.At.{format_at, layout_at}
-use Rattle.fast_bits.specs.lanes.Lanes.{IsLane, IsPastLane}
-use Rattle.fast_bits.specs.lanes.Targets.{IsSingleFormat}
+use Rattle.fast_bits.specs.lanes.{At.format_at, At.layout_at, Lanes.IsLane, Lanes.IsPastLane, Targets.IsSingleFormat}
 use Rattle.fast_bits.proofs.lanes_lemmas.Specials.{a_layout, a_single, a_single_is, word_nan, word_payload}
 use Rattle.fast_bits.proofs.lanes_lemmas.Words.{word_is}
 use Rattle.fast_bits.proofs.lanes.lanes.convert_single.Goals as goal

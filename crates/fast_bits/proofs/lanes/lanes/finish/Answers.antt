@@ -1,9 +1,7 @@
 use Rattle.std.proofs.Common.{◌≡◌, ℕ, ◌+◌, ◌*◌, ◌/◌, ◌%◌, ◌^◌, ◌∙◌, refl, sym, ap, arith}
 use Rattle.std.specs.Int.RustNames.{bit_and}
-use Rattle.fast_bits.specs.lanes.At.{format_at, layout_at}
-use Rattle.fast_bits.specs.Addends.{rounded_by}
-use Rattle.fast_bits.proofs.lanes_lemmas.Answers.{lane_rounded}
-use Rattle.fast_bits.proofs.lanes_lemmas.Interchanges.{target_interchange}
+use Rattle.fast_bits.specs.{lanes.At.format_at, lanes.At.layout_at, Addends.rounded_by}
+use Rattle.fast_bits.proofs.lanes_lemmas.{Answers.lane_rounded, Interchanges.target_interchange}
 use Rattle.fast_bits.proofs.lanes.lanes.finish.Goals as goal
 
 pub returns : goal.returns

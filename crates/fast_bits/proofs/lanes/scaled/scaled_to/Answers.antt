@@ -1,10 +1,9 @@
-use Rattle.std.proofs.Common.{◌≡◌, ◌+◌, ◌-◌, ◌*◌, ◌/◌, ◌%◌, ◌^◌, ℕ, refl, ap, subst, pos, ◌-ℤ◌, ⊎_elim, inl, inr, ◌⊎◌, ◌≤◌, ◌∙◌, arith}
+use Rattle.std.proofs.Common.{◌≡◌, ◌+◌, ◌-◌, ◌*◌, ◌/◌, ◌%◌, ◌^◌, ℕ, refl, ap, subst}
+use Rattle.std.proofs.Common.{pos, ◌-ℤ◌, ⊎_elim, inl, inr, ◌⊎◌, ◌≤◌, ◌∙◌, arith}
 use Rattle.std.proofs.lemmas.Int.{ints}
-use Rattle.fast_bits.specs.lanes.At.{format_at, layout_at}
-use Rattle.fast_bits.specs.lanes.Scaled.{IsReachedLane}
+use Rattle.fast_bits.specs.lanes.{At.format_at, At.layout_at, Scaled.IsReachedLane}
 use Rattle.fast_bits.proofs.lanes_lemmas.Reached.{AreSteps, steps_are}
-use Rattle.fast_bits.proofs.lanes_lemmas.UpperHalves.{short_significand}
-use Rattle.fast_bits.proofs.lanes_lemmas.Words.{word_significand_fits}
+use Rattle.fast_bits.proofs.lanes_lemmas.{UpperHalves.short_significand, Words.word_significand_fits}
 use Rattle.fast_bits.proofs.lanes.scaled.scaled_to.Goals as goal
 
 steps : (c : goal.After-from-2) → AreSteps (format_at c.args.target)

@@ -1,13 +1,9 @@
-use Rattle.std.proofs.Common.{Bool, ap, ◌≡◌, ℕ, ◌*◌, ◌/◌, ◌%◌, ◌^◌, ◌<◌, ◌≤◌, true, ◌&&◌, eqb, ltb, leb, sym, ◌∙◌, subst, inl, inr, ⊎_elim, arith}
-use Rattle.std.proofs.Math.Bool.{and-false}
+use Rattle.std.proofs.Common.{Bool, ap, ◌≡◌, ℕ, ◌*◌, ◌/◌, ◌%◌, ◌^◌, ◌<◌, ◌≤◌, true, ◌&&◌, eqb, ltb, leb, sym, ◌∙◌}
+use Rattle.std.proofs.{Common.subst, Common.inl, Common.inr, Common.⊎_elim, Common.arith, Math.Bool.and-false}
 use Rattle.std.proofs.lemmas.Bool.{cases_lt, le-leb, le-ltb, lt-leb, true_from_ne_false}
-use Rattle.apfloat_model.specs.bits.Layout.{Layout}
-use Rattle.apfloat_model.specs.formats.Format.{Format}
-use Rattle.apfloat_model.specs.rounding.RoundingToOdd.{odd_quotient}
+use Rattle.apfloat_model.specs.{bits.Layout.Layout, formats.Format.Format, rounding.RoundingToOdd.odd_quotient}
 use Rattle.fast_bits.specs.declared.lanes.lanes.Lane.{Lane}
-use Rattle.fast_bits.specs.lanes.At.{format_at, layout_at}
-use Rattle.fast_bits.specs.lanes.Lanes.{IsLane, IsPastLane}
-use Rattle.fast_bits.specs.lanes.Targets.{IsSingleFormat}
+use Rattle.fast_bits.specs.lanes.{At.format_at, At.layout_at, Lanes.IsLane, Lanes.IsPastLane, Targets.IsSingleFormat}
 use Rattle.fast_bits.proofs.lanes_lemmas.Specials.{a_layout, a_single, a_single_is, half_nan, half_payload}
 use Rattle.fast_bits.proofs.lanes_lemmas.UpperHalves.{half_alone, half_is, word_below}
 use Rattle.fast_bits.proofs.lanes.short_lanes.convert_half.Goals as goal

@@ -1,15 +1,9 @@
-use Rattle.std.proofs.Common.{◌≡◌, ℕ, ◌+◌, ◌-◌, ◌*◌, ◌/◌, ◌%◌, ◌^◌, ◌<◌, Bool, eqb, ◌&&◌, refl, sym, ap, ◌∙◌, subst, pos, ◌-ℤ◌, arith}
-use Rattle.std.proofs.lemmas.Bool.{ne_eqb}
-use Rattle.std.proofs.lemmas.Int.{ints}
-use Rattle.std.proofs.lemmas.Nat.{pow_pos}
-use Rattle.apfloat_model.specs.bits.Layout.{datum_of}
-use Rattle.apfloat_model.specs.formats.Datum.{finite}
-use Rattle.apfloat_model.specs.rounding.RoundingToOdd.{odd_quotient}
+use Rattle.std.proofs.Common.{◌≡◌, ℕ, ◌+◌, ◌-◌, ◌*◌, ◌/◌, ◌%◌, ◌^◌, ◌<◌, Bool, eqb}
+use Rattle.std.proofs.Common.{◌&&◌, refl, sym, ap, ◌∙◌, subst, pos, ◌-ℤ◌, arith}
+use Rattle.std.proofs.lemmas.{Bool.ne_eqb, Int.ints, Nat.pow_pos}
+use Rattle.apfloat_model.specs.{bits.Layout.datum_of, formats.Datum.finite, rounding.RoundingToOdd.odd_quotient}
 use Rattle.fast_bits.specs.lanes.At.{format_at, layout_at}
-use Rattle.fast_bits.specs.lanes.Lanes.{IsRounded}
-use Rattle.fast_bits.specs.lanes.Scaled.{IsScaled}
-use Rattle.fast_bits.specs.lanes.Sides.{IsSideOf}
-use Rattle.fast_bits.specs.lanes.Targets.{has_one_zero}
+use Rattle.fast_bits.specs.lanes.{Lanes.IsRounded, Scaled.IsScaled, Sides.IsSideOf, Targets.has_one_zero}
 use Rattle.fast_bits.proofs.lanes_lemmas.Singles.{lane_converted, place_of, significand_of, single_read}
 use Rattle.fast_bits.proofs.lanes_lemmas.Specials.{past_single, target_reach}
 use Rattle.fast_bits.proofs.lanes_lemmas.UpperHalves.{IsHalf, half_alone, half_is, half_scaled, word_below}

@@ -1,11 +1,7 @@
 use Rattle.std.proofs.Common.{◌≡◌, ℕ, ◌+◌, ◌-◌, ◌*◌, ◌/◌, ◌%◌, ◌^◌, not, ◌∙◌, refl, sym, ap, subst, eqb, arith}
-use Rattle.fast_bits.specs.lanes.At.{format_at, layout_at}
-use Rattle.fast_bits.specs.lanes.Scaled.{IsScaled}
-use Rattle.fast_bits.specs.Addends.{rounded_by}
-use Rattle.fast_bits.proofs.lanes_lemmas.Answers.{made_rounded}
-use Rattle.fast_bits.proofs.lanes_lemmas.Interchanges.{target_interchange}
-use Rattle.fast_bits.proofs.lanes_lemmas.PlacedNumbers.{placed_rounded}
-use Rattle.fast_bits.proofs.lanes_lemmas.ScaledNumbers.{sum_cut}
+use Rattle.fast_bits.specs.{lanes.At.format_at, lanes.At.layout_at, lanes.Scaled.IsScaled, Addends.rounded_by}
+use Rattle.fast_bits.proofs.lanes_lemmas.{Answers.made_rounded, Interchanges.target_interchange}
+use Rattle.fast_bits.proofs.lanes_lemmas.{PlacedNumbers.placed_rounded, ScaledNumbers.sum_cut}
 use Rattle.fast_bits.proofs.lanes.short_lanes.finish.Goals as goal
 
 pub returns : goal.returns

@@ -1,6 +1,5 @@
 use Rattle.std.proofs.Common.{◌-◌, ◌^◌, ◌≤◌, arith}
-use Rattle.std.proofs.Math.Nat.{pow-le-pow_right}
-use Rattle.std.proofs.lemmas.Nat.{div_below, pow_pos}
+use Rattle.std.proofs.{Math.Nat.pow-le-pow_right, lemmas.Nat.div_below, lemmas.Nat.pow_pos}
 use Rattle.apfloat_model.proofs.general.Powers.{two_pos}
 use Rattle.fast_bits.proofs.lanes.short_lanes.kept.Goals as goal
 

@@ -1,6 +1,5 @@
 use Rattle.std.proofs.Common.{ℕ, ◌/◌, ◌∙◌, ap, sym, ◌+◌, ◌-◌, ◌%◌, ◌^◌, ◌≤◌, arith}
-use Rattle.std.proofs.Math.Nat.{div-lt_iff_lt-mul, pow-le-pow_right}
-use Rattle.std.proofs.lemmas.Nat.{pow_pos}
+use Rattle.std.proofs.{Math.Nat.div-lt_iff_lt-mul, Math.Nat.pow-le-pow_right, lemmas.Nat.pow_pos}
 use Rattle.apfloat_model.proofs.general.Powers.{two_pos}
 use Rattle.fast_bits.proofs.lanes_lemmas.Specials.{payload_digits, quieted_is}
 use Rattle.fast_bits.proofs.lanes.special_lanes.quiet_digits.Goals as goal

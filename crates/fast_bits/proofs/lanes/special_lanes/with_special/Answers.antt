@@ -1,10 +1,9 @@
-use Rattle.std.proofs.Common.{rules, ◌≡◌, ℕ, ◌+◌, ◌-◌, ◌/◌, ◌%◌, ◌^◌, ◌∙◌, Bool, cond, ◌&&◌, ap, sym, refl, subst, arith}
+use Rattle.std.proofs.Common.{rules, ◌≡◌, ℕ, ◌+◌, ◌-◌, ◌/◌, ◌%◌, ◌^◌, ◌∙◌, Bool, cond}
+use Rattle.std.proofs.Common.{◌&&◌, ap, sym, refl, subst, arith}
 use Rattle.apfloat_model.specs.formats.Nan.{quieted}
-use Rattle.fast_bits.specs.lanes.At.{format_at, layout_at}
-use Rattle.fast_bits.specs.lanes.Lanes.{IsSpecialLane}
-use Rattle.fast_bits.specs.lanes.Targets.{is_ieee}
-use Rattle.fast_bits.proofs.lanes_lemmas.Interchanges.{target_interchange}
-use Rattle.fast_bits.proofs.lanes_lemmas.Specials.{payload_quiet, quiet_digits, quieted_is, special_converted, with_special}
+use Rattle.fast_bits.specs.lanes.{At.format_at, At.layout_at, Lanes.IsSpecialLane, Targets.is_ieee}
+use Rattle.fast_bits.proofs.lanes_lemmas.{Interchanges.target_interchange, Specials.payload_quiet}
+use Rattle.fast_bits.proofs.lanes_lemmas.Specials.{quiet_digits, quieted_is, special_converted, with_special}
 use Rattle.fast_bits.proofs.lanes.special_lanes.with_special.Goals.{then-nan-ieee, else-nan-ieee}
 use Rattle.fast_bits.proofs.lanes.special_lanes.with_special.Goals as goal
 

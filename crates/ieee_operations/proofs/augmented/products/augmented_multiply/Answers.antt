@@ -3,7 +3,8 @@ use Rattle.apfloat_model.specs.rounding.Flags.{bits_of}
 use Rattle.apfloat_ieee.specs.FlaggedTypes.{format_of}
 use Rattle.ieee_operations.proofs.augmented_lemmas.ProductCases.{product_of_others}
 use Rattle.ieee_operations.proofs.augmented.products.augmented_multiply.Goals as goal
-use Rattle.ieee_operations.proofs.augmented.products.augmented_multiply.Goals.{else-is_nonzero-via-then-is_nonzero+else-is_nonzero-2, else-is_nonzero-via-else-is_nonzero}
+use Rattle.ieee_operations.proofs.augmented.products.augmented_multiply.Goals.{else-is_nonzero-via-then-is_nonzero+else-is_nonzero-2}
+use Rattle.ieee_operations.proofs.augmented.products.augmented_multiply.Goals.{else-is_nonzero-via-else-is_nonzero}
 
 pub returns-else-is_nonzero : goal.returns-else-is_nonzero
 returns-else-is_nonzero g c =

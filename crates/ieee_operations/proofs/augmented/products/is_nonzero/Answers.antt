@@ -2,7 +2,8 @@ use Rattle.std.proofs.Common.{sym, ◌∙◌}
 use Rattle.apfloat_ieee.specs.FlaggedTypes.{format_of}
 use Rattle.apfloat_model.proofs.order.Categories.{normal_finite}
 use Rattle.ieee_operations.proofs.augmented_lemmas.Numbers.{number_in}
-use Rattle.ieee_operations.proofs.augmented_lemmas.ProductCases.{some_of_normal, zero_of_category, infinity_of_category, nan_of_category}
+use Rattle.ieee_operations.proofs.augmented_lemmas.ProductCases.{some_of_normal, zero_of_category, infinity_of_category}
+use Rattle.ieee_operations.proofs.augmented_lemmas.ProductCases.{nan_of_category}
 use Rattle.ieee_operations.proofs.augmented.products.is_nonzero.Goals as goal
 
 pub returns-in-Normal-clause-yes : goal.returns-in-Normal-clause-yes

@@ -3,7 +3,8 @@ use Rattle.std.proofs.lemmas.Bool.{false≢true}
 use Rattle.apfloat_model.specs.rounding.Flags.{bits_of}
 use Rattle.apfloat_ieee.specs.FlaggedTypes.{format_of, constants_of}
 use Rattle.ieee_operations.proofs.augmented_lemmas.Cases.{ranges_of}
-use Rattle.ieee_operations.proofs.augmented_lemmas.TinyProducts.{tiny_of, head_is_short, head_is_near_tie, head_is_near, left_is_one, left_not_one, left_is_finite}
+use Rattle.ieee_operations.proofs.augmented_lemmas.TinyProducts.{tiny_of, head_is_short, head_is_near_tie, head_is_near}
+use Rattle.ieee_operations.proofs.augmented_lemmas.TinyProducts.{left_is_one, left_not_one, left_is_finite}
 use Rattle.ieee_operations.proofs.augmented.products.tiny_product.Goals as goal
 
 pub returns-then-is_exactly : goal.returns-then-is_exactly

@@ -1,8 +1,7 @@
 use Rattle.std.proofs.Common.{sym, ◌∙◌}
 use Rattle.apfloat_model.specs.rounding.Flags.{bits_of}
 use Rattle.apfloat_ieee.specs.FlaggedTypes.{format_of}
-use Rattle.ieee_operations.proofs.augmented_lemmas.Cases.{sum_swapped}
-use Rattle.ieee_operations.proofs.augmented_lemmas.Numbers.{order_of_abs, order_of_less}
+use Rattle.ieee_operations.proofs.augmented_lemmas.{Cases.sum_swapped, Numbers.order_of_abs, Numbers.order_of_less}
 use Rattle.ieee_operations.proofs.augmented.sums.finite_sum.Goals as goal
 
 pub ordered_sum-requires-clause-order : goal.ordered_sum-requires-clause-order

@@ -1,7 +1,5 @@
 use Rattle.apfloat_ieee.specs.FlaggedTypes.{format_of, constants_of}
-use Rattle.ieee_operations.proofs.augmented_lemmas.Cases.{ranges_of}
-use Rattle.ieee_operations.proofs.augmented_lemmas.Heads.{half_unit_is}
-use Rattle.ieee_operations.proofs.augmented_lemmas.OrderedSums.{places_is}
+use Rattle.ieee_operations.proofs.augmented_lemmas.{Cases.ranges_of, Heads.half_unit_is, OrderedSums.places_is}
 use Rattle.ieee_operations.proofs.augmented.sums.half_unit.Goals as goal
 
 pub returns : goal.returns

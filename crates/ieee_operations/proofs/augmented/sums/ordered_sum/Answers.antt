@@ -1,7 +1,7 @@
 use Rattle.apfloat_model.specs.rounding.Flags.{bits_of}
 use Rattle.apfloat_ieee.specs.FlaggedTypes.{format_of, constants_of}
-use Rattle.ieee_operations.proofs.augmented_lemmas.Cases.{ranges_of}
-use Rattle.ieee_operations.proofs.augmented_lemmas.OrderedSums.{short_in, head_is_short, head_is_near, head_is_largest, head_is_past}
+use Rattle.ieee_operations.proofs.augmented_lemmas.{Cases.ranges_of, OrderedSums.short_in, OrderedSums.head_is_short}
+use Rattle.ieee_operations.proofs.augmented_lemmas.OrderedSums.{head_is_near, head_is_largest, head_is_past}
 use Rattle.ieee_operations.proofs.augmented.sums.ordered_sum.Goals as goal
 
 pub rest_of-left-requires-clause-head : goal.rest_of-left-requires-clause-head

@@ -1,6 +1,5 @@
 use Rattle.std.proofs.Common.{ap}
-use Rattle.apfloat_model.specs.arithmetic.FusedSums.{IsFusedSum}
-use Rattle.apfloat_model.specs.rounding.Flags.{bits_of}
+use Rattle.apfloat_model.specs.{arithmetic.FusedSums.IsFusedSum, rounding.Flags.bits_of}
 use Rattle.apfloat_pair_theory.specs.PairFormats.{wide}
 use Rattle.rustc_apfloat.proofs.double_double_operations_lemmas.Operations.{wide_of_three}
 use Rattle.rustc_apfloat.proofs.double_double_operations.fused.pair_mul_add_r.Goals as goal

@@ -1,4 +1,5 @@
-use Rattle.rustc_apfloat.proofs.double_double_operations_lemmas.Operations.{one_fused_sum, one_from_format, one_to_format}
+use Rattle.rustc_apfloat.proofs.double_double_operations_lemmas.Operations.{one_fused_sum, one_from_format}
+use Rattle.rustc_apfloat.proofs.double_double_operations_lemmas.Operations.{one_to_format}
 use Rattle.rustc_apfloat.proofs.double_double_operations.theorems.operations_have_one_answer.Goals as goal
 
 pub returns-clause-fused_sum : goal.returns-clause-fused_sum

@@ -1,6 +1,5 @@
 use Rattle.std.proofs.Common.{ap}
-use Rattle.apfloat_model.specs.rounding.Flags.{bits_of}
-use Rattle.apfloat_model.specs.arithmetic.Roots.{IsRoot}
+use Rattle.apfloat_model.specs.{rounding.Flags.bits_of, arithmetic.Roots.IsRoot}
 use Rattle.apfloat_pair_theory.specs.PairFormats.{wide}
 use Rattle.rustc_apfloat.proofs.double_doubles_lemmas.PairSteps.{wide_of_one}
 use Rattle.rustc_apfloat.proofs.double_doubles.DoubleFloat.sqrt_r.Goals as goal

@@ -1,9 +1,7 @@
 use Rattle.std.proofs.Common.{w32, to_z, of_z, sym, subst}
 use Rattle.std.specs.Prelude.{pos, ◌-ℤ◌}
-use Rattle.apfloat_model.specs.arithmetic.Exponents.{IsFrexp}
-use Rattle.apfloat_model.specs.arithmetic.Scaling.{IsScaling}
-use Rattle.apfloat_pair_theory.specs.PairFormats.{double}
-use Rattle.apfloat_pair_theory.specs.Pairs.{Pair}
+use Rattle.apfloat_model.specs.arithmetic.{Exponents.IsFrexp, Scaling.IsScaling}
+use Rattle.apfloat_pair_theory.specs.{PairFormats.double, Pairs.Pair}
 use Rattle.rustc_apfloat.proofs.double_doubles_lemmas.PairFractions.{fraction_turns, fraction_turned, fraction_by_parts}
 use Rattle.rustc_apfloat.proofs.double_doubles.parts.fraction.Goals as goal
 

@@ -1,7 +1,5 @@
 use Rattle.std.proofs.Common.{ap, ◌∙◌, subst}
-use Rattle.apfloat_model.specs.formats.Datum.{Datum}
-use Rattle.apfloat_model.specs.rounding.Flags.{bits_of}
-use Rattle.apfloat_model.specs.arithmetic.FusedSums.{IsFusedSum}
+use Rattle.apfloat_model.specs.{formats.Datum.Datum, rounding.Flags.bits_of, arithmetic.FusedSums.IsFusedSum}
 use Rattle.apfloat_pair_theory.specs.PairFormats.{double}
 use Rattle.apfloat_pair_theory.proofs.sums.SumsSound.{step}
 use Rattle.rustc_apfloat.proofs.double_doubles_lemmas.PairSteps.{joined}

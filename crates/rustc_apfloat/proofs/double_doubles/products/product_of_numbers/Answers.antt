@@ -1,12 +1,8 @@
 use Rattle.std.proofs.Common.{false, true, ℕ, ap, ◌∙◌, subst}
 use Rattle.std.proofs.Math.Path.{subst₂}
-use Rattle.apfloat_model.specs.formats.Datum.{Datum}
-use Rattle.apfloat_model.specs.order.Classes.{is_finite_non_zero}
-use Rattle.apfloat_model.specs.rounding.Flags.{bits_of}
-use Rattle.apfloat_model.specs.rounding.Steps.{ends, Leads}
-use Rattle.apfloat_model.specs.arithmetic.Products.{IsProduct}
-use Rattle.apfloat_pair_theory.specs.PairFormats.{double}
-use Rattle.apfloat_pair_theory.specs.Pairs.{Pair, alone}
+use Rattle.apfloat_model.specs.{formats.Datum.Datum, order.Classes.is_finite_non_zero, rounding.Flags.bits_of}
+use Rattle.apfloat_model.specs.{rounding.Steps.ends, rounding.Steps.Leads, arithmetic.Products.IsProduct}
+use Rattle.apfloat_pair_theory.specs.{PairFormats.double, Pairs.Pair, Pairs.alone}
 use Rattle.apfloat_pair_theory.specs.PairSums.{◌∪◌, closing}
 use Rattle.apfloat_pair_theory.specs.PairProducts.{lost_of_product, number_product}
 use Rattle.apfloat_pair_theory.proofs.sums.SumsSound.{at_test, step, continued_leads}

@@ -1,7 +1,5 @@
 use Rattle.std.proofs.Common.{false, true, ap, ◌∙◌}
-use Rattle.apfloat_model.specs.order.Classes.{is_finite}
-use Rattle.apfloat_model.specs.rounding.Flags.{bits_of}
-use Rattle.apfloat_model.specs.rounding.Steps.{ends}
+use Rattle.apfloat_model.specs.{order.Classes.is_finite, rounding.Flags.bits_of, rounding.Steps.ends}
 use Rattle.apfloat_pair_theory.specs.Pairs.{alone}
 use Rattle.apfloat_pair_theory.specs.PairSums.{◌∪◌, closing_low}
 use Rattle.apfloat_pair_theory.proofs.sums.SumsSound.{at_test, step}

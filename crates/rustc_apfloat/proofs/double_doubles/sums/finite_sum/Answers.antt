@@ -1,13 +1,9 @@
 use Rattle.std.proofs.Common.{◌≡◌, ℕ, Bool, true, false, not, ◌&&◌, if◌then◌else◌, refl, sym, ap, ◌∙◌, subst}
-use Rattle.apfloat_model.specs.declared.kinds.Category.TheVariants.{Zero, Normal}
-use Rattle.apfloat_model.specs.declared.kinds.Round.{Round}
-use Rattle.apfloat_model.specs.arithmetic.Exact.{same_sign}
-use Rattle.apfloat_model.specs.formats.Datum.{Datum, finite, infinite, nan}
-use Rattle.apfloat_model.specs.order.Classes.{category_of, is_negative, same_datum}
-use Rattle.apfloat_model.specs.order.Predicates.{is_zero_category}
-use Rattle.apfloat_model.specs.rounding.Flags.{bits_of}
-use Rattle.apfloat_model.specs.rounding.Rounding.{ok_bits}
-use Rattle.apfloat_model.specs.rounding.Steps.{ends, Leads}
+use Rattle.apfloat_model.specs.{arithmetic.Exact.same_sign, formats.Datum.Datum, formats.Datum.finite}
+use Rattle.apfloat_model.specs.{formats.Datum.infinite, formats.Datum.nan, order.Classes.category_of}
+use Rattle.apfloat_model.specs.declared.kinds.{Category.TheVariants.Zero, Category.TheVariants.Normal, Round.Round}
+use Rattle.apfloat_model.specs.order.{Classes.is_negative, Classes.same_datum, Predicates.is_zero_category}
+use Rattle.apfloat_model.specs.rounding.{Flags.bits_of, Rounding.ok_bits, Steps.ends, Steps.Leads}
 use Rattle.apfloat_pair_theory.specs.Pairs.{Pair, alone, positive_zero}
 use Rattle.apfloat_pair_theory.specs.PairSums.{◌∪◌, closing, finite_sum, lost}
 use Rattle.apfloat_pair_theory.specs.PairFormats.{double}

@@ -1,12 +1,8 @@
 use Rattle.std.proofs.Common.{Bool, false, true, ◌≡◌, ℕ, if◌then◌else◌, ap, ◌∙◌, subst}
-use Rattle.apfloat_model.specs.declared.kinds.Round.{Round}
-use Rattle.apfloat_model.specs.formats.Datum.{Datum}
-use Rattle.apfloat_model.specs.rounding.Flags.{bits_of}
-use Rattle.apfloat_model.specs.arithmetic.Sums.{IsSum, IsDifference}
-use Rattle.apfloat_pair_theory.specs.PairFormats.{double}
-use Rattle.apfloat_model.specs.order.Classes.{is_finite}
-use Rattle.apfloat_model.specs.rounding.Steps.{ends, Leads}
-use Rattle.apfloat_pair_theory.specs.Pairs.{Pair, alone}
+use Rattle.apfloat_model.specs.{declared.kinds.Round.Round, formats.Datum.Datum}
+use Rattle.apfloat_model.specs.rounding.{Flags.bits_of, Steps.ends, Steps.Leads}
+use Rattle.apfloat_model.specs.{arithmetic.Sums.IsSum, arithmetic.Sums.IsDifference, order.Classes.is_finite}
+use Rattle.apfloat_pair_theory.specs.{PairFormats.double, Pairs.Pair, Pairs.alone}
 use Rattle.apfloat_pair_theory.specs.PairSums.{◌∪◌, greater, lesser, sum_anew, sum_anew_low}
 use Rattle.apfloat_pair_theory.proofs.sums.SumsSound.{at_test, step}
 use Rattle.rustc_apfloat.proofs.double_doubles_lemmas.PairSteps.{finite_is, joined}

@@ -1,10 +1,6 @@
 use Rattle.std.proofs.Common.{true, ap, ◌∙◌}
-use Rattle.apfloat_model.specs.arithmetic.Exact.{same_sign}
-use Rattle.apfloat_model.specs.order.Classes.{is_negative}
-use Rattle.apfloat_model.specs.formats.Nan.{invalid_bit}
-use Rattle.apfloat_model.specs.rounding.Flags.{bits_of}
-use Rattle.apfloat_model.specs.rounding.Rounding.{ok_bits}
-use Rattle.apfloat_model.specs.rounding.Steps.{ends}
+use Rattle.apfloat_model.specs.{arithmetic.Exact.same_sign, order.Classes.is_negative, formats.Nan.invalid_bit}
+use Rattle.apfloat_model.specs.rounding.{Flags.bits_of, Rounding.ok_bits, Steps.ends}
 use Rattle.apfloat_pair_theory.specs.Pairs.{Pair, pair_nan_signed_as}
 use Rattle.apfloat_pair_theory.proofs.sums.SumsSound.{at_test}
 use Rattle.rustc_apfloat.proofs.double_doubles_lemmas.PairSteps.{signs_are}

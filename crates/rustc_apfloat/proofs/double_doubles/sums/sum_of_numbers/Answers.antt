@@ -1,13 +1,8 @@
 use Rattle.std.proofs.Common.{◌≡◌, ℕ, Bool, false, true, if◌then◌else◌, ap}
 use Rattle.std.proofs.Math.Path.{subst₂}
-use Rattle.apfloat_model.specs.declared.kinds.Round.{Round}
-use Rattle.apfloat_model.specs.formats.Datum.{Datum}
-use Rattle.apfloat_model.specs.order.Classes.{is_infinite}
-use Rattle.apfloat_model.specs.rounding.Flags.{bits_of}
-use Rattle.apfloat_model.specs.rounding.Steps.{Leads}
-use Rattle.apfloat_model.specs.arithmetic.Sums.{IsSum}
-use Rattle.apfloat_pair_theory.specs.PairFormats.{double}
-use Rattle.apfloat_pair_theory.specs.Pairs.{Pair}
+use Rattle.apfloat_model.specs.{declared.kinds.Round.Round, formats.Datum.Datum, order.Classes.is_infinite}
+use Rattle.apfloat_model.specs.{rounding.Flags.bits_of, rounding.Steps.Leads, arithmetic.Sums.IsSum}
+use Rattle.apfloat_pair_theory.specs.{PairFormats.double, Pairs.Pair}
 use Rattle.apfloat_pair_theory.specs.PairSums.{finite_sum, sum_anew, sum_of_numbers}
 use Rattle.apfloat_pair_theory.proofs.sums.SumsSound.{at_test, step}
 use Rattle.rustc_apfloat.proofs.double_doubles_lemmas.PairSteps.{infinite_is}

@@ -1,6 +1,5 @@
 use Rattle.std.proofs.Common.{ap}
-use Rattle.apfloat_model.specs.rounding.Flags.{bits_of}
-use Rattle.apfloat_model.specs.whole_numbers.WholeNumbers.{IsFromUnsigned}
+use Rattle.apfloat_model.specs.{rounding.Flags.bits_of, whole_numbers.WholeNumbers.IsFromUnsigned}
 use Rattle.apfloat_pair_theory.specs.PairFormats.{wide}
 use Rattle.rustc_apfloat.proofs.double_doubles_lemmas.PairSteps.{wide_of_none}
 use Rattle.rustc_apfloat.proofs.double_doubles.wide.from_unsigned.Goals as goal

@@ -1,6 +1,5 @@
 use Rattle.std.proofs.Common.{ap}
-use Rattle.apfloat_model.specs.rounding.Flags.{bits_of}
-use Rattle.apfloat_model.specs.whole_numbers.WholeNumbers.{IsRoundToIntegral}
+use Rattle.apfloat_model.specs.{rounding.Flags.bits_of, whole_numbers.WholeNumbers.IsRoundToIntegral}
 use Rattle.apfloat_pair_theory.specs.PairFormats.{wide}
 use Rattle.rustc_apfloat.proofs.double_doubles_lemmas.PairSteps.{wide_of_one}
 use Rattle.rustc_apfloat.proofs.double_doubles.wide.round_to_integral.Goals as goal

@@ -1,6 +1,5 @@
 use Rattle.std.proofs.Common.{ap}
-use Rattle.apfloat_model.specs.rounding.Flags.{bits_of}
-use Rattle.apfloat_model.specs.arithmetic.Remainders.{IsTruncatedRemainder}
+use Rattle.apfloat_model.specs.{rounding.Flags.bits_of, arithmetic.Remainders.IsTruncatedRemainder}
 use Rattle.apfloat_pair_theory.specs.PairFormats.{wide}
 use Rattle.apfloat_pair_theory.proofs.pairs.ExactPairs.{exact_truncated_remainder}
 use Rattle.rustc_apfloat.proofs.double_doubles_lemmas.PairSteps.{wide_of_two}

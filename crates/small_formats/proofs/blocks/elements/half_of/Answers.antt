@@ -1,14 +1,11 @@
 use Rattle.std.proofs.Common.{ℕ, ◌-◌, ◌*◌, ◌^◌, ap, ◌∙◌, subst, sym}
 use Rattle.std.proofs.Math.Nat.{mod-eq_of_lt}
 use Rattle.apfloat_model.specs.arithmetic.Conversions.{IsExactlyConverted}
-use Rattle.apfloat_model.specs.formats.Datum.{finite}
-use Rattle.apfloat_model.specs.formats.Formats.{half_constants}
+use Rattle.apfloat_model.specs.formats.{Datum.finite, Formats.half_constants}
 use Rattle.apfloat_model.specs.formats.Lawful.{format_with as library_format}
-use Rattle.apfloat_model.specs.order.Classes.{quanta_of}
-use Rattle.apfloat_model.specs.rounding.Flags.{bits_of}
+use Rattle.apfloat_model.specs.{order.Classes.quanta_of, rounding.Flags.bits_of}
 use Rattle.small_formats.specs.Codes.{datum_of, is_negative_code, magnitude_of, point}
-use Rattle.small_formats.specs.Storage.{format_with}
-use Rattle.small_formats.specs.Types.{constants_of}
+use Rattle.small_formats.specs.{Storage.format_with, Types.constants_of}
 use Rattle.small_formats.proofs.blocks_lemmas.Halves.{half_member, moved_quanta}
 use Rattle.small_formats.proofs.blocks.elements.half_of.Goals as goal
 

@@ -1,8 +1,7 @@
 use Rattle.std.proofs.Common.{ap, arith, ◌∙◌}
 use Rattle.std.proofs.Math.Nat.{pow-le-pow_right}
 use Rattle.apfloat_model.proofs.general.Powers.{two_pos}
-use Rattle.apfloat_model.specs.bits.Layout.{datum_of}
-use Rattle.apfloat_model.specs.rounding.Flags.{bits_of}
+use Rattle.apfloat_model.specs.{bits.Layout.datum_of, rounding.Flags.bits_of}
 use Rattle.apfloat_ieee.specs.Types.{format_of, layout_of}
 use Rattle.small_formats.proofs.blocks.elements.ieee_quotient.Goals as goal
 

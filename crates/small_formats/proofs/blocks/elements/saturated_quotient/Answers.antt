@@ -1,6 +1,5 @@
 use Rattle.std.proofs.Common.{arith}
-use Rattle.apfloat_model.specs.order.Classes.{is_negative}
-use Rattle.apfloat_model.specs.rounding.Flags.{bits_of}
+use Rattle.apfloat_model.specs.{order.Classes.is_negative, rounding.Flags.bits_of}
 use Rattle.apfloat_ieee.specs.Types.{format_of}
 use Rattle.small_formats.proofs.blocks_lemmas.Quotients.{quotient_across, saturated_of}
 use Rattle.small_formats.proofs.blocks.elements.saturated_quotient.Goals as goal

@@ -1,7 +1,6 @@
 use Rattle.std.proofs.Common.{ap, ◌∙◌}
 use Rattle.apfloat_model.specs.rounding.Flags.{bits_of}
-use Rattle.small_formats.specs.Codes.{datum_of}
-use Rattle.small_formats.specs.Types.{constants_of}
+use Rattle.small_formats.specs.{Codes.datum_of, Types.constants_of}
 use Rattle.small_formats.proofs.blocks.elements.stored_quotient.Goals as goal
 
 pub returns-clause-code : goal.returns-clause-code

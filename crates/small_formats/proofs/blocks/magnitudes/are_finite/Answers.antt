@@ -1,6 +1,5 @@
 use Rattle.std.proofs.Common.{length, refl, sym, ap, ◌∙◌, arith}
-use Rattle.std.proofs.lemmas.Option.{slice_get_read}
-use Rattle.std.proofs.lemmas.List.{take_all}
+use Rattle.std.proofs.lemmas.{Option.slice_get_read, List.take_all}
 use Rattle.apfloat_model.proofs.order.PredicatesAgree.{finite_agrees}
 use Rattle.small_formats.specs.blocks.Magnitudes.{are_finite}
 use Rattle.small_formats.proofs.blocks_lemmas.Greatest.{finite_more, one_not_finite}

@@ -1,9 +1,7 @@
 use Rattle.std.proofs.Common.{ℕ, false, max, ap, ◌∙◌, sym, subst}
-use Rattle.apfloat_model.specs.formats.Datum.{Datum, finite}
-use Rattle.apfloat_model.specs.formats.Members.{IsMember}
+use Rattle.apfloat_model.specs.formats.{Datum.Datum, Datum.finite, Members.IsMember}
 use Rattle.apfloat_model.specs.order.Classes.{quanta_of}
-use Rattle.apfloat_model.proofs.order.PositiveValues.{magnitude_positive}
-use Rattle.apfloat_model.proofs.order.Categories.{normal_quanta}
+use Rattle.apfloat_model.proofs.order.{PositiveValues.magnitude_positive, Categories.normal_quanta}
 use Rattle.apfloat_ieee.specs.Types.{format_of}
 use Rattle.small_formats.proofs.blocks_lemmas.Greatest.{finite_magnitude, no_quanta}
 use Rattle.small_formats.proofs.blocks.magnitudes.greater.Goals as goal

@@ -1,8 +1,6 @@
 use Rattle.std.proofs.Common.{List, ap, sym, subst, ◌∙◌, false, ℕ, max, take, length, refl, arith}
-use Rattle.std.proofs.lemmas.List.{take_all}
-use Rattle.std.proofs.lemmas.Option.{slice_get_read}
-use Rattle.apfloat_model.specs.formats.Datum.{Datum, finite}
-use Rattle.apfloat_model.specs.formats.Members.{IsMember}
+use Rattle.std.proofs.lemmas.{List.take_all, Option.slice_get_read}
+use Rattle.apfloat_model.specs.formats.{Datum.Datum, Datum.finite, Members.IsMember}
 use Rattle.apfloat_model.specs.order.Classes.{quanta_of}
 use Rattle.apfloat_ieee.specs.Types.{format_of}
 use Rattle.small_formats.specs.blocks.Magnitudes.{greatest_magnitude}

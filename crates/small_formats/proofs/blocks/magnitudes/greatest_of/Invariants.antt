@@ -1,6 +1,5 @@
 use Rattle.std.proofs.Common.{◌≡◌, take, false}
-use Rattle.apfloat_model.specs.formats.Datum.{finite}
-use Rattle.apfloat_model.specs.formats.Members.{IsMember}
+use Rattle.apfloat_model.specs.formats.{Datum.finite, Members.IsMember}
 use Rattle.apfloat_ieee.specs.Types.{format_of}
 use Rattle.small_formats.specs.blocks.Magnitudes.{greatest_magnitude}
 use Rattle.small_formats.proofs.blocks.magnitudes.greatest_of.Given as goal

@@ -1,7 +1,6 @@
 use Rattle.std.proofs.Common.{ℕ, false, ap, ◌∙◌, sym, arith}
 use Rattle.std.proofs.lemmas.Bool.{ltb-true, ltb-false}
-use Rattle.apfloat_model.specs.formats.Datum.{finite}
-use Rattle.apfloat_model.specs.order.Classes.{quanta_of}
+use Rattle.apfloat_model.specs.{formats.Datum.finite, order.Classes.quanta_of}
 use Rattle.small_formats.proofs.blocks_lemmas.Greatest.{below_quanta, max_left, max_right}
 use Rattle.small_formats.proofs.blocks.magnitudes.larger.Goals as goal
 

@@ -1,13 +1,10 @@
-use Rattle.std.proofs.Common.{◌≡◌, ℕ, ◌+◌, ◌*◌, ◌^◌, refl, ap, ◌∙◌, sym, subst, length, replicate}
-use Rattle.std.proofs.lemmas.Nat.{pow_pos}
+use Rattle.std.proofs.Common.{◌≡◌, ℕ, ◌+◌, ◌*◌, ◌^◌, refl, ap, ◌∙◌, sym, subst, length}
+use Rattle.std.proofs.{Common.replicate, lemmas.Nat.pow_pos}
 use Rattle.apfloat_model.specs.order.Classes.{quanta_of}
 use Rattle.apfloat_model.proofs.general.Choices.{match_false, match_true}
 use Rattle.apfloat_ieee.specs.Types.{format_of}
-use Rattle.small_formats.specs.blocks.Magnitudes.{greatest_magnitude}
-use Rattle.small_formats.specs.blocks.MxScales.{IsScaleBy}
-use Rattle.small_formats.proofs.blocks_lemmas.Counted.{none_counted}
-use Rattle.small_formats.proofs.blocks_lemmas.Greatest.{own_quanta}
-use Rattle.small_formats.proofs.blocks_lemmas.Powers.{scale_quanta}
+use Rattle.small_formats.specs.blocks.{Magnitudes.greatest_magnitude, MxScales.IsScaleBy}
+use Rattle.small_formats.proofs.blocks_lemmas.{Counted.none_counted, Greatest.own_quanta, Powers.scale_quanta}
 use Rattle.small_formats.proofs.blocks.mx.quantize_some.Goals as goal
 
 -- a block with an infinity or a NaN

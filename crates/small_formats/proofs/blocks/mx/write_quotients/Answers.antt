@@ -1,13 +1,9 @@
 use Rattle.std.proofs.Common.{ℕ, ◌*◌, ◌^◌, ◌∙◌, length, refl, arith}
-use Rattle.std.proofs.Math.Nat.{mul-pos}
-use Rattle.std.proofs.lemmas.Nat.{pow_pos}
-use Rattle.std.proofs.lemmas.Option.{slice_get_read}
-use Rattle.apfloat_model.specs.order.Classes.{quanta_of}
-use Rattle.apfloat_model.specs.rounding.Flags.{bits_of}
+use Rattle.std.proofs.{Math.Nat.mul-pos, lemmas.Nat.pow_pos, lemmas.Option.slice_get_read}
+use Rattle.apfloat_model.specs.{order.Classes.quanta_of, rounding.Flags.bits_of}
 use Rattle.apfloat_ieee.specs.Types.{format_of}
 use Rattle.small_formats.specs.blocks.Elements.{format_of_element}
-use Rattle.small_formats.proofs.blocks_lemmas.Fractions.{element_fraction}
-use Rattle.small_formats.proofs.blocks_lemmas.Greatest.{finite_at}
+use Rattle.small_formats.proofs.blocks_lemmas.{Fractions.element_fraction, Greatest.finite_at}
 use Rattle.small_formats.proofs.blocks_lemmas.Places.{all_written, length_set, none_written, one_written, room_for}
 use Rattle.small_formats.proofs.blocks.mx.write_quotients.Goals as goal
 

@@ -1,8 +1,7 @@
 use Rattle.std.proofs.Common.{ap, ◌∙◌, sym, ℕ, w32, pos, ◌+ℤ◌, min, arith}
 use Rattle.std.proofs.lemmas.Int.{ints, to_z-of_z}
 use Rattle.apfloat_model.specs.arithmetic.Exact.{up}
-use Rattle.apfloat_model.proofs.arithmetic.SingleScalings.{up_far}
-use Rattle.apfloat_model.proofs.arithmetic.Signs.{no_up}
+use Rattle.apfloat_model.proofs.arithmetic.{SingleScalings.up_far, Signs.no_up}
 use Rattle.small_formats.proofs.blocks_lemmas.ScaleCodes.{far_fits, inside, min_left, min_right}
 use Rattle.small_formats.proofs.blocks.mx_scales.clamped_code.Goals as goal
 

@@ -1,9 +1,7 @@
 use Rattle.std.proofs.Common.{Bool, ℕ, ◌*◌, ◌^◌, ◌∙◌, ap, bit_and, eqb, not, subst}
-use Rattle.std.proofs.Math.Nat.{mul-pos}
-use Rattle.std.proofs.lemmas.Nat.{pow_pos}
-use Rattle.apfloat_model.specs.declared.kinds.Round.TheVariants.{TowardPositive}
-use Rattle.apfloat_model.specs.order.Classes.{is_finite, is_negative, quanta_of}
-use Rattle.apfloat_model.specs.rounding.Flags.{bits_of}
+use Rattle.std.proofs.{Math.Nat.mul-pos, lemmas.Nat.pow_pos}
+use Rattle.apfloat_model.specs.{declared.kinds.Round.TheVariants.TowardPositive, order.Classes.is_finite}
+use Rattle.apfloat_model.specs.{order.Classes.is_negative, order.Classes.quanta_of, rounding.Flags.bits_of}
 use Rattle.apfloat_ieee.specs.Types.{format_of}
 use Rattle.small_formats.specs.blocks.Elements.{IsElement, format_of_element}
 use Rattle.small_formats.proofs.blocks_lemmas.LeastScales.{by_power, overflow_is}

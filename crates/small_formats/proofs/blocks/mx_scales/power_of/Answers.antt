@@ -1,11 +1,7 @@
 use Rattle.std.proofs.Common.{ℕ, ◌+◌, ◌^◌, ap, ◌∙◌, sym, subst, arith, false}
 use Rattle.std.proofs.lemmas.Nat.{pow_pos}
-use Rattle.apfloat_model.specs.formats.Datum.{finite}
-use Rattle.apfloat_model.specs.formats.Formats.{bfloat_constants}
-use Rattle.apfloat_model.specs.formats.Lawful.{format_with}
-use Rattle.apfloat_model.specs.formats.Members.{IsFiniteOf}
-use Rattle.apfloat_model.specs.order.Classes.{quanta_of}
-use Rattle.apfloat_model.specs.rounding.Flags.{bits_of}
+use Rattle.apfloat_model.specs.formats.{Datum.finite, Formats.bfloat_constants, Lawful.format_with, Members.IsFiniteOf}
+use Rattle.apfloat_model.specs.{order.Classes.quanta_of, rounding.Flags.bits_of}
 use Rattle.small_formats.proofs.blocks_lemmas.Powers.{bfloat_power, converted_scale, scale_quanta}
 use Rattle.small_formats.proofs.blocks.mx_scales.power_of.Goals as goal
 

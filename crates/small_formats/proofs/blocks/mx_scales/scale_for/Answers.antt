@@ -1,17 +1,13 @@
 use Rattle.std.proofs.Common.{arith, refl, sym, w32, ◌^◌, ◌∙◌, pos, ◌-ℤ◌}
 use Rattle.std.proofs.lemmas.Int.{ints, to_z-of_z}
-use Rattle.apfloat_model.specs.arithmetic.Exponents.{IsLogarithm}
-use Rattle.apfloat_model.specs.order.Classes.{quanta_of}
-use Rattle.apfloat_model.specs.rounding.Bounds.{IsWithin}
-use Rattle.apfloat_model.proofs.arithmetic.Significands.{exponent_fits}
-use Rattle.apfloat_model.proofs.formats.LawfulRanges.{ranges_of}
+use Rattle.apfloat_model.specs.{arithmetic.Exponents.IsLogarithm, order.Classes.quanta_of, rounding.Bounds.IsWithin}
+use Rattle.apfloat_model.proofs.{arithmetic.Significands.exponent_fits, formats.LawfulRanges.ranges_of}
 use Rattle.apfloat_model.proofs.general.Choices.{match_false, match_true}
 use Rattle.apfloat_model.proofs.order.PositiveValues.{logarithm_of, logarithm_within}
 use Rattle.apfloat_ieee.specs.Types.{constants_of, format_of}
 use Rattle.small_formats.specs.blocks.Elements.{max_exp}
 use Rattle.small_formats.proofs.blocks_lemmas.Greatest.{positive_of, zero_test}
-use Rattle.small_formats.proofs.blocks.mx_scales.scale_for.Given.{Over}
-use Rattle.small_formats.proofs.blocks.mx_scales.scale_for.Goals.{After-ilogb}
+use Rattle.small_formats.proofs.blocks.mx_scales.scale_for.{Given.Over, Goals.After-ilogb}
 use Rattle.small_formats.proofs.blocks.mx_scales.scale_for.Goals as goal
 
 pub returns-then-is_zero-clause-value : goal.returns-then-is_zero-clause-value

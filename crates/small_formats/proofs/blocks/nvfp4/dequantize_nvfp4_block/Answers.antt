@@ -1,6 +1,5 @@
 use Rattle.std.proofs.Common.{◌≤◌, ◌∙◌, get_or, inl, inr, refl, sym, arith}
-use Rattle.std.proofs.lemmas.Bool.{eq-eqb, le-leb, lt-leb, ne_eqb}
-use Rattle.std.proofs.lemmas.Option.{slice_get-get_or}
+use Rattle.std.proofs.lemmas.{Bool.eq-eqb, Bool.le-leb, Bool.lt-leb, Bool.ne_eqb, Option.slice_get-get_or}
 use Rattle.apfloat_model.specs.rounding.Flags.{bits_of}
 use Rattle.small_formats.proofs.blocks_lemmas.Places.{all_written, length_set, one_written, room_for}
 use Rattle.small_formats.proofs.blocks.nvfp4.dequantize_nvfp4_block.Goals as goal

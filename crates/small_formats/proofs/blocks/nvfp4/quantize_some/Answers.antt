@@ -2,11 +2,8 @@ use Rattle.std.proofs.Common.{ℕ, ◌*◌, ◌^◌, ap, max, refl, sym, subst, 
 use Rattle.apfloat_model.specs.order.Classes.{quanta_of}
 use Rattle.apfloat_model.proofs.general.Choices.{match_false, match_true}
 use Rattle.apfloat_ieee.specs.Types.{format_of}
-use Rattle.small_formats.specs.blocks.Magnitudes.{greatest_magnitude}
-use Rattle.small_formats.specs.blocks.Nvfp4.{IsNvScale, scale_quanta}
-use Rattle.small_formats.proofs.blocks_lemmas.Counted.{none_counted}
-use Rattle.small_formats.proofs.blocks_lemmas.Greatest.{own_quanta}
-use Rattle.small_formats.proofs.blocks_lemmas.NvScales.{divisor_some}
+use Rattle.small_formats.specs.blocks.{Magnitudes.greatest_magnitude, Nvfp4.IsNvScale, Nvfp4.scale_quanta}
+use Rattle.small_formats.proofs.blocks_lemmas.{Counted.none_counted, Greatest.own_quanta, NvScales.divisor_some}
 use Rattle.small_formats.proofs.blocks.nvfp4.quantize_some.Goals as goal
 
 -- a block with an infinity or a NaN

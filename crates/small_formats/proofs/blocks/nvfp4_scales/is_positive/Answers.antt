@@ -1,7 +1,6 @@
 use Rattle.std.proofs.Common.{ap, not, sym, ◌∙◌}
 use Rattle.std.proofs.lemmas.Bool.{not-true}
-use Rattle.apfloat_model.specs.formats.Formats.{single_constants}
-use Rattle.apfloat_model.specs.formats.Lawful.{format_with}
+use Rattle.apfloat_model.specs.formats.{Formats.single_constants, Lawful.format_with}
 use Rattle.small_formats.proofs.blocks_lemmas.NvScales.{not_positive, positive_number, positive_test}
 use Rattle.small_formats.proofs.blocks.nvfp4_scales.is_positive.Goals as goal
 

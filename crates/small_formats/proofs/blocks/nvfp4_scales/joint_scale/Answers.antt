@@ -1,5 +1,4 @@
-use Rattle.apfloat_model.specs.declared.kinds.Round.TheVariants.{NearestTiesToEven}
-use Rattle.apfloat_model.specs.rounding.Flags.{bits_of}
+use Rattle.apfloat_model.specs.{declared.kinds.Round.TheVariants.NearestTiesToEven, rounding.Flags.bits_of}
 use Rattle.small_formats.proofs.blocks_lemmas.JointScales.{joint_is, joint_positive, joint_value}
 use Rattle.small_formats.proofs.blocks.nvfp4_scales.joint_scale.Goals as goal
 

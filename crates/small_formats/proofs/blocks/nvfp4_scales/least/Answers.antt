@@ -1,6 +1,5 @@
 use Rattle.std.proofs.Common.{lit≤, refl}
-use Rattle.apfloat_model.specs.formats.Formats.{e4m3fn_constants}
-use Rattle.apfloat_model.specs.formats.Lawful.{format_with}
+use Rattle.apfloat_model.specs.formats.{Formats.e4m3fn_constants, Lawful.format_with}
 use Rattle.small_formats.proofs.blocks_lemmas.NvScales.{positive_quanta}
 use Rattle.small_formats.proofs.blocks.nvfp4_scales.least.Goals as goal
 

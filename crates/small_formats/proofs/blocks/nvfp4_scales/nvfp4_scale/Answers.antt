@@ -1,8 +1,7 @@
 use Rattle.std.proofs.Common.{ℕ, ◌*◌, ◌^◌, ap, sym, ◌∙◌}
 use Rattle.apfloat_model.specs.order.Classes.{quanta_of}
 use Rattle.apfloat_ieee.specs.Types.{format_of}
-use Rattle.small_formats.proofs.blocks_lemmas.Greatest.{zero_test}
-use Rattle.small_formats.proofs.blocks_lemmas.NvScales.{scale_of_code}
+use Rattle.small_formats.proofs.blocks_lemmas.{Greatest.zero_test, NvScales.scale_of_code}
 use Rattle.small_formats.proofs.blocks.nvfp4_scales.nvfp4_scale.Goals as goal
 
 pub returns-clause-code : goal.returns-clause-code

@@ -1,7 +1,5 @@
 use Rattle.std.proofs.Common.{◌*◌, ◌^◌, ap, lit≤, refl}
-use Rattle.apfloat_model.specs.formats.Formats.{e4m3fn_constants}
-use Rattle.apfloat_model.specs.formats.Lawful.{format_with}
-use Rattle.apfloat_model.specs.order.Classes.{quanta_of}
+use Rattle.apfloat_model.specs.{formats.Formats.e4m3fn_constants, formats.Lawful.format_with, order.Classes.quanta_of}
 use Rattle.small_formats.proofs.blocks_lemmas.NvScales.{positive_quanta}
 use Rattle.small_formats.proofs.blocks.nvfp4_scales.six.Goals as goal
 

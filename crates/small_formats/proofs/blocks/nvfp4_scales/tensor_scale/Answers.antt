@@ -2,8 +2,7 @@ use Rattle.std.proofs.Common.{ℕ, ap, refl, sym, subst, ◌∙◌}
 use Rattle.apfloat_model.specs.order.Classes.{quanta_of}
 use Rattle.apfloat_model.proofs.general.Choices.{match_false, match_true}
 use Rattle.apfloat_ieee.specs.Types.{format_of}
-use Rattle.small_formats.specs.blocks.Magnitudes.{greatest_magnitude}
-use Rattle.small_formats.specs.blocks.Nvfp4.{IsTensorScale}
+use Rattle.small_formats.specs.blocks.{Magnitudes.greatest_magnitude, Nvfp4.IsTensorScale}
 use Rattle.small_formats.proofs.blocks_lemmas.Greatest.{own_quanta}
 use Rattle.small_formats.proofs.blocks.nvfp4_scales.tensor_scale.Goals as goal
 

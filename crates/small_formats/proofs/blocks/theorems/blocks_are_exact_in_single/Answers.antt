@@ -1,5 +1,4 @@
-use Rattle.small_formats.proofs.blocks_lemmas.ExactBlocks.{exact_into_single}
-use Rattle.small_formats.proofs.blocks_lemmas.exact.Singles.{exact_from_singles}
+use Rattle.small_formats.proofs.blocks_lemmas.{ExactBlocks.exact_into_single, exact.Singles.exact_from_singles}
 use Rattle.small_formats.proofs.blocks.theorems.blocks_are_exact_in_single.Goals as goal
 
 pub returns-clause-each : goal.returns-clause-each

@@ -1,7 +1,6 @@
 use Rattle.std.proofs.Common.{subst}
 use Rattle.apfloat_ieee.specs.FlaggedTypes.{format_of}
-use Rattle.apfloat_model.specs.rounding.Flags.{bits_of}
-use Rattle.apfloat_model.specs.formats.Datum.{Datum}
+use Rattle.apfloat_model.specs.{rounding.Flags.bits_of, formats.Datum.Datum}
 use Rattle.apfloat_model.specs.arithmetic.Conversions.{IsConversion, IsExactlyConverted}
 use Rattle.small_formats.specs.Float8E3M4.{e3m4_format}
 use Rattle.small_formats.proofs.NarrowCodes.{same_exactly, same_source}

@@ -1,7 +1,6 @@
 use Rattle.std.proofs.Common.{◌≡◌, ℕ, ◌+◌, ◌*◌, ◌/◌, ◌%◌, ◌^◌, ◌<◌, List, refl, sym, ◌∙◌, append-nil, arith, [], ◌∷◌}
-use Rattle.std.proofs.Common.{length, take, get_or, subst}
+use Rattle.std.proofs.{Common.length, Common.take, Common.get_or, Common.subst, lemmas.List.take_more}
 use Rattle.std.specs.Prelude.{All, slice_set}
-use Rattle.std.proofs.lemmas.List.{take_more}
 use Rattle.small_formats.proofs.packing_lemmas.All.{all_append, all_cons, all_none}
 use Rattle.small_formats.proofs.packing_lemmas.Groups.{byte_of_fours, one_more, set_next}
 use Rattle.small_formats.proofs.packing.fours.unpack_fours.Goals as goal

@@ -1,7 +1,6 @@
 use Rattle.std.proofs.Common.{ℕ, List, ◌+◌, ◌^◌, ◌<◌, take, get_or, subst, arith}
+use Rattle.std.proofs.lemmas.{List.get_or_default, List.take_all, List.take_more, Nat.one_shl}
 use Rattle.std.specs.Prelude.{All}
-use Rattle.std.proofs.lemmas.List.{get_or_default, take_all, take_more}
-use Rattle.std.proofs.lemmas.Nat.{one_shl}
 use Rattle.small_formats.proofs.packing_lemmas.All.{all_more}
 use Rattle.small_formats.proofs.packing.narrow.are_narrow.Goals as goal
 

@@ -1,10 +1,7 @@
 use Rattle.std.proofs.Common.{Bool, ap, sym, ◌∙◌}
-use Rattle.apfloat_model.specs.formats.Datum.{finite}
+use Rattle.apfloat_model.specs.{formats.Datum.finite, formats.Format.largest, rounding.Negation.negated}
+use Rattle.apfloat_model.proofs.{whole_numbers.SignedNumbers.largest_some, arithmetic.Signs.negated_some}
 use Rattle.apfloat_ieee.specs.FlaggedTypes.{format_of}
-use Rattle.apfloat_model.specs.formats.Format.{largest}
-use Rattle.apfloat_model.specs.rounding.Negation.{negated}
-use Rattle.apfloat_model.proofs.whole_numbers.SignedNumbers.{largest_some}
-use Rattle.apfloat_model.proofs.arithmetic.Signs.{negated_some}
 use Rattle.small_formats.proofs.saturation.saturation.largest_of_sign.Goals as goal
 
 pub returns-then-negative : goal.returns-then-negative

@@ -1,9 +1,8 @@
 use Rattle.std.proofs.Common.{ap, sym, refl, ◌∙◌}
-use Rattle.apfloat_model.specs.formats.Datum.{finite}
-use Rattle.apfloat_model.specs.rounding.Flags.{bits_of}
+use Rattle.apfloat_model.specs.{formats.Datum.finite, formats.Format.largest, rounding.Flags.bits_of}
 use Rattle.apfloat_ieee.specs.FlaggedTypes.{format_of}
-use Rattle.apfloat_model.specs.formats.Format.{largest}
-use Rattle.small_formats.proofs.saturation_lemmas.FiniteValues.{infinity_largest, nan_kept, nan_largest, number_saturated}
+use Rattle.small_formats.proofs.saturation_lemmas.FiniteValues.{infinity_largest, nan_kept, nan_largest}
+use Rattle.small_formats.proofs.saturation_lemmas.FiniteValues.{number_saturated}
 use Rattle.small_formats.proofs.saturation.saturation.treat.Goals as goal
 
 pub returns-in-Kept : goal.returns-in-Kept

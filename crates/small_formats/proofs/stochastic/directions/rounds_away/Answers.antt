@@ -1,10 +1,8 @@
 use Rattle.std.proofs.Common.{ℕ, ◌*◌, ◌^◌, w32, ap, ◌∙◌, subst}
-use Rattle.std.proofs.lemmas.Int.{to_z-of_z}
-use Rattle.std.proofs.lemmas.Nat.{pow_pos}
-use Rattle.apfloat_model.specs.formats.Format.{Format}
-use Rattle.apfloat_model.specs.order.Classes.{quanta_of}
-use Rattle.apfloat_ieee.specs.Types.{format_of}
+use Rattle.std.proofs.lemmas.{Int.to_z-of_z, Nat.pow_pos}
+use Rattle.apfloat_model.specs.{formats.Format.Format, order.Classes.quanta_of}
 use Rattle.apfloat_model.proofs.arithmetic.Significands.{exponent_fits}
+use Rattle.apfloat_ieee.specs.Types.{format_of}
 use Rattle.small_formats.specs.stochastic.Directions.{IsDirection}
 use Rattle.small_formats.proofs.stochastic.directions.rounds_away.Goals as goal
 

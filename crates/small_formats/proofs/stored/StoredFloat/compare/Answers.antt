@@ -1,8 +1,7 @@
 use Rattle.std.proofs.Common.{◌∙◌, ap, arith, w16, ℤ, int_cmp}
 use Rattle.std.proofs.lemmas.Int.{to_z-of_z}
 use Rattle.apfloat_model.specs.arithmetic.Exact.{signed}
-use Rattle.small_formats.specs.Codes.{is_negative_code, magnitude_of}
-use Rattle.small_formats.specs.Types.{constants_of}
+use Rattle.small_formats.specs.{Codes.is_negative_code, Codes.magnitude_of, Types.constants_of}
 use Rattle.small_formats.proofs.CodesCompared.{compared_points}
 use Rattle.small_formats.proofs.stored.StoredFloat.compare.Goals as goal
 

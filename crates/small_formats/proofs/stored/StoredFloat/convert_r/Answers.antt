@@ -2,9 +2,7 @@ use Rattle.std.proofs.Common.{◌<◌, arith}
 use Rattle.apfloat_model.specs.rounding.Flags.{bits_of}
 use Rattle.apfloat_model.proofs.arithmetic.ExactConversions.{exactly_converted}
 use Rattle.apfloat_ieee.specs.FlaggedTypes.{format_of}
-use Rattle.small_formats.specs.Codes.{datum_of, magnitude_of}
-use Rattle.small_formats.specs.Storage.{format_with}
-use Rattle.small_formats.specs.Types.{constants_of}
+use Rattle.small_formats.specs.{Codes.datum_of, Codes.magnitude_of, Storage.format_with, Types.constants_of}
 use Rattle.small_formats.proofs.Converted.{number_converted, zero_converted}
 use Rattle.small_formats.proofs.stored.StoredFloat.convert_r.Goals as goal
 

@@ -1,5 +1,4 @@
-use Rattle.small_formats.specs.Codes.{is_negative_code}
-use Rattle.small_formats.specs.Types.{constants_of}
+use Rattle.small_formats.specs.{Codes.is_negative_code, Types.constants_of}
 use Rattle.small_formats.proofs.WideResults.{quotient, wide}
 use Rattle.small_formats.proofs.stored.StoredFloat.div_r.Goals as goal
 

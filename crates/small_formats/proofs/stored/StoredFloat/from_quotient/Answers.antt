@@ -1,11 +1,9 @@
 use Rattle.std.proofs.Common.{◌≡◌, ℕ, ◌+◌, ◌*◌, ◌^◌, ◌<◌, refl, sym, ◌∙◌, arith, ap, true}
-use Rattle.std.proofs.Math.Nat.{mul-pos}
-use Rattle.std.proofs.lemmas.Nat.{pow_pos}
+use Rattle.std.proofs.{Math.Nat.mul-pos, lemmas.Nat.pow_pos}
 use Rattle.apfloat_model.specs.order.Classes.{is_negative, quanta_of}
-use Rattle.apfloat_ieee.specs.Types.{format_of}
 use Rattle.apfloat_model.proofs.order.PositiveValues.{magnitude_positive}
-use Rattle.small_formats.specs.Storage.{format_with}
-use Rattle.small_formats.specs.Types.{constants_of}
+use Rattle.apfloat_ieee.specs.Types.{format_of}
+use Rattle.small_formats.specs.{Storage.format_with, Types.constants_of}
 use Rattle.small_formats.proofs.QuotientPicks.{magnitude_quanta, no_number, no_quotient, zero_picked}
 use Rattle.small_formats.proofs.StoredPicks.{saturated, within_delivered}
 use Rattle.small_formats.proofs.stored.StoredFloat.from_quotient.Goals as goal

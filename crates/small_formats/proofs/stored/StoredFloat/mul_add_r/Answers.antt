@@ -1,5 +1,4 @@
-use Rattle.small_formats.specs.Codes.{is_negative_code, magnitude_of, point}
-use Rattle.small_formats.specs.Types.{constants_of}
+use Rattle.small_formats.specs.{Codes.is_negative_code, Codes.magnitude_of, Codes.point, Types.constants_of}
 use Rattle.small_formats.proofs.WideResults.{fused, wide}
 use Rattle.small_formats.proofs.stored.StoredFloat.mul_add_r.Goals as goal
 

@@ -1,5 +1,4 @@
-use Rattle.small_formats.specs.Codes.{is_negative_code}
-use Rattle.small_formats.specs.Types.{constants_of}
+use Rattle.small_formats.specs.{Codes.is_negative_code, Types.constants_of}
 use Rattle.small_formats.proofs.WideResults.{product, wide}
 use Rattle.small_formats.proofs.stored.StoredFloat.mul_r.Goals as goal
 
