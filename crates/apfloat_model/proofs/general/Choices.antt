@@ -19,6 +19,11 @@ pub off_by : (test : Bool) → (test ≡ true → ⊥) → false ≡ test
 off_by true h = absurd (h refl)
 off_by false h = refl
 
+-- no test holds together with its negation
+not_itself : (test : Bool) → (test && not (test && true)) ≡ false
+not_itself true = refl
+not_itself false = refl
+
 -- a test that cannot hold excludes nothing
 pub no_zero : (test exact : Bool) → (exact && not (test && false)) ≡ exact
 no_zero true true = refl
