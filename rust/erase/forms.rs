@@ -86,7 +86,7 @@ pub(crate) const PROVED: [(&str, &str); 3] =
     [("prove", "debug_assert"), ("prove_eq", "debug_assert_eq"), ("prove_ne", "debug_assert_ne")];
 
 /// Words of the code that are refused outside of the forms that are known, with the reason.
-pub(crate) const REFUSED: [(&str, &str); 22] = [
+pub(crate) const REFUSED: [(&str, &str); 21] = [
     ("requires", "a clause outside the head of a function"),
     ("ensures", "a clause outside the head of a function"),
     ("final", "`final` before anything but a `fn`"),
@@ -106,13 +106,12 @@ pub(crate) const REFUSED: [(&str, &str); 22] = [
     ("Owns", "a form of unsafe code"),
     ("unsafe", "unsafe code"),
     ("extern", "a foreign function"),
-    ("static", "a static"),
     ("async", "no form of the proved language"),
     ("dyn", "a value without its type"),
 ];
 
 /// Those of these words that programs use. What is passed an allocator there does not compile in Rust.
-pub(crate) const WORDS_OF_PROGRAMS: [&str; 3] = ["String", "Vec", "static"];
+pub(crate) const WORDS_OF_PROGRAMS: [&str; 2] = ["String", "Vec"];
 
 /// How `fmt` is written in the proved language, and in Rust. The former is generic in what it writes to.
 pub(crate) const FMT: (&[&str], &str) = (

@@ -394,7 +394,7 @@ impl<'a> Walk<'a, '_> {
             }
             "fn" => self.function(at),
             "const" | "type" | "struct" | "enum" | "trait" => Ok(at + 1),
-            "static" if self.place.of_program => Ok(at + 1),
+            "static" if self.text(at + 1) != "mut" => Ok(at + 1),
             "impl" => self.implementation(at),
             "use" => self.import(at),
             "mod" if self.text(at + 2) == ";" && self.place.without.contains(&self.text(at + 1)) => {

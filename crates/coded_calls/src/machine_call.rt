@@ -57,7 +57,7 @@ pub enum CodedMachine {
 
 /// The choices of the machines, in the order of their names. A table, unlike a `match`, is read only where a choice is
 /// asked for.
-const MACHINES: [Machine; 15] = [
+static MACHINES: [Machine; 15] = [
     Machine::X86,
     Machine::X87,
     Machine::ARM,

@@ -34,6 +34,7 @@ fn is_refused(text: &str, line: usize, why: &str) {
 #[test]
 fn code_stays() {
     stays("//! A file.\n\n/* a /* nested */ comment */\n/// An item.\npub const LIMIT: usize = 0x40_usize;\n");
+    stays("static TABLE: [u8; 2] = [1, 2];\n");
     stays("pub struct Point { x: u8, pub(crate) y: [u8; 4], }\nenum Kind { A, B(u8), C { d: u8 } }\n");
     stays("fn f(x: u8) -> u8 {\n    let y = [x as u16; 2];\n    if x != 1 { y[0] as u8 } else { x }\n}\n");
     stays(
@@ -347,8 +348,8 @@ fn ranges_without_an_end_are_refused() {
 
 #[test]
 fn a_refusal_names_the_file_and_the_line() {
-    let refusal = erase_text("fn f() {}\nstatic S: u8 = 1;\n", "apfloat_base").unwrap_err();
-    assert_eq!(refusal.to_string(), "apfloat_base:2: `static`: a static");
+    let refusal = erase_text("fn f() {}\nunsafe fn g() {}\n", "apfloat_base").unwrap_err();
+    assert_eq!(refusal.to_string(), "apfloat_base:2: `unsafe`: unsafe code");
 }
 
 #[test]
