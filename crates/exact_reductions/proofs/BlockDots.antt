@@ -61,7 +61,8 @@ moved : (n scale down quanta : ℕ) → down ≤ 1074
     → quanta * 2 ^ down ≡ n * 2 ^ scale * 2 ^ 1074 → quanta ≡ n * 2 ^ scale * 2 ^ (1074 - down)
 moved n scale down quanta l e =
     let all : down + (1074 - down) ≡ 1074 = omega (arith, l) in
-    let power : 2 ^ 1074 ≡ 2 ^ down * 2 ^ (1074 - down) = ap (λ (x : ℕ). 2 ^ x) (sym all) ∙ pow-add 2 down (1074 - down) in
+    let power : 2 ^ 1074 ≡ 2 ^ down * 2 ^ (1074 - down) =
+    ap (λ (x : ℕ). 2 ^ x) (sym all) ∙ pow-add 2 down (1074 - down) in
     let f : quanta * 2 ^ down ≡ n * 2 ^ scale * 2 ^ (1074 - down) * 2 ^ down =
     e ∙ ap (λ (x : ℕ). n * 2 ^ scale * x) power ∙ omega arith in
     eq_of_mul-eq-mul_right (2 ^ down) (pow_pos down) quanta _ f
@@ -180,4 +181,5 @@ codes_at (Nvfp4 tensor) scales codes block index h l k =
 
 pub value_there : (x : BlockVector) (i : ℕ) (value : Datum) → i < length x.codes.now → value ≡ value_at x i
     → value ≡ get_or (values x) i value
-value_there x i value l e = e ∙ sym (get_or-map-range_with_len (value_at x) 0 (length x.codes.now) i i value l (omega arith))
+value_there x i value l e =
+    e ∙ sym (get_or-map-range_with_len (value_at x) 0 (length x.codes.now) i i value l (omega arith))

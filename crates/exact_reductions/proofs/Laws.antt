@@ -21,7 +21,8 @@ use Rattle.exact_reductions.specs.BlockDots.{IsDotCallOnce, IsTotalTo, double_fo
 use Rattle.exact_reductions.specs.declared.block_dots.DotError.TheVariants.{LengthsDiffer, NotBlocks}
 use Rattle.exact_reductions.specs.Laws.{IsTotalOnce, IsTotalSomething, IsInAnyOrder, IsOneProduct, IsOneValue}
 use Rattle.exact_reductions.specs.Laws.{IsTallyOfParts}
-use Rattle.exact_reductions.specs.Reductions.{Tally, IsTotal, product_terms, first_of, infinite_total, joined, number_tally}
+use Rattle.exact_reductions.specs.Reductions.{Tally, IsTotal, first_of, infinite_total, joined, number_tally}
+use Rattle.exact_reductions.specs.Reductions.{product_terms}
 use Rattle.exact_reductions.specs.Reductions.{special_tally, tally, tally_of, total, total_after, value_term}
 use Rattle.exact_reductions.proofs.Tallies.{same_tally, joined_none, none_joined, joined_again}
 

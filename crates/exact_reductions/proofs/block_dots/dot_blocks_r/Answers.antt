@@ -20,7 +20,8 @@ loop-index-preserved g c =
     let many = length-map-range_with_len (value_at x) 0 (length x.codes.now) in
     let others = length-map-range_with_len (value_at y) 0 (length y.codes.now) in
     one_done _ _ _ _ _ _ _ _ c.loop-index.invariant
-    (products_here double_format (values x) (values y) i first second (omega (arith, h, many)) (omega (arith, k, others))
+    (products_here double_format (values x) (values y) i first second (omega (arith, h, many))
+    (omega (arith, k, others))
     (value_there x i first h c.value.ensures) (value_there y i second k c.value-in-loop-index.ensures))
     c.add_product.ensures (product_one double_format first second)
 
