@@ -1,8 +1,9 @@
 //! Exact reductions against the rows of `tests/rows/by_crate`, which a model in Python computed by fractions. Each sum
 //! is also taken in other orders, and in parts that are joined.
 
+use rustc_apfloat::blocks::ElementFormat;
 use rustc_apfloat::ieee::*;
-use rustc_apfloat::reductions::{self, LengthsDiffer, WideSum};
+use rustc_apfloat::reductions::{self, BlockScaling, BlockVector, DotError, LengthsDiffer, WideSum};
 use rustc_apfloat::{ExpInt, Float, Round, Status, StatusAnd};
 use std::fs;
 use std::path::Path;
@@ -152,6 +153,70 @@ fn rows_of_reductions() {
             "x87": X87DoubleExtendedS,
             "quad": QuadS,
         }
+    });
+    let differences: Vec<String> = differences.collect();
+    assert!(differences.is_empty(), "{} rows differ:\n{}", differences.len(), differences.join("\n"));
+    assert!(rows.len() > 2000);
+}
+
+/// A vector in blocks of a row: its format, the length of its blocks, and the codes of the scales and the elements.
+fn vector<'a>(words: &str, bytes: &'a mut [Vec<u8>; 2]) -> BlockVector<'a> {
+    let [name, length, scales, codes] = words.split(' ').collect::<Vec<_>>().try_into().unwrap();
+    *bytes = [scales, codes].map(|text| {
+        let digits = text.trim_matches('-').as_bytes().chunks(2);
+        digits.map(|pair| u8::from_str_radix(str::from_utf8(pair).unwrap(), 16).unwrap()).collect()
+    });
+    let scaling = match name {
+        "E5M2" => BlockScaling::Mx(ElementFormat::E5M2),
+        "E4M3FN" => BlockScaling::Mx(ElementFormat::E4M3FN),
+        "E3M2FN" => BlockScaling::Mx(ElementFormat::E3M2FN),
+        "E2M3FN" => BlockScaling::Mx(ElementFormat::E2M3FN),
+        "E2M1FN" => BlockScaling::Mx(ElementFormat::E2M1FN),
+        _ => BlockScaling::Nvfp4(u32::from_str_radix(name.strip_prefix("NVFP4:").unwrap(), 16).unwrap()),
+    };
+    BlockVector { scaling, length: length.parse().unwrap(), scales: &bytes[0], codes: &bytes[1] }
+}
+
+fn differences_of_blocks<T: Semantics>(row: &str) -> Option<String> {
+    let [_, _, mode, operands, value, status, _] = row.split('\t').collect::<Vec<_>>().try_into().unwrap();
+    let (left, right) = operands.split_once(" / ").unwrap();
+    let (mut left_bytes, mut right_bytes) = Default::default();
+    let (x, y) = (vector(left, &mut left_bytes), vector(right, &mut right_bytes));
+    let rounds = MODES.iter().filter(|(name, _)| *name == mode || matches!(mode, "any" | "-"));
+    for (name, round) in rounds {
+        for (x, y) in [(x, y), (y, x)] {
+            let answer = reductions::dot_blocks::<T>(x, y, *round);
+            let agrees = match (value, answer) {
+                ("NotBlocks", answer) => answer.is_err_and(|error| error == DotError::NotBlocks),
+                ("LengthsDiffer", answer) => answer.is_err_and(|error| error == DotError::LengthsDiffer),
+                (_, Ok(answer)) => are_same(answer, flags(status).and(values(value)[0])),
+                (_, Err(_)) => false,
+            };
+            if !agrees {
+                return Some(format!("{row}: given {name}: {answer:?}"));
+            }
+        }
+    }
+    None
+}
+
+#[test]
+fn rows_of_dot_products_of_blocks() {
+    let path = Path::new(env!("CARGO_MANIFEST_DIR")).join("tests/rows/by_crate/block_dots.tsv");
+    let text = fs::read_to_string(path).unwrap();
+    let rows: Vec<&str> = text.lines().filter(|line| !line.starts_with('#')).collect();
+    let differences = rows.iter().filter_map(|row| match row.split('\t').nth(1).unwrap() {
+        "half" => differences_of_blocks::<HalfS>(row),
+        "bfloat" => differences_of_blocks::<BFloatS>(row),
+        "single" => differences_of_blocks::<SingleS>(row),
+        "single+ieee" => differences_of_blocks::<IeeeFlags<SingleS>>(row),
+        "double" => differences_of_blocks::<DoubleS>(row),
+        "double+ieee+before" => differences_of_blocks::<IeeeFlags<TinyBefore<DoubleS>>>(row),
+        "tf32" => differences_of_blocks::<FloatTF32S>(row),
+        "e4m3fn" => differences_of_blocks::<Float8E4M3FNS>(row),
+        "e4m3fnuz" => differences_of_blocks::<Float8E4M3FNUZS>(row),
+        "quad" => differences_of_blocks::<QuadS>(row),
+        kind => panic!("{kind}"),
     });
     let differences: Vec<String> = differences.collect();
     assert!(differences.is_empty(), "{} rows differ:\n{}", differences.len(), differences.join("\n"));

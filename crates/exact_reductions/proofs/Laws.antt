@@ -2,7 +2,8 @@
 use Rattle.std.proofs.Common.{◌≡◌, ℕ, zero, suc, ◌*◌, ◌^◌, ◌<◌, eqb, Bool, true, false, not, ◌&&◌, ◌||◌, List, [], ◌∷◌}
 use Rattle.std.proofs.Common.{◌++◌, Option, Some, None, if◌then◌else◌, refl, sym, ap, subst, ◌∙◌, inl, inr, arith}
 use Rattle.std.proofs.lemmas.{Bool.false≢true, Int.ints, Nat.pow_pos}
-use Rattle.std.specs.Prelude.{◌⊎◌}
+use Rattle.std.specs.Prelude.{◌⊎◌, Ok, Err}
+use Rattle.apfloat_model.specs.{Determined.Determines, rounding.Flags.Gives}
 use Rattle.apfloat_model.specs.{order.Classes.is_nan, rounding.Answer.IsAnswer, rounding.Outcome.IsSound}
 use Rattle.apfloat_model.specs.{arithmetic.Exact.magnitude, arithmetic.Exact.product_sign}
 use Rattle.apfloat_model.specs.declared.kinds.{NonfiniteBehavior.NonfiniteBehavior, Round.Round}
@@ -16,9 +17,12 @@ use Rattle.apfloat_model.proofs.rounding.Laws.{delivered_once, exact_delivered}
 use Rattle.apfloat_model.proofs.rounding.StatusesTogether.{ok_together, invalid_together, invalid_if_together}
 use Rattle.apfloat_model.proofs.Determined.{gives_once}
 use Rattle.apfloat_model.proofs.Outcomes.{yields_once, yields_something, yields_together}
+use Rattle.exact_reductions.specs.BlockDots.{IsDotCallOnce, IsTotalTo, double_format, total_after_to, values}
+use Rattle.exact_reductions.specs.declared.block_dots.DotError.TheVariants.{LengthsDiffer, NotBlocks}
 use Rattle.exact_reductions.specs.Laws.{IsTotalOnce, IsTotalSomething, IsInAnyOrder, IsOneProduct, IsOneValue}
 use Rattle.exact_reductions.specs.Laws.{IsTallyOfParts}
 use Rattle.exact_reductions.specs.Reductions.{Tally, IsTotal, first_of, infinite_total, joined, number_tally}
+use Rattle.exact_reductions.specs.Reductions.{product_terms}
 use Rattle.exact_reductions.specs.Reductions.{special_tally, tally, tally_of, total, total_after, value_term}
 use Rattle.exact_reductions.proofs.Tallies.{same_tally, joined_none, none_joined, joined_again}
 
@@ -26,6 +30,22 @@ use Rattle.exact_reductions.proofs.Tallies.{same_tally, joined_none, none_joined
 
 pub total_once : IsTotalOnce
 total_once f mode t = gives_once (IsTotal f mode t) (yields_once f mode (total f t))
+
+pub total_to_once : (f g : Format) (mode : Round) (t : Tally) → Determines (Gives (IsTotalTo f g mode t))
+total_to_once f g mode t = gives_once (IsTotalTo f g mode t) (yields_once g mode (total_after_to f g t.first_nan t))
+
+pub dot_call_once : IsDotCallOnce
+dot_call_once g mode x y (Ok answer) (Ok other) h k =
+    ap Ok (total_to_once double_format g mode (tally (product_terms double_format (values x) (values y))) answer other
+    h.2 k.2)
+dot_call_once g mode x y (Ok answer) (Err LengthsDiffer) h k = absurd (k.1 h.1)
+dot_call_once g mode x y (Ok answer) (Err NotBlocks) h k = absurd (k h.0)
+dot_call_once g mode x y (Err LengthsDiffer) (Ok answer) h k = absurd (h.1 k.1)
+dot_call_once g mode x y (Err LengthsDiffer) (Err LengthsDiffer) h k = refl
+dot_call_once g mode x y (Err LengthsDiffer) (Err NotBlocks) h k = absurd (k h.0)
+dot_call_once g mode x y (Err NotBlocks) (Ok answer) h k = absurd (h k.0)
+dot_call_once g mode x y (Err NotBlocks) (Err LengthsDiffer) h k = absurd (h k.0)
+dot_call_once g mode x y (Err NotBlocks) (Err NotBlocks) h k = refl
 
 infinite_sound : (f : Format) (plus minus : Bool) (number : Outcome) → IsSound number
     → IsSound (infinite_total f plus minus number)

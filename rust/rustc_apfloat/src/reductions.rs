@@ -23,6 +23,8 @@
 //! first.join(second);
 //! assert_eq!(first.rounded(round), Status::OK.and("0".parse().unwrap()));
 //! ```
+//!
+//! [`dot_blocks`] takes vectors in blocks of small elements with common scales.
 
 use crate::erased::exact_reductions as library;
 use crate::ieee::{FlaggedS, IeeeFloat, Semantics};
@@ -30,7 +32,7 @@ use crate::status::answered;
 use crate::{Round, StatusAnd};
 use core::fmt;
 
-pub use library::LengthsDiffer;
+pub use library::{BlockScaling, BlockVector, DotError, LengthsDiffer};
 
 const NARROW: usize = library::NARROW_WORDS;
 const WIDE: usize = library::WIDE_WORDS;
@@ -93,6 +95,48 @@ pub fn dot<S: Semantics>(
         Ok(sum.rounded(round))
     }
     if is_narrow::<S>() { within::<S, NARROW>(x, y, round) } else { within::<S, WIDE>(x, y, round) }
+}
+
+impl fmt::Display for DotError {
+    fn fmt(&self, f: &mut fmt::Formatter<'_>) -> fmt::Result {
+        f.write_str(match self {
+            DotError::NotBlocks => "the codes are not those of blocks with such scales",
+            DotError::LengthsDiffer => "the vectors of a dot product have different lengths",
+        })
+    }
+}
+
+impl core::error::Error for DotError {}
+
+/// The dot product of two vectors in blocks of MX or NVFP4: the exact sum of the products of the elements at the same
+/// places, each times its scales, rounded once to the format of the result. Their blocks may differ in format and
+/// length. A NaN is the quiet one without a payload; elements and scales that are NaNs raise no flag.
+///
+/// ```
+/// use rustc_apfloat::Round;
+/// use rustc_apfloat::blocks::ElementFormat;
+/// use rustc_apfloat::ieee::{Half, HalfS};
+/// use rustc_apfloat::reductions::{BlockScaling, BlockVector, dot_blocks};
+///
+/// // 3 * 2, -1 * 2, 3 / 2 and 4 / 2 times 1 * 8, 6 * 8, 0.5 * 8 and 2 * 8.
+/// let mx = BlockScaling::Mx(ElementFormat::E2M1FN);
+/// let x = BlockVector { scaling: mx, length: 2, scales: &[128, 126], codes: &[5, 10, 5, 6] };
+/// let y = BlockVector { scaling: mx, length: 4, scales: &[130], codes: &[2, 7, 1, 4] };
+/// let dot = dot_blocks::<HalfS>(x, y, Round::NearestTiesToEven).unwrap();
+/// assert_eq!(dot.value, "-10".parse::<Half>().unwrap());
+/// ```
+///
+/// # Errors
+///
+/// `NotBlocks` if blocks have no elements, not each element a code or not each block a scale, a code has more bits than
+/// its format, or the scale of the tensor is not a positive number; `LengthsDiffer` if the vectors have different
+/// numbers of elements.
+pub fn dot_blocks<T: Semantics>(
+    x: BlockVector<'_>,
+    y: BlockVector<'_>,
+    round: Round,
+) -> Result<StatusAnd<IeeeFloat<T>>, DotError> {
+    library::dot_blocks_r::<FlaggedS<T>>(x, y, round).map(|answer| answered(answer).map(IeeeFloat::of))
 }
 
 /// Whether the sums of 2^64 products in the format fit in so many words.
