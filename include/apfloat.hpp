@@ -3125,6 +3125,79 @@ result<value<To>> from_storage(const stored<From> &x, rounding mode = rounding::
                           To::code, static_cast<std::uint32_t>(x.bits())));
 }
 
+namespace detail {
+
+template <class F>
+result<stored<F>> stored_result(const apfloat_answer &answer) noexcept {
+    return {stored<F>::from_bits(static_cast<std::uint8_t>(answer.bits.low)), flags::of_code(answer.status)};
+}
+
+template <class F>
+result<stored<F>> operate(apfloat_operation operation, rounding mode, const stored<F> &x, const stored<F> &y,
+                          const stored<F> &z) noexcept {
+    static_assert(std::is_same_v<F, e2m1fn> || std::is_same_v<F, e2m3fn> || std::is_same_v<F, e3m2fn>,
+                  "this storage format has no operations");
+    return stored_result<F>(answer_of(apfloat_storage_operation, F::code, code_of(mode), operation,
+                                      std::uint32_t{x.bits()}, std::uint32_t{y.bits()}, std::uint32_t{z.bits()}));
+}
+
+} // namespace detail
+
+/// A value of a storage format in another one, rounded once: to_storage<e2m1fn>(x).
+template <class To, class From>
+result<stored<To>> to_storage(const stored<From> &x, rounding mode = rounding::nearest_even,
+                              overflowing large = overflowing::rounds) noexcept {
+    static_assert(detail::is_storage<To>::value, "this is no storage format");
+    return detail::stored_result<To>(detail::answer_of(
+        apfloat_between_storage, From::code, detail::code_of(mode) | static_cast<apfloat_mode>(large), To::code,
+        std::uint32_t{x.bits()}));
+}
+
+/// Operations on numbers of `e2m1fn`, `e2m3fn` and `e3m2fn`, rounded once. Past the largest number the result is that
+/// number, and so it is in place of an infinity, with div_by_zero; in place of a NaN it is +0, with invalid_op.
+template <class F>
+result<stored<F>> add(const stored<F> &x, const stored<F> &y, rounding mode = rounding::nearest_even) noexcept {
+    return detail::operate(APFLOAT_ADD, mode, x, y, y);
+}
+template <class F>
+result<stored<F>> sub(const stored<F> &x, const stored<F> &y, rounding mode = rounding::nearest_even) noexcept {
+    return detail::operate(APFLOAT_SUB, mode, x, y, y);
+}
+template <class F>
+result<stored<F>> mul(const stored<F> &x, const stored<F> &y, rounding mode = rounding::nearest_even) noexcept {
+    return detail::operate(APFLOAT_MUL, mode, x, y, y);
+}
+template <class F>
+result<stored<F>> div(const stored<F> &x, const stored<F> &y, rounding mode = rounding::nearest_even) noexcept {
+    return detail::operate(APFLOAT_DIV, mode, x, y, y);
+}
+/// x * y + z
+template <class F>
+result<stored<F>> fma(const stored<F> &x, const stored<F> &y, const stored<F> &z,
+                      rounding mode = rounding::nearest_even) noexcept {
+    return detail::operate(APFLOAT_FMA, mode, x, y, z);
+}
+template <class F>
+result<stored<F>> sqrt(const stored<F> &x, rounding mode = rounding::nearest_even) noexcept {
+    return detail::operate(APFLOAT_SQRT, mode, x, x, x);
+}
+
+/// The lesser and the greater number; -0 is below +0 (IEEE 754-2019 9.6).
+template <class F>
+stored<F> minimum(const stored<F> &x, const stored<F> &y) noexcept {
+    return detail::operate(APFLOAT_LEAST, rounding::nearest_even, x, y, y).value;
+}
+template <class F>
+stored<F> maximum(const stored<F> &x, const stored<F> &y) noexcept {
+    return detail::operate(APFLOAT_GREATEST, rounding::nearest_even, x, y, y).value;
+}
+
+/// The order of two values of any storage format.
+template <class F>
+order compare(const stored<F> &x, const stored<F> &y) noexcept {
+    return compare(from_storage<binary32>(x).value, from_storage<binary32>(y).value);
+}
+
 // ---- storage formats, to odd and with random digits
 
 /// A value in a storage format, rounded to odd.
