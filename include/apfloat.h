@@ -124,12 +124,13 @@ typedef enum apfloat_mode APFLOAT_CODE {
     /* Joined to the mode of apfloat_convert_array by |: a number that is past the largest value of `to` once it is
      * rounded gives the largest value of its sign, with the same flags as without this. Infinities are converted as
      * without it, in a format without infinities to a NaN. The modes of apfloat_to_storage, apfloat_from_storage,
-     * apfloat_between_storage and apfloat_to_p3109 may have it too; in those of all others it makes an unknown mode. */
+     * apfloat_between_storage, apfloat_to_p3109 and apfloat_to_p3109_by may have it too; in those of all others it
+     * makes an unknown mode. */
     APFLOAT_SATURATE = 0x100,
 
     /* The same, and an infinity gives the largest value of its sign, with APFLOAT_INEXACT: the saturation of the OCP's
      * 8-bit formats. NaNs are converted as without it; with APFLOAT_SATURATE_ALL they give the largest value, sign
-     * plus, with APFLOAT_INVALID_OP, but not in apfloat_to_p3109, where it is an unknown mode. What is below zero is a
+     * plus, with APFLOAT_INVALID_OP, but not in formats of P3109, where it is an unknown mode. What is below zero is a
      * NaN in APFLOAT_E8M0FNU and APFLOAT_UE4M3 with any of these. */
     APFLOAT_SATURATE_FINITE = 0x300,
     APFLOAT_SATURATE_ALL = 0x700,
@@ -139,9 +140,14 @@ typedef enum apfloat_mode APFLOAT_CODE {
     APFLOAT_SCALE_EVEN = 0x2000, /* that of the greatest magnitude once it is rounded to the digits of an element, to
                                   * nearest, ties to even */
 
-    /* Of apfloat_to_storage_by and apfloat_convert_array_by alone, and the first one of apfloat_to_p3109. */
+    /* Of apfloat_to_storage_by, apfloat_convert_array_by and apfloat_to_p3109_by, and the first one of
+     * apfloat_to_p3109. */
     APFLOAT_TO_ODD = 5,
     APFLOAT_RANDOM_DIGITS = 6,
+
+    /* Of apfloat_to_p3109_by alone: the parts of a distance are rounded to nearest, ties up or to even. */
+    APFLOAT_RANDOM_DIGITS_B = 7,
+    APFLOAT_RANDOM_DIGITS_C = 8,
     APFLOAT_MODE_BITS = 0x7fffffff
 } apfloat_mode;
 
@@ -884,6 +890,11 @@ typedef struct apfloat_p3109 {
  * APFLOAT_INVALID_OP (FORMATS.md). */
 apfloat_error apfloat_to_p3109(apfloat_format format, apfloat_mode mode, apfloat_p3109 to, apfloat_halves x,
                                apfloat_answer *answer);
+
+/* The same with random digits too: StochasticA, B and C of P3109 are APFLOAT_RANDOM_DIGITS, .._B and .._C, with the
+ * lowest `digits` of `random`, 1 to 32 of them (APFLOAT_WRONG_WIDTH, after the mode). The other modes ignore both. */
+apfloat_error apfloat_to_p3109_by(apfloat_format format, apfloat_mode mode, apfloat_p3109 to, uint32_t digits,
+                                  uint32_t random, apfloat_halves x, apfloat_answer *answer);
 
 /* The value in the format `to` of a code of the format `format`, rounded once; the bits of `code` above those of its
  * format are ignored. */

@@ -3076,6 +3076,17 @@ struct p3109 {
         return encoded(x, APFLOAT_TO_ODD | static_cast<apfloat_mode>(large));
     }
 
+    /// The code of a value, rounded with the lowest `digits` binary digits of a random number, in the way 'a', 'b' or
+    /// 'c' of P3109 (unknown_mode for another). If there are not 1 to 32 of them, the error is wrong_width.
+    template <class From>
+    expected<result<std::uint16_t>> encode_random(const value<From> &x, std::uint32_t digits, std::uint32_t random,
+                                                  char way = 'a',
+                                                  overflowing large = overflowing::rounds) const noexcept {
+        if (way < 'a' || way > 'c') return errc::unknown_mode;
+        const auto mode = static_cast<apfloat_mode>(APFLOAT_RANDOM_DIGITS + (way - 'a'));
+        return encoded(x, mode | static_cast<apfloat_mode>(large), digits, random);
+    }
+
     /// The value of a code in another format, rounded once: p3109{8, 4}.decode<binary32>(code). The bits above those of
     /// this format are ignored. The rule of the format `To` decides the flags.
     template <class To>
@@ -3091,10 +3102,12 @@ private:
     apfloat_p3109 constants() const noexcept { return {bits, precision, is_signed ? 1u : 0u, is_extended ? 1u : 0u}; }
 
     template <class From>
-    expected<result<std::uint16_t>> encoded(const value<From> &x, apfloat_mode mode) const noexcept {
+    expected<result<std::uint16_t>> encoded(const value<From> &x, apfloat_mode mode, std::uint32_t digits = 0,
+                                            std::uint32_t random = 0) const noexcept {
         static_assert(!From::is_pair, "there is no conversion from pairs of doubles");
         apfloat_answer answer = {{0, 0}, 0, 0};
-        const apfloat_error error = apfloat_to_p3109(From::code, mode, constants(), x.halves(), &answer);
+        const apfloat_error error =
+            apfloat_to_p3109_by(From::code, mode, constants(), digits, random, x.halves(), &answer);
         if (error != APFLOAT_ANSWERED) return static_cast<errc>(error);
         return result<std::uint16_t>{static_cast<std::uint16_t>(answer.bits.low), flags::of_code(answer.status)};
     }

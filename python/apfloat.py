@@ -238,6 +238,7 @@ def _parameters() -> dict[str, list[Any]]:
         'from_storage': [code, code, code, code, answer],
         'storage_operation': [code, code, code, code, code, code, answer],
         'to_p3109': [code, code, _P3109, _Halves, answer],
+        'to_p3109_by': [code, code, _P3109, code, code, _Halves, answer],
         'from_p3109': [_P3109, code, code, code, answer],
         'to_storage_by': [code, code, code, code, code, _Halves, answer],
         'convert_array_by': [code, code, code, code, *array * 3, ctypes.POINTER(_ArrayAnswer)],
@@ -894,6 +895,19 @@ class p3109:
     def encode_to_odd(self, number: Any, saturate: bool | str = False) -> int:
         """The code of a value, rounded to odd."""
         return self._encoded(_TO_ODD | self._saturation(saturate), number)
+
+    def encode_randomly(self, number: Any, random: int, digits: int = 32, way: str = 'a',
+                        saturate: bool | str = False) -> int:
+        """The code of a value, rounded with the lowest digits of a random number of 32 bits, in the way a, b or c of
+        P3109.
+
+        >>> [p3109(8, 4).encode_randomly(1.03125, 1, 1, way) for way in 'abc']
+        [64, 65, 64]
+        """
+        if way not in ('a', 'b', 'c'):
+            raise ValueError(f'{way!r} is none of a, b and c')
+        x, mode = _number(number), _RANDOM_DIGITS + 'abc'.index(way) | self._saturation(saturate)
+        return _call('to_p3109_by', x.format.code, mode, self._constants(), digits, random, _halves(x.bits)).bits.low
 
     @staticmethod
     def _saturation(saturate: bool | str) -> int:

@@ -1476,6 +1476,9 @@ class StorageRowTests(unittest.TestCase):
         if call == 'to_p3109':
             encode = target.encode_to_odd if mode == 'odd' else target.encode
             return encode(x, self.SATURATIONS[saturation])
+        if call == 'to_p3109_by':
+            way, digits, random = mode.split()
+            return target.encode_randomly(x, int(random, 16), int(digits), way, self.SATURATIONS[saturation])
         if call == 'to_storage':
             return target.encode(x, self.SATURATIONS[saturation])
         if mode == 'odd':
@@ -1501,7 +1504,7 @@ class StorageRowTests(unittest.TestCase):
                                          Flags(0))
                 self.assertEqual((made, context.flags), (int(result, 16), flags), row)
                 count += 1
-        self.assertGreater(count, 8000)
+        self.assertGreater(count, 10000)
 
     def test_formats_of_p3109(self):
         form = apfloat.p3109(8, 4)
@@ -1530,10 +1533,14 @@ class StorageRowTests(unittest.TestCase):
         with self.assertRaises(apfloat.Refused):
             apfloat.float4_e2m1fn.encode_randomly(1.25, 0, digits=33)
         with self.assertRaises(apfloat.Refused):
+            apfloat.p3109(8, 4).encode_randomly(1.25, 0, digits=0)
+        with self.assertRaises(apfloat.Refused):
             apfloat.float8_e3m4.operate('add', 1, 2)
         for operands in ('add', 1), ('rem', 1, 2), ('add', 16, 0):
             with self.subTest(operands), self.assertRaises(ValueError):
                 apfloat.float4_e2m1fn.operate(*operands)
+        with self.assertRaises(ValueError):
+            apfloat.p3109(8, 4).encode_randomly(1.25, 0, way='d')
         with self.assertRaises(apfloat.Refused):
             apfloat.float4_e2m1fn.array_randomly([1.25, 2], [0])
 
