@@ -64,6 +64,17 @@ def into_projections(form, sources, draw):
                        loses)
 
 
+def into_projections_randomly(form, name, draw):
+    """Rows of values that become codes with the lowest digits of random numbers, in one of the three ways by turns."""
+    source = FORMATS[name]
+    for bits in operands(source, magnitudes_of(form, draw), draw):
+        way, digits, random = "abc"[draw.between(0, 2)], draw.between(1, 32), draw.between(0, (1 << 32) - 1)
+        word, saturation = SATURATED[draw.between(0, 3)]
+        made = project(form, source, decoded(source, bits), (way, digits, random % (1 << digits)), saturation)
+        yield line("to_p3109_by", f"{name}>{form.name}", f"{way} {digits} {random:x}{word}",
+                   hexes(source, bits), hexes(form, made[0]), *made[1:])
+
+
 def out_of_projections(form, targets, draw):
     """Rows of codes that become values."""
     for name in targets:
@@ -84,6 +95,9 @@ def main():
     for place, form in enumerate(FORMS):
         print("\n".join(into_projections(form, SOURCES[place % 3 :: 3], draw)))
         print("\n".join(out_of_projections(form, TARGETS[place % 3 :: 3], draw)))
+    for place, form in enumerate(FORMS):
+        for name in SOURCES[place % 3 :: 3]:
+            print("\n".join(into_projections_randomly(form, name, draw)))
 
 
 if __name__ == "__main__":

@@ -21,6 +21,7 @@ from exact.rounding import Mode, delivered
 from exact.status import INEXACT, INVALID_OP, OK, OVERFLOW, UNDERFLOW, names
 from row_files import MODES, hexes
 from storage_formats import FORMATS as STORED
+from stored_arithmetic import ELEMENTS, OPERATIONS, greater, lesser
 
 FORMS = {form.name.lower(): form for form in (*STORED, e3m4.FORM)}
 
@@ -158,12 +159,44 @@ def conversions_by_mode(draw):
                            is_nan_code(word, code))
 
 
+def conversions_between(draw):
+    """Rows of conversions from one storage format to another: `quad` has every number of both."""
+    quad = FORMATS["quad"]
+    for word, form in FORMS.items():
+        for target in FORMS:
+            codes = {draw.between(0, (1 << form.bits) - 1) for _ in range(5)}
+            for code in sorted(codes | {0, LARGEST[word], LARGEST[word] + 1}):
+                mode, saturation = MODES[draw.between(0, 4)], SATURATIONS[draw.between(0, 3)]
+                x, invalid = load(word, "", quad, code, Mode.EVEN)
+                made, status = store(target, saturation, quad, x, mode)
+                yield line("between_storage", f"{word}>{target}", mode.value + saturation, hexes(form, code),
+                           hexes(FORMS[target], made), status | invalid, is_nan_code(target, made))
+
+
+def operations(draw):
+    """Rows of operations on codes, three of them with each."""
+    for form in ELEMENTS:
+        for name, operation, steps in OPERATIONS:
+            for _ in range(24):
+                mode, codes = MODES[draw.between(0, 4)], [draw.between(0, 2 * form.count - 1) for _ in range(3)]
+                code, status = operation(form, mode, *codes[: len(steps)])
+                yield line("storage_operation", form.name.lower(), mode.value,
+                           f"{name.removesuffix('_r')} {hexes(form, *codes)}", hexes(form, code), status, False)
+        for name, operation in ("minimum", lesser), ("maximum", greater):
+            for codes in [(0, form.count, 3), (form.count, 0, 3)] + [
+                    [draw.between(0, 2 * form.count - 1) for _ in range(3)] for _ in range(12)]:
+                yield line("storage_operation", form.name.lower(), "even", f"{name} {hexes(form, *codes)}",
+                           hexes(form, *operation(form, *codes[:2])), OK, False)
+
+
 def main():
     """Prints the file."""
     print("# Calls of C on storage formats. Computed by evidence/storage_calls.py.")
     draw = Generator()
     print("\n".join(conversions(draw)))
     print("\n".join(conversions_by_mode(draw)))
+    print("\n".join(conversions_between(draw)))
+    print("\n".join(operations(draw)))
 
 
 if __name__ == "__main__":

@@ -123,13 +123,14 @@ typedef enum apfloat_mode APFLOAT_CODE {
 
     /* Joined to the mode of apfloat_convert_array by |: a number that is past the largest value of `to` once it is
      * rounded gives the largest value of its sign, with the same flags as without this. Infinities are converted as
-     * without it, in a format without infinities to a NaN. The modes of apfloat_to_storage, apfloat_from_storage and
-     * apfloat_to_p3109 may have it too; in those of all other functions it makes an unknown mode. */
+     * without it, in a format without infinities to a NaN. The modes of apfloat_to_storage, apfloat_from_storage,
+     * apfloat_between_storage, apfloat_to_p3109 and apfloat_to_p3109_by may have it too; in those of all others it
+     * makes an unknown mode. */
     APFLOAT_SATURATE = 0x100,
 
     /* The same, and an infinity gives the largest value of its sign, with APFLOAT_INEXACT: the saturation of the OCP's
      * 8-bit formats. NaNs are converted as without it; with APFLOAT_SATURATE_ALL they give the largest value, sign
-     * plus, with APFLOAT_INVALID_OP, but not in apfloat_to_p3109, where it is an unknown mode. What is below zero is a
+     * plus, with APFLOAT_INVALID_OP, but not in formats of P3109, where it is an unknown mode. What is below zero is a
      * NaN in APFLOAT_E8M0FNU and APFLOAT_UE4M3 with any of these. */
     APFLOAT_SATURATE_FINITE = 0x300,
     APFLOAT_SATURATE_ALL = 0x700,
@@ -139,9 +140,14 @@ typedef enum apfloat_mode APFLOAT_CODE {
     APFLOAT_SCALE_EVEN = 0x2000, /* that of the greatest magnitude once it is rounded to the digits of an element, to
                                   * nearest, ties to even */
 
-    /* Of apfloat_to_storage_by and apfloat_convert_array_by alone, and the first one of apfloat_to_p3109. */
+    /* Of apfloat_to_storage_by, apfloat_convert_array_by and apfloat_to_p3109_by, and the first one of
+     * apfloat_to_p3109. */
     APFLOAT_TO_ODD = 5,
     APFLOAT_RANDOM_DIGITS = 6,
+
+    /* Of apfloat_to_p3109_by alone: the parts of a distance are rounded to nearest, ties up or to even. */
+    APFLOAT_RANDOM_DIGITS_B = 7,
+    APFLOAT_RANDOM_DIGITS_C = 8,
     APFLOAT_MODE_BITS = 0x7fffffff
 } apfloat_mode;
 
@@ -528,7 +534,8 @@ APFLOAT_INLINE const char *apfloat_format_name(apfloat_format format) {
  *
  * Pairs of doubles do not have them. The rule of flags of the code makes no difference. */
 
-/* Operations: apfloat_map_array has the first eight, apfloat_augmented three of these, and apfloat_machine all. */
+/* Operations: apfloat_map_array has the first eight, apfloat_augmented three of these, apfloat_storage_operation six of
+ * them with the last two, and apfloat_machine all. */
 typedef enum apfloat_operation APFLOAT_CODE {
     APFLOAT_ADD = 1,
     APFLOAT_SUB = 2,
@@ -544,7 +551,7 @@ typedef enum apfloat_operation APFLOAT_CODE {
     APFLOAT_CONVERT = 11,          /* to the format `to` */
     APFLOAT_TO_U128 = 12,          /* to an unsigned integer of `to` binary digits, 1 to 128 */
     APFLOAT_TO_I128 = 13,          /* to a signed one, 2 to 128 */
-    APFLOAT_LEAST = 14,            /* the minimum by the rule `to` */
+    APFLOAT_LEAST = 14,            /* the minimum; of a machine by the rule `to` */
     APFLOAT_GREATEST = 15,         /* the maximum */
     APFLOAT_OPERATION_BITS = 0x7fffffff
 } apfloat_operation;
@@ -884,6 +891,11 @@ typedef struct apfloat_p3109 {
 apfloat_error apfloat_to_p3109(apfloat_format format, apfloat_mode mode, apfloat_p3109 to, apfloat_halves x,
                                apfloat_answer *answer);
 
+/* The same with random digits too: StochasticA, B and C of P3109 are APFLOAT_RANDOM_DIGITS, .._B and .._C, with the
+ * lowest `digits` of `random`, 1 to 32 of them (APFLOAT_WRONG_WIDTH, after the mode). The other modes ignore both. */
+apfloat_error apfloat_to_p3109_by(apfloat_format format, apfloat_mode mode, apfloat_p3109 to, uint32_t digits,
+                                  uint32_t random, apfloat_halves x, apfloat_answer *answer);
+
 /* The value in the format `to` of a code of the format `format`, rounded once; the bits of `code` above those of its
  * format are ignored. */
 apfloat_error apfloat_from_p3109(apfloat_p3109 format, apfloat_mode mode, apfloat_format to, uint32_t code,
@@ -902,6 +914,27 @@ apfloat_error apfloat_to_storage(apfloat_format format, apfloat_mode mode, apflo
  * of its format are ignored. */
 apfloat_error apfloat_from_storage(apfloat_format format, apfloat_mode mode, apfloat_format to, uint32_t code,
                                    apfloat_answer *answer);
+
+/* The code in the storage format `to` of the number of `code` in the storage format `format`, rounded once: the single
+ * between them has each value. */
+APFLOAT_INLINE apfloat_error apfloat_between_storage(apfloat_format format, apfloat_mode mode, apfloat_format to,
+                                                     uint32_t code, apfloat_answer *answer) {
+    apfloat_answer exact;
+    apfloat_error error = apfloat_from_storage(format, (apfloat_mode)(mode & 0xff), APFLOAT_SINGLE, code, &exact);
+    if (error != APFLOAT_ANSWERED) return error;
+    error = apfloat_to_storage(APFLOAT_SINGLE, mode, to, exact.bits, answer);
+    if (error == APFLOAT_ANSWERED) answer->status |= exact.status;
+    return error;
+}
+
+/* An operation on the numbers of the codes x, y and z of a storage format, of which it takes the first ones, as a code,
+ * rounded once: APFLOAT_ADD, .._SUB, .._MUL, .._DIV, .._FMA or .._SQRT, and the minimum and the maximum (IEEE 754-2019
+ * 9.6) as .._LEAST and .._GREATEST. APFLOAT_E2M1FN, .._E2M3FN and .._E3M2FN have them, all of whose codes are numbers;
+ * there are no others (APFLOAT_NO_SUCH_OPERATION, after the mode). Past the largest number the result is that number,
+ * and so it is in place of an infinity, with APFLOAT_DIV_BY_ZERO; in place of a NaN it is +0, with APFLOAT_INVALID_OP.
+ * The bits of a code above those of its format are ignored, and `number` is 0. */
+apfloat_error apfloat_storage_operation(apfloat_format format, apfloat_mode mode, apfloat_operation operation,
+                                        uint32_t x, uint32_t y, uint32_t z, apfloat_answer *answer);
 
 /* ---- storage formats, to odd and with random digits
  *

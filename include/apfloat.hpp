@@ -3076,6 +3076,17 @@ struct p3109 {
         return encoded(x, APFLOAT_TO_ODD | static_cast<apfloat_mode>(large));
     }
 
+    /// The code of a value, rounded with the lowest `digits` binary digits of a random number, in the way 'a', 'b' or
+    /// 'c' of P3109 (unknown_mode for another). If there are not 1 to 32 of them, the error is wrong_width.
+    template <class From>
+    expected<result<std::uint16_t>> encode_random(const value<From> &x, std::uint32_t digits, std::uint32_t random,
+                                                  char way = 'a',
+                                                  overflowing large = overflowing::rounds) const noexcept {
+        if (way < 'a' || way > 'c') return errc::unknown_mode;
+        const auto mode = static_cast<apfloat_mode>(APFLOAT_RANDOM_DIGITS + (way - 'a'));
+        return encoded(x, mode | static_cast<apfloat_mode>(large), digits, random);
+    }
+
     /// The value of a code in another format, rounded once: p3109{8, 4}.decode<binary32>(code). The bits above those of
     /// this format are ignored. The rule of the format `To` decides the flags.
     template <class To>
@@ -3091,10 +3102,12 @@ private:
     apfloat_p3109 constants() const noexcept { return {bits, precision, is_signed ? 1u : 0u, is_extended ? 1u : 0u}; }
 
     template <class From>
-    expected<result<std::uint16_t>> encoded(const value<From> &x, apfloat_mode mode) const noexcept {
+    expected<result<std::uint16_t>> encoded(const value<From> &x, apfloat_mode mode, std::uint32_t digits = 0,
+                                            std::uint32_t random = 0) const noexcept {
         static_assert(!From::is_pair, "there is no conversion from pairs of doubles");
         apfloat_answer answer = {{0, 0}, 0, 0};
-        const apfloat_error error = apfloat_to_p3109(From::code, mode, constants(), x.halves(), &answer);
+        const apfloat_error error =
+            apfloat_to_p3109_by(From::code, mode, constants(), digits, random, x.halves(), &answer);
         if (error != APFLOAT_ANSWERED) return static_cast<errc>(error);
         return result<std::uint16_t>{static_cast<std::uint16_t>(answer.bits.low), flags::of_code(answer.status)};
     }
@@ -3123,6 +3136,79 @@ result<value<To>> from_storage(const stored<From> &x, rounding mode = rounding::
     return detail::result_of<To>(
         detail::answer_of(apfloat_from_storage, From::code, detail::code_of(mode) | static_cast<apfloat_mode>(large),
                           To::code, static_cast<std::uint32_t>(x.bits())));
+}
+
+namespace detail {
+
+template <class F>
+result<stored<F>> stored_result(const apfloat_answer &answer) noexcept {
+    return {stored<F>::from_bits(static_cast<std::uint8_t>(answer.bits.low)), flags::of_code(answer.status)};
+}
+
+template <class F>
+result<stored<F>> operate(apfloat_operation operation, rounding mode, const stored<F> &x, const stored<F> &y,
+                          const stored<F> &z) noexcept {
+    static_assert(std::is_same_v<F, e2m1fn> || std::is_same_v<F, e2m3fn> || std::is_same_v<F, e3m2fn>,
+                  "this storage format has no operations");
+    return stored_result<F>(answer_of(apfloat_storage_operation, F::code, code_of(mode), operation,
+                                      std::uint32_t{x.bits()}, std::uint32_t{y.bits()}, std::uint32_t{z.bits()}));
+}
+
+} // namespace detail
+
+/// A value of a storage format in another one, rounded once: to_storage<e2m1fn>(x).
+template <class To, class From>
+result<stored<To>> to_storage(const stored<From> &x, rounding mode = rounding::nearest_even,
+                              overflowing large = overflowing::rounds) noexcept {
+    static_assert(detail::is_storage<To>::value, "this is no storage format");
+    return detail::stored_result<To>(detail::answer_of(
+        apfloat_between_storage, From::code, detail::code_of(mode) | static_cast<apfloat_mode>(large), To::code,
+        std::uint32_t{x.bits()}));
+}
+
+/// Operations on numbers of `e2m1fn`, `e2m3fn` and `e3m2fn`, rounded once. Past the largest number the result is that
+/// number, and so it is in place of an infinity, with div_by_zero; in place of a NaN it is +0, with invalid_op.
+template <class F>
+result<stored<F>> add(const stored<F> &x, const stored<F> &y, rounding mode = rounding::nearest_even) noexcept {
+    return detail::operate(APFLOAT_ADD, mode, x, y, y);
+}
+template <class F>
+result<stored<F>> sub(const stored<F> &x, const stored<F> &y, rounding mode = rounding::nearest_even) noexcept {
+    return detail::operate(APFLOAT_SUB, mode, x, y, y);
+}
+template <class F>
+result<stored<F>> mul(const stored<F> &x, const stored<F> &y, rounding mode = rounding::nearest_even) noexcept {
+    return detail::operate(APFLOAT_MUL, mode, x, y, y);
+}
+template <class F>
+result<stored<F>> div(const stored<F> &x, const stored<F> &y, rounding mode = rounding::nearest_even) noexcept {
+    return detail::operate(APFLOAT_DIV, mode, x, y, y);
+}
+/// x * y + z
+template <class F>
+result<stored<F>> fma(const stored<F> &x, const stored<F> &y, const stored<F> &z,
+                      rounding mode = rounding::nearest_even) noexcept {
+    return detail::operate(APFLOAT_FMA, mode, x, y, z);
+}
+template <class F>
+result<stored<F>> sqrt(const stored<F> &x, rounding mode = rounding::nearest_even) noexcept {
+    return detail::operate(APFLOAT_SQRT, mode, x, x, x);
+}
+
+/// The lesser and the greater number; -0 is below +0 (IEEE 754-2019 9.6).
+template <class F>
+stored<F> minimum(const stored<F> &x, const stored<F> &y) noexcept {
+    return detail::operate(APFLOAT_LEAST, rounding::nearest_even, x, y, y).value;
+}
+template <class F>
+stored<F> maximum(const stored<F> &x, const stored<F> &y) noexcept {
+    return detail::operate(APFLOAT_GREATEST, rounding::nearest_even, x, y, y).value;
+}
+
+/// The order of two values of any storage format.
+template <class F>
+order compare(const stored<F> &x, const stored<F> &y) noexcept {
+    return compare(from_storage<binary32>(x).value, from_storage<binary32>(y).value);
 }
 
 // ---- storage formats, to odd and with random digits

@@ -236,7 +236,9 @@ def _parameters() -> dict[str, list[Any]]:
         'convert': [code, code, code, _Halves, answer],
         'to_storage': [code, code, code, _Halves, answer],
         'from_storage': [code, code, code, code, answer],
+        'storage_operation': [code, code, code, code, code, code, answer],
         'to_p3109': [code, code, _P3109, _Halves, answer],
+        'to_p3109_by': [code, code, _P3109, code, code, _Halves, answer],
         'from_p3109': [_P3109, code, code, code, answer],
         'to_storage_by': [code, code, code, code, code, _Halves, answer],
         'convert_array_by': [code, code, code, code, *array * 3, ctypes.POINTER(_ArrayAnswer)],
@@ -702,8 +704,8 @@ def _codes(format: Format | StorageFormat, of: Any) -> tuple[bytes, tuple[int, .
 class StorageFormat:
     """A format whose values are only stored and converted, in arrays of one value a byte.
 
-    Operations on them are those of another format: `single` has all their numbers. docs/FORMATS.md says what
-    becomes of a number that a format does not have.
+    Operations on arrays are those of another format: `single` has all their numbers. `operate` is on codes.
+    docs/FORMATS.md says what becomes of a number that a format does not have.
 
     >>> float6_e3m2fn, float6_e3m2fn.code, float6_e3m2fn.width
     (float6_e3m2fn, 34, 6)
@@ -840,6 +842,21 @@ class StorageFormat:
         target, mode = single if format is None else format, context().mode | _saturation(saturate)
         return Value(target, _whole(_call('from_storage', self.code, mode, target.code, code).bits))
 
+    def operate(self, operation: str, *codes: int) -> int:
+        """add, sub, mul, div, fma, sqrt, minimum or maximum of the numbers of codes, as a code, rounded once in the
+        mode of the context. The formats of 4 and 6 bits have these operations.
+
+        >>> one, three = float4_e2m1fn.encode(1), float4_e2m1fn.encode(3)
+        >>> float4_e2m1fn.decode(float4_e2m1fn.operate('div', one, three))
+        single('0.5')
+        """
+        number, count = _STORED_OPERATIONS.get(operation, (0, 0))
+        if count != len(codes):
+            raise ValueError(f'{operation!r} is none of {", ".join(_STORED_OPERATIONS)}, or takes other operands')
+        if any(not 0 <= operator.index(code) < 1 << self.width for code in codes):
+            raise ValueError(f'{self.name} has {self.width} bits')
+        return _call('storage_operation', self.code, context().mode, number, *(*codes, 0, 0)[:3]).bits.low
+
 
 def _number(number: Any) -> Value:
     """A value, or any other number as one of `quad`, which has to have it."""
@@ -878,6 +895,19 @@ class p3109:
     def encode_to_odd(self, number: Any, saturate: bool | str = False) -> int:
         """The code of a value, rounded to odd."""
         return self._encoded(_TO_ODD | self._saturation(saturate), number)
+
+    def encode_randomly(self, number: Any, random: int, digits: int = 32, way: str = 'a',
+                        saturate: bool | str = False) -> int:
+        """The code of a value, rounded with the lowest digits of a random number of 32 bits, in the way a, b or c of
+        P3109.
+
+        >>> [p3109(8, 4).encode_randomly(1.03125, 1, 1, way) for way in 'abc']
+        [64, 65, 64]
+        """
+        if way not in ('a', 'b', 'c'):
+            raise ValueError(f'{way!r} is none of a, b and c')
+        x, mode = _number(number), _RANDOM_DIGITS + 'abc'.index(way) | self._saturation(saturate)
+        return _call('to_p3109_by', x.format.code, mode, self._constants(), digits, random, _halves(x.bits)).bits.low
 
     @staticmethod
     def _saturation(saturate: bool | str) -> int:
@@ -1832,8 +1862,10 @@ _LEAST_BY_TABLE = 1 << 17
 _OPERATIONS = {'add': 1, 'sub': 2, 'mul': 3, 'div': 4, 'rem': 5, 'mod': 6, 'fma': 7, 'sqrt': 8}
 # What is joined to the code of a mode.
 _SATURATIONS = {False: 0, True: 0x100, 'finite': 0x300, 'all': 0x700}
-# The modes of conversions into storage formats alone.
+# The modes of conversions into storage formats alone, and the codes of operations on these with their operands.
 _TO_ODD, _RANDOM_DIGITS = 5, 6
+_STORED_OPERATIONS = {'add': (1, 2), 'sub': (2, 2), 'mul': (3, 2), 'div': (4, 2), 'fma': (7, 3), 'sqrt': (8, 1),
+                      'minimum': (14, 2), 'maximum': (15, 2)}
 # The codes of struct for integers of as many bytes.
 _WORDS = {1: 'B', 2: 'H', 4: 'I', 8: 'Q'}
 # In what words an element of so many bytes is moved, and how many they are.

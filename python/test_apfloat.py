@@ -1461,6 +1461,13 @@ class StorageRowTests(unittest.TestCase):
     def made(self, call, source, target, mode, bits):
         """The bits that a row's call gives."""
         mode, _, saturation = mode.partition('+')
+        if call == 'storage_operation':
+            operation, *codes = bits.replace('mul_add', 'fma').split()
+            count = {'fma': 3, 'sqrt': 1}.get(operation, 2)
+            return source.operate(operation, *(int(code, 16) for code in codes[:count]))
+        bits = int(bits, 16)
+        if call == 'between_storage':
+            return target.encode(source.decode(bits), self.SATURATIONS[saturation])
         if call == 'from_p3109':
             return source.decode(bits, target).bits
         if call == 'from_storage':
@@ -1469,6 +1476,9 @@ class StorageRowTests(unittest.TestCase):
         if call == 'to_p3109':
             encode = target.encode_to_odd if mode == 'odd' else target.encode
             return encode(x, self.SATURATIONS[saturation])
+        if call == 'to_p3109_by':
+            way, digits, random = mode.split()
+            return target.encode_randomly(x, int(random, 16), int(digits), way, self.SATURATIONS[saturation])
         if call == 'to_storage':
             return target.encode(x, self.SATURATIONS[saturation])
         if mode == 'odd':
@@ -1487,14 +1497,14 @@ class StorageRowTests(unittest.TestCase):
                 rows = [row for row in file if not row.startswith('#')]
             for row in rows:
                 call, kind, mode, given, result, status, _ = row.rstrip('\n').split('\t')
-                source, target = map(self.format_of, kind.split('>'))
+                source, target = map(self.format_of, (kind if '>' in kind else f'{kind}>{kind}').split('>'))
                 with Context(mode=self.MODES.get(mode.split('+')[0], apfloat.NEAREST_EVEN)) as context:
-                    made = self.made(call, source, target, mode, int(given, 16))
+                    made = self.made(call, source, target, mode, given)
                 flags = functools.reduce(operator.or_, (Flags[name] for name in status.split('|') if name != 'OK'),
                                          Flags(0))
                 self.assertEqual((made, context.flags), (int(result, 16), flags), row)
                 count += 1
-        self.assertGreater(count, 7000)
+        self.assertGreater(count, 10000)
 
     def test_formats_of_p3109(self):
         form = apfloat.p3109(8, 4)
@@ -1522,6 +1532,15 @@ class StorageRowTests(unittest.TestCase):
             apfloat.float4_e2m1fn.encode(2**200 + 1)
         with self.assertRaises(apfloat.Refused):
             apfloat.float4_e2m1fn.encode_randomly(1.25, 0, digits=33)
+        with self.assertRaises(apfloat.Refused):
+            apfloat.p3109(8, 4).encode_randomly(1.25, 0, digits=0)
+        with self.assertRaises(apfloat.Refused):
+            apfloat.float8_e3m4.operate('add', 1, 2)
+        for operands in ('add', 1), ('rem', 1, 2), ('add', 16, 0):
+            with self.subTest(operands), self.assertRaises(ValueError):
+                apfloat.float4_e2m1fn.operate(*operands)
+        with self.assertRaises(ValueError):
+            apfloat.p3109(8, 4).encode_randomly(1.25, 0, way='d')
         with self.assertRaises(apfloat.Refused):
             apfloat.float4_e2m1fn.array_randomly([1.25, 2], [0])
 

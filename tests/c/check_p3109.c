@@ -2,6 +2,7 @@
  * field of the answer. A row has tabs between its columns:
  *
  *   to_p3109    FORMAT>P3109  MODE  BITS  CODE  FLAGS  whether information is lost; MODE may end in a saturation
+ *   to_p3109_by  as to_p3109; MODE is the way a, b or c, the count of random digits, and the random number
  *   from_p3109  P3109>FORMAT  MODE  CODE  BITS  FLAGS  whether information is lost
  *
  * The program prints each row that differs, how many of each call agree, and how many errors do. */
@@ -29,13 +30,31 @@ static bool read_form(const char *name, apfloat_p3109 *form) {
 }
 
 static bool is_projected(char *columns[]) {
-    apfloat_answer answer = before;
+    apfloat_answer answer = before, other = before;
     apfloat_halves x;
     apfloat_p3109 to;
     char *mark = strchr(columns[1], '>');
     if (!mark || !read_form(mark + 1, &to) || !read_integer(columns[3], 16, &x)) return false;
     *mark = '\0';
-    return is_answer(apfloat_to_p3109(format_of(columns[1]), mode_of(columns[2]), to, x, &answer), &answer, columns);
+    const uint32_t format = format_of(columns[1]), mode = mode_of(columns[2]);
+    return is_answer(apfloat_to_p3109(format, mode, to, x, &answer), &answer, columns) &&
+           apfloat_to_p3109_by(format, mode, to, 77, 5, x, &other) == APFLOAT_ANSWERED &&
+           memcmp(&answer, &other, sizeof answer) == 0;
+}
+
+static bool is_projected_randomly(char *columns[]) {
+    apfloat_answer answer = before;
+    apfloat_halves x;
+    apfloat_p3109 to;
+    uint32_t digits, random, large = 0;
+    char way, end[16] = "", *mark = strchr(columns[1], '>');
+    if (sscanf(columns[2], "%c %" SCNu32 " %" SCNx32 "+%15s", &way, &digits, &random, end) < 3) return false;
+    if (*end) large = strcmp(end, "finite") == 0 ? APFLOAT_SATURATE_FINITE : APFLOAT_SATURATE;
+    if (!mark || !read_form(mark + 1, &to) || !read_integer(columns[3], 16, &x)) return false;
+    *mark = '\0';
+    const uint32_t mode = APFLOAT_RANDOM_DIGITS + (uint32_t)(way - 'a');
+    return is_answer(apfloat_to_p3109_by(format_of(columns[1]), mode | large, to, digits, random, x, &answer), &answer,
+                     columns);
 }
 
 static bool is_decoded(char *columns[]) {
@@ -60,6 +79,7 @@ static unsigned refusals(void) {
                                  {8, 3, 2, 1}, {8, 3, 1, 2}, {8, UINT32_MAX, 1, 1}, {0, 0, 0, 0}};
     apfloat_answer answer = before;
 #define TO(format, mode, to) apfloat_to_p3109(format, mode, to, x, &answer)
+#define BY(format, mode, to, digits) apfloat_to_p3109_by(format, mode, to, digits, 1, x, &answer)
 #define FROM(format, mode, to) apfloat_from_p3109(format, mode, to, 1, &answer)
     const uint32_t codes[][2] = {
         {TO(0, 7, bad[0]), APFLOAT_UNKNOWN_FORMAT},
@@ -67,6 +87,13 @@ static unsigned refusals(void) {
         {TO(APFLOAT_HALF, APFLOAT_SATURATE_ALL, good), APFLOAT_UNKNOWN_MODE},
         {TO(APFLOAT_E2M1FN, 0, good), APFLOAT_UNKNOWN_FORMAT},
         {TO(APFLOAT_DOUBLE_PAIR, 0, good), APFLOAT_NO_SUCH_OPERATION},
+        {BY(0, 9, bad[0], 0), APFLOAT_UNKNOWN_FORMAT},
+        {BY(APFLOAT_HALF, 9, bad[0], 0), APFLOAT_UNKNOWN_MODE},
+        {BY(APFLOAT_HALF, APFLOAT_RANDOM_DIGITS | APFLOAT_SATURATE_ALL, good, 0), APFLOAT_UNKNOWN_MODE},
+        {BY(APFLOAT_HALF, APFLOAT_RANDOM_DIGITS_B, bad[0], 0), APFLOAT_WRONG_WIDTH},
+        {BY(APFLOAT_HALF, APFLOAT_RANDOM_DIGITS_C, good, 33), APFLOAT_WRONG_WIDTH},
+        {BY(APFLOAT_HALF, APFLOAT_RANDOM_DIGITS, bad[0], 32), APFLOAT_UNKNOWN_FORMAT},
+        {BY(APFLOAT_DOUBLE_PAIR, APFLOAT_RANDOM_DIGITS, good, 1), APFLOAT_NO_SUCH_OPERATION},
         {FROM(bad[0], 7, 0), APFLOAT_UNKNOWN_FORMAT},
         {FROM(good, APFLOAT_TO_ODD, 0), APFLOAT_UNKNOWN_MODE},
         {FROM(good, 0, APFLOAT_E2M1FN), APFLOAT_UNKNOWN_FORMAT},
@@ -80,7 +107,9 @@ static unsigned refusals(void) {
 }
 
 int main(void) {
-    struct row_kind kinds[] = {{"to_p3109", 7, is_projected, 0}, {"from_p3109", 7, is_decoded, 0}};
+    struct row_kind kinds[] = {{"to_p3109", 7, is_projected, 0},
+                               {"to_p3109_by", 7, is_projected_randomly, 0},
+                               {"from_p3109", 7, is_decoded, 0}};
     count_rows(kinds, COUNT(kinds), NULL);
     printf("%u errors agree\n", refusals());
     return 0;

@@ -4,6 +4,8 @@
  *   to_storage    FORMAT>STORED  MODE  BITS  CODE  FLAGS  whether the code is a NaN's
  *   from_storage  STORED>FORMAT  MODE  CODE  BITS  FLAGS  whether the value is a NaN
  *   to_storage_by  as to_storage; the mode is odd, or random DIGITS NUMBER
+ *   between_storage  STORED>STORED  MODE  CODE  CODE  FLAGS  whether the code is a NaN's
+ *   storage_operation  STORED  MODE  OPERATION and three codes  CODE  FLAGS  0
  *
  * A MODE may be followed by what becomes of an overflow, as in even+finite. Each row of to_storage_by is tried with an
  * array, too. The program prints each row that differs,
@@ -114,10 +116,50 @@ static bool is_stored_by(char *columns[]) {
            is_stored_in_array(columns[1], mode, stored_to, digits, random, x, &answer);
 }
 
+static bool is_between(char *columns[]) {
+    apfloat_answer answer = before;
+    apfloat_halves given;
+    char *to = cut(columns[1], '>');
+    if (!to || !read_integer(columns[3], 16, &given)) return false;
+    uint32_t code = apfloat_between_storage(code_of(stored, COUNT(stored), columns[1]), mode_of(columns[2]),
+                                            code_of(stored, COUNT(stored), to), (uint32_t)given.low, &answer);
+    return is_answer(code, &answer, columns);
+}
+
+static const struct code operations[] = {
+    {"add", APFLOAT_ADD},         {"sub", APFLOAT_SUB},   {"mul", APFLOAT_MUL},       {"div", APFLOAT_DIV},
+    {"mul_add", APFLOAT_FMA},     {"sqrt", APFLOAT_SQRT}, {"minimum", APFLOAT_LEAST}, {"maximum", APFLOAT_GREATEST}};
+
+static bool is_operated(char *columns[]) {
+    apfloat_answer answer = before, other = before;
+    uint32_t codes[3];
+    char *word = columns[3], *next = cut(word, ' ');
+    for (size_t i = 0; i < COUNT(codes); i++) {
+        apfloat_halves code;
+        char *rest = next ? cut(next, ' ') : NULL;
+        if (!next || !read_integer(next, 16, &code)) return false;
+        codes[i] = (uint32_t)code.low;
+        next = rest;
+    }
+    const uint32_t format = code_of(stored, COUNT(stored), columns[1]), mode = mode_of(columns[2]);
+    const uint32_t operation = code_of(operations, COUNT(operations), word);
+    /* The bits above those of the format are ignored. */
+    const uint32_t above = UINT32_MAX << (format == APFLOAT_E2M1FN ? 4 : 6);
+    uint32_t code = apfloat_storage_operation(format, mode, operation, codes[0], codes[1], codes[2], &answer);
+    return is_answer(code, &answer, columns) &&
+           apfloat_storage_operation(format, mode, operation, codes[0] | above, codes[1] | above, codes[2] | above,
+                                     &other) == APFLOAT_ANSWERED &&
+           memcmp(&answer, &other, sizeof answer) == 0;
+}
+
 static const struct call {
     const char *name;
     bool (*agrees)(char *columns[]);
-} calls[] = {{"to_storage", is_stored}, {"from_storage", is_loaded}, {"to_storage_by", is_stored_by}};
+} calls[] = {{"to_storage", is_stored},
+             {"from_storage", is_loaded},
+             {"to_storage_by", is_stored_by},
+             {"between_storage", is_between},
+             {"storage_operation", is_operated}};
 
 /* The errors, each of which leaves the answer as it was. */
 static unsigned refusals(void) {
@@ -125,6 +167,8 @@ static unsigned refusals(void) {
     apfloat_answer answer = before;
 #define TO(format, mode, to) apfloat_to_storage(format, mode, to, x, &answer)
 #define FROM(format, mode, to) apfloat_from_storage(format, mode, to, 1, &answer)
+#define BETWEEN(format, mode, to) apfloat_between_storage(format, mode, to, 1, &answer)
+#define OPERATE(format, mode, operation) apfloat_storage_operation(format, mode, operation, 1, 2, 3, &answer)
     const uint32_t codes[][2] = {
         {TO(0, 5, 0), APFLOAT_UNKNOWN_FORMAT},
         {TO(APFLOAT_HALF, 5, 0), APFLOAT_UNKNOWN_MODE},
@@ -137,7 +181,16 @@ static unsigned refusals(void) {
         {FROM(APFLOAT_HALF, 0, APFLOAT_SINGLE), APFLOAT_UNKNOWN_FORMAT},
         {FROM(APFLOAT_UE4M3, 5, 0), APFLOAT_UNKNOWN_MODE},
         {FROM(APFLOAT_UE4M3, 0, APFLOAT_E8M0FNU), APFLOAT_UNKNOWN_FORMAT},
-        {FROM(APFLOAT_UE4M3, 0, APFLOAT_DOUBLE_PAIR), APFLOAT_NO_SUCH_OPERATION}};
+        {FROM(APFLOAT_UE4M3, 0, APFLOAT_DOUBLE_PAIR), APFLOAT_NO_SUCH_OPERATION},
+        {BETWEEN(APFLOAT_HALF, 5, 0), APFLOAT_UNKNOWN_FORMAT},
+        {BETWEEN(APFLOAT_E3M4, 5, 0), APFLOAT_UNKNOWN_MODE},
+        {BETWEEN(APFLOAT_E3M4, APFLOAT_SATURATE << 1, 0), APFLOAT_UNKNOWN_MODE},
+        {BETWEEN(APFLOAT_E3M4, 0, APFLOAT_HALF), APFLOAT_UNKNOWN_FORMAT},
+        {OPERATE(APFLOAT_HALF, 5, 0), APFLOAT_UNKNOWN_FORMAT},
+        {OPERATE(APFLOAT_E3M4, 5, 0), APFLOAT_UNKNOWN_MODE},
+        {OPERATE(APFLOAT_E2M1FN, APFLOAT_SATURATE, APFLOAT_ADD), APFLOAT_UNKNOWN_MODE},
+        {OPERATE(APFLOAT_E2M1FN, 0, APFLOAT_REM), APFLOAT_NO_SUCH_OPERATION},
+        {OPERATE(APFLOAT_E3M4, 0, APFLOAT_ADD), APFLOAT_NO_SUCH_OPERATION}};
     unsigned count = 0;
     for (size_t i = 0; i < COUNT(codes); i++) count += codes[i][0] == codes[i][1];
     return memcmp(&answer, &before, sizeof answer) == 0 ? count : 0;

@@ -166,7 +166,7 @@ static apfloat_p3109 constants(void) {
 static void values(void) {
     uint32_t f = format(), m = mode();
     apfloat_halves x = bits(), y = bits(), z = bits();
-    switch (below(52)) {
+    switch (below(55)) {
     case 0: ONE(apfloat_add, f, m, x, y); break;
     case 1: ONE(apfloat_sub, f, m, x, y); break;
     case 2: ONE(apfloat_mul, f, m, x, y); break;
@@ -237,6 +237,13 @@ static void values(void) {
     }
     case 48: ONE(apfloat_to_p3109, f, code(6), constants(), x); break;
     case 49: ONE(apfloat_from_p3109, constants(), m, f, (uint32_t)random_word()); break;
+    case 50: ONE(apfloat_to_p3109_by, f, code(10), constants(), code(34), (uint32_t)random_word(), x); break;
+    case 51: ONE(apfloat_between_storage, format(), m, format(), (uint32_t)random_word()); break;
+    case 52: {
+        const uint32_t a = (uint32_t)x.low, b = (uint32_t)y.low, c = (uint32_t)z.low;
+        ONE(apfloat_storage_operation, below(2) ? 32 + below(3) : format(), m, code(17), a, b, c);
+        break;
+    }
     default: ONE(apfloat_machine, code(17), code(17), f, m, below(2) ? format() : code(130), x, y, z);
     }
 }

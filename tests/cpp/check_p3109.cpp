@@ -24,12 +24,14 @@ p3109 form_of(const std::string &name) {
 template <class F>
 bool is_encoded(const row &r, const p3109 &form) {
     const auto x = value<F>::from_halves(rows::integer_of(r[3], 16).value()).value();
-    const auto words = rows::split(r[2] + "+", '+');
+    const auto words = rows::split(r[2] + "+", '+'), drawn = rows::split(words[0], ' ');
     const auto large = words.at(1) == "finite"     ? overflowing::saturates_finite
                        : words.at(1) == "saturate" ? overflowing::saturates
                                                    : overflowing::rounds;
-    const auto made =
-        words[0] == "odd" ? form.encode_odd(x, large) : form.encode(x, rows::mode_of(words[0]).value(), large);
+    const auto made = drawn.size() == 3 ? form.encode_random(x, static_cast<std::uint32_t>(std::stoul(drawn[1])),
+                                                             word_of(drawn[2]), drawn[0][0], large)
+                      : words[0] == "odd" ? form.encode_odd(x, large)
+                                          : form.encode(x, rows::mode_of(words[0]).value(), large);
     return made && made->value == word_of(r[4]) && made->status.names() == r[5];
 }
 
@@ -58,6 +60,8 @@ bool refuses() {
     const value<binary32> x;
     return p3109{8, 8}.encode(x).error() == errc::unknown_format &&
            p3109{2, 1}.encode_odd(x).error() == errc::unknown_format &&
+           p3109{8, 4}.encode_random(x, 33, 0, 'b').error() == errc::wrong_width &&
+           p3109{8, 4}.encode_random(x, 1, 0, 'd').error() == errc::unknown_mode &&
            p3109{16, 1}.decode<binary32>(0).error() == errc::unknown_format;
 }
 

@@ -11,4 +11,5 @@ pub mod Digits
 pub mod Pairs
 pub mod StorageValues
 pub mod StorageModes
+pub mod StorageOperations
 pub mod Reductions

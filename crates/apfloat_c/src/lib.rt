@@ -27,4 +27,5 @@ mod pairs;
 mod readings;
 mod reductions;
 mod storage_modes;
+mod storage_operations;
 mod storage_values;

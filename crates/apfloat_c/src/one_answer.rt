@@ -8,7 +8,7 @@ ghost use Rattle.apfloat_c.specs.OneAnswer.{IsErrorTextOnce, IsMappedArrayOnce, 
 ghost use Rattle.apfloat_c.specs.OneAnswer.{IsQuantizedCallOnce, IsTextOnce, IsUnpackedCallOnce};
 ghost use Rattle.apfloat_c.specs.{Pairs.ArePairCallsOnce, Readings.IsDecimalReadOnce, Reductions.IsReducedCallOnce};
 ghost use Rattle.apfloat_c.specs.StorageModes.{IsModeArrayOnce, IsModeReplyOnce};
-ghost use Rattle.apfloat_c.specs.StorageValues.{IsStorageReplyOnce};
+ghost use Rattle.apfloat_c.specs.{StorageOperations.IsOperationReplyOnce, StorageValues.IsStorageReplyOnce};
 
 use apfloat_arithmetic::other_formats::theorems::operations_have_one_answer;
 use apfloat_digits::of_double_doubles::pair_shortest_reads_back;
@@ -22,7 +22,10 @@ use small_formats::packing::packed_codes_have_one_answer;
 use small_formats::stochastic::{
     e3m4_conversions_by_mode_have_one_answer, unsigned_conversions_by_mode_have_one_answer,
 };
-use small_formats::{conversions_by_mode_have_one_answer, scales_by_mode_have_one_answer};
+use small_formats::{
+    conversions_by_mode_have_one_answer, scales_by_mode_have_one_answer,
+    stored_results_have_one_answer,
+};
 
 /// The contract of each export allows one code and one result, text or array.
 pub fn one_answer()
@@ -47,6 +50,7 @@ pub fn one_answer()
     ensures mapped { IsMappedArrayOnce }
     ensures reduced { IsReducedCallOnce }
     ensures stored { IsStorageReplyOnce }
+    ensures operated { IsOperationReplyOnce }
     ensures stored_by_mode { IsModeReplyOnce }
     ensures array_by_mode { IsModeArrayOnce }
     ensures quantized { IsQuantizedCallOnce }
@@ -61,6 +65,7 @@ pub fn one_answer()
     double_double_operations::operations_have_one_answer();
     pair_shortest_reads_back();
     projections_by_mode_have_one_answer();
+    stored_results_have_one_answer();
     conversions_by_mode_have_one_answer();
     e3m4_conversions_by_mode_have_one_answer();
     scales_by_mode_have_one_answer();

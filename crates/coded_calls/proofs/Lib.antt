@@ -12,5 +12,6 @@ pub mod IeeeOnce
 pub mod MachineOnce
 pub mod FlaglessOnce
 pub mod P3109Once
+pub mod RandomDigits
 pub mod AugmentedOnce
 pub mod FactsOnce

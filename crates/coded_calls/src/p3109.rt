@@ -6,10 +6,13 @@ ghost use Rattle.formats_at_run_time.specs.{FlaggedKinds.flagged_kind_coded, For
 ghost use Rattle.formats_at_run_time.specs.ValueKinds.{value_of};
 ghost use Rattle.p3109_formats.specs.Projections.{IsProjection};
 ghost use Rattle.coded_calls.specs.P3109.{IsDecodedAnswer, IsLawful, IsP3109Answer, IsP3109Reply, IsProjectedAnswer};
-ghost use Rattle.coded_calls.specs.P3109.{conversion_round_coded, descriptor_coded, flag_coded, known_into};
-ghost use Rattle.coded_calls.specs.P3109.{known_out_of, rule_coded, saturation_coded};
+ghost use Rattle.coded_calls.specs.P3109.{descriptor_coded, digits_fit, flag_coded, known_into, known_out_of};
+ghost use Rattle.coded_calls.specs.P3109.{lowest_digits, round_coded, round_with_digits, rule_coded, rule_with};
+ghost use Rattle.coded_calls.specs.P3109.{rule_with_digits, saturation_coded};
 
-use crate::codes::{ANSWERED, NO_SUCH_OPERATION, UNKNOWN_FORMAT, UNKNOWN_MODE, one_if};
+use crate::codes::{
+    ANSWERED, NO_SUCH_OPERATION, UNKNOWN_FORMAT, UNKNOWN_MODE, WRONG_WIDTH, one_if,
+};
 use crate::data::Answer;
 use formats_at_run_time::{
     BuiltInFormat, FlaggedFormat, FlaggedKind, InFormat, WritesInFormat, mode_coded,
@@ -17,7 +20,7 @@ use formats_at_run_time::{
 use p3109_formats::{Descriptor, ProjectionRound, ProjectionRule, Saturation};
 use rustc_apfloat::ieee::{Flagged, IeeeFloat, Semantics};
 use rustc_apfloat::{Float, Round};
-use small_formats::ConversionRound;
+use small_formats::{ConversionRound, RandomDigits};
 
 /// The constants of a format of P3109.
 #[repr(C)]
@@ -69,15 +72,54 @@ fn descriptor_coded(format: P3109Format) -> Option<Descriptor>
 }
 
 /// How a value is rounded, by the code of a mode of IEEE 754 or that of rounding to odd.
-fn conversion_round_coded(mode: u32) -> Option<ConversionRound>
-    ensures { result ≡ conversion_round_coded mode }
+fn round_coded(mode: u32) -> Result<ProjectionRound, u32>
+    ensures { result ≡ round_coded mode }
 {
     match mode {
-        5 => Some(ConversionRound::ToOdd),
+        5 => Ok(ProjectionRound::By(ConversionRound::ToOdd)),
         _ => match mode_coded(mode) {
-            Some(round) => Some(ConversionRound::Ieee(round)),
-            None => None,
+            Some(round) => Ok(ProjectionRound::By(ConversionRound::Ieee(round))),
+            None => Err(UNKNOWN_MODE),
         },
+    }
+}
+
+/// Whether random numbers have so many digits.
+fn digits_fit(digits: u32) -> bool
+    ensures { result ≡ digits_fit digits }
+{
+    1 <= digits && digits <= 32
+}
+
+/// The lowest digits of a random number, if there are 1 to 32 of them.
+fn lowest_digits(digits: u32, random: u32) -> Result<RandomDigits, u32>
+    ensures { result ≡ lowest_digits digits random }
+{
+    if !digits_fit(digits) {
+        return Err(WRONG_WIDTH);
+    }
+    let lowest = u64::from(random) % (1 << digits);
+    match RandomDigits::new(digits, lowest as u32) {
+        Ok(bits) => Ok(bits),
+        // So many digits fit.
+        Err(_) => Err(WRONG_WIDTH),
+    }
+}
+
+/// The same as `round_coded`, or one of the three ways with random digits.
+fn round_with_digits(mode: u32, digits: u32, random: u32) -> Result<ProjectionRound, u32>
+    ensures { result ≡ round_with_digits mode (lowest_digits digits random) }
+{
+    if mode < 6 || mode > 8 {
+        return round_coded(mode);
+    }
+    match lowest_digits(digits, random) {
+        Err(error) => Err(error),
+        Ok(bits) => Ok(match mode {
+            6 => ProjectionRound::By(ConversionRound::Stochastic(bits)),
+            7 => ProjectionRound::StochasticB(bits),
+            _ => ProjectionRound::StochasticC(bits),
+        }),
     }
 }
 
@@ -93,22 +135,43 @@ fn saturation_coded(code: u32) -> Option<Saturation>
     }
 }
 
+/// How a value is rounded and saturated.
+fn rule_with(
+    saturation: Option<Saturation>,
+    round: Result<ProjectionRound, u32>,
+) -> Result<ProjectionRule, u32>
+    ensures { result ≡ rule_with saturation round }
+{
+    let Some(saturation) = saturation else {
+        return Err(UNKNOWN_MODE);
+    };
+    match round {
+        Err(error) => Err(error),
+        Ok(round) => Ok(ProjectionRule { round, saturation }),
+    }
+}
+
 /// How a value is rounded and saturated, by the code of a mode, to which that of a saturation may be joined.
-fn rule_coded(mode: u32) -> Option<ProjectionRule>
+pub fn rule_coded(mode: u32) -> Result<ProjectionRule, u32>
     ensures { result ≡ rule_coded mode }
 {
-    let round = conversion_round_coded(mode % 256)?;
-    let saturation = saturation_coded(mode / 256)?;
-    Some(ProjectionRule {
-        round: ProjectionRound::By(round),
-        saturation,
-    })
+    rule_with(saturation_coded(mode / 256), round_coded(mode % 256))
+}
+
+/// The same, or with the lowest digits of a random number.
+pub fn rule_with_digits(mode: u32, digits: u32, random: u32) -> Result<ProjectionRule, u32>
+    ensures { result ≡ rule_with_digits mode digits random }
+{
+    rule_with(
+        saturation_coded(mode / 256),
+        round_with_digits(mode % 256, digits, random),
+    )
 }
 
 /// The conversion into a format of P3109 that is asked for, or the code of the first error.
 fn known_into(
     source: Option<FlaggedKind>,
-    rule: Option<ProjectionRule>,
+    rule: Result<ProjectionRule, u32>,
     target: Option<Descriptor>,
     bits: u128,
 ) -> Result<P3109Call, u32>
@@ -119,8 +182,9 @@ fn known_into(
     let Some(source) = source else {
         return Err(UNKNOWN_FORMAT);
     };
-    let Some(rule) = rule else {
-        return Err(UNKNOWN_MODE);
+    let rule = match rule {
+        Ok(rule) => rule,
+        Err(error) => return Err(error),
     };
     let Some(target) = target else {
         return Err(UNKNOWN_FORMAT);
@@ -159,19 +223,19 @@ fn known_out_of(
     }
 }
 
-/// Makes the code in a format of P3109 of a value, rounded once, and returns 0, or the code of the first error. The
-/// bits above those of the value's format are ignored.
-pub fn reply_into(format: u32, mode: u32, to: P3109Format, bits: u128, answer: &mut Answer) -> u32
-    ensures { let known = known_into (flagged_kind_coded format) (rule_coded mode)
-        (descriptor_coded to) bits in
+/// Makes the code in a format of P3109 of a value, rounded once by a rule, and returns 0, or the code of the first
+/// error. The bits above those of the value's format are ignored.
+pub fn reply_into(
+    format: u32,
+    rule: Result<ProjectionRule, u32>,
+    to: P3109Format,
+    bits: u128,
+    answer: &mut Answer,
+) -> u32
+    ensures { let known = known_into (flagged_kind_coded format) rule (descriptor_coded to) bits in
         IsP3109Reply known answer.old answer.new result }
 {
-    let known = known_into(
-        FlaggedKind::coded(format),
-        rule_coded(mode),
-        descriptor_coded(to),
-        bits,
-    );
+    let known = known_into(FlaggedKind::coded(format), rule, descriptor_coded(to), bits);
     convert(known, answer)
 }
 

@@ -1,17 +1,33 @@
 -- Conversions by the modes of conversions have one answer, and those by the five modes are those of the model.
 use Rattle.std.proofs.Common.{◌≡◌, ℕ, zero, suc, ◌*◌, ◌^◌, ◌<◌, Bool, false, not, eqb, sym, ap, ◌∙◌, arith}
-use Rattle.std.proofs.lemmas.Bool.{ne_eqb, MatchBool-at_false}
+use Rattle.std.proofs.{lemmas.Bool.ne_eqb, lemmas.Bool.MatchBool-at_false, Math.Path.subst₂}
+use Rattle.std.specs.Coded.{le_prop}
 use Rattle.apfloat_model.specs.formats.{Datum.finite, Datum.infinite, Datum.nan, Format.Format}
 use Rattle.apfloat_model.specs.rounding.Rounding.{delivered_status, ok_bits}
 use Rattle.apfloat_model.proofs.general.Choices.{match_false}
 use Rattle.apfloat_model.proofs.rounding.Neighbours.{below_unique, above_unique}
 use Rattle.small_formats.specs.{ModeConversions.IsStoredBy, ModeLaws.IsIntoByOnce, ModeLaws.IsIntoOfModel}
+use Rattle.small_formats.specs.{declared.modes.RandomDigits.RandomDigits, RandomDigits.AreRandomDigits}
 use Rattle.small_formats.specs.declared.modes.ConversionRound.{ConversionRound, TheVariants.Ieee}
 use Rattle.small_formats.specs.Conversions.{IsStoredNumber, saturated_value}
 use Rattle.small_formats.specs.Modes.{IsPickBy, ieee_mode, next_between}
 use Rattle.small_formats.specs.Storage.{StorageConstants, IsLawfulStorage, format_with}
 use Rattle.small_formats.proofs.OneAnswer.{AreSame, code_once, given_once}
 use Rattle.small_formats.proofs.RandomCounts.{picks_of_model}
+
+digits_prop : (digits random : ℕ) (p q : AreRandomDigits digits random) → p ≡ q
+digits_prop digits random p q =
+    λ i. record { some = le_prop p.some q.some i; few = le_prop p.few q.few i; fits = le_prop p.fits q.fits i }
+
+-- the same count of digits and the same number are the same random digits
+pub same_digits : (a b : RandomDigits) → a.digits ≡ b.digits → a.random ≡ b.random → a ≡ b
+same_digits a b digits random =
+    let From : ℕ → ℕ → Type 0 = λ d r. (q : AreRandomDigits d r)
+    → a ≡ record { digits = d; random = r; are_random = q } in
+    let from : From a.digits a.random = λ q.
+    ap (λ (h : AreRandomDigits a.digits a.random). record { digits = a.digits; random = a.random; are_random = h })
+    (digits_prop a.digits a.random a.are_random q) in
+    (subst₂ From digits random from) b.are_random
 
 pub pick_by_once : (precision : ℕ) (mode : ConversionRound) (negative : Bool) (amount parts p q : ℕ)
     → IsPickBy precision mode negative amount parts p → IsPickBy precision mode negative amount parts q → p ≡ q

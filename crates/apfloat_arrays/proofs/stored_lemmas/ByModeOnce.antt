@@ -1,15 +1,13 @@
 -- The conversion of a value into a storage format by a mode of conversions is unique.
 use Rattle.std.proofs.Common.{◌≡◌, ℕ, ◌^◌, ◌<◌, Bool, sym, refl, ap, ◌∙◌, subst}
-use Rattle.std.proofs.Math.Path.{subst₂}
-use Rattle.std.specs.Coded.{le_prop}
 use Rattle.rustc_apfloat.specs.{Classes.is_nan, Datum.Datum, Flags.bits_of, Format.Format, Lawful.Constants}
 use Rattle.rustc_apfloat.specs.{Lawful.format_with, Lawful.layout_with, Layout.datum_of}
 use Rattle.formats_at_run_time.specs.BuiltIns.{constants_in}
 use Rattle.small_formats.specs.declared.ConversionRound.{ConversionRound, TheVariants.Ieee, TheVariants.ToOdd}
 use Rattle.small_formats.specs.declared.{ConversionRound.TheVariants.Stochastic, NanResult.TheVariants.Zero}
-use Rattle.small_formats.specs.{declared.RandomDigits.RandomDigits, LawTest.lawful_from_test, ModeLaws.IsIntoByOnce}
-use Rattle.small_formats.specs.{RandomDigits.AreRandomDigits, ScaleModes.IsScaleByOnce}
+use Rattle.small_formats.specs.{LawTest.lawful_from_test, ModeLaws.IsIntoByOnce, ScaleModes.IsScaleByOnce}
 use Rattle.small_formats.specs.stochastic.ElementConversions.{IsE3M4ByOnce, IsUnsignedByOnce}
+use Rattle.small_formats.proofs.ModesOnce.{same_digits}
 use Rattle.apfloat_arrays.specs.declared.{counts.Outcome.Outcome, stored.formats.StoredFormat.StoredFormat}
 use Rattle.apfloat_arrays.specs.declared.stored.formats.StoredFormat.TheVariants.{E2M1FN, E2M3FN, E3M2FN, E3M4, E8M0FNU}
 use Rattle.apfloat_arrays.specs.declared.stored.{formats.StoredFormat.TheVariants.UE4M3, by_mode.EachRound.EachRound}
@@ -21,19 +19,6 @@ use Rattle.apfloat_arrays.specs.stored.Formats.{bits_in, datum_in, e2m1fn_consta
 use Rattle.apfloat_arrays.proofs.OneBlock.{same_outcome}
 
 -- ---- modes
-
-digits_prop : (digits random : ℕ) (p q : AreRandomDigits digits random) → p ≡ q
-digits_prop digits random p q =
-    λ i. record { some = le_prop p.some q.some i; few = le_prop p.few q.few i; fits = le_prop p.fits q.fits i }
-
-same_digits : (a b : RandomDigits) → a.digits ≡ b.digits → a.random ≡ b.random → a ≡ b
-same_digits a b digits random =
-    let From : ℕ → ℕ → Type 0 = λ d r. (q : AreRandomDigits d r)
-    → a ≡ record { digits = d; random = r; are_random = q } in
-    let from : From a.digits a.random = λ q.
-    ap (λ (h : AreRandomDigits a.digits a.random). record { digits = a.digits; random = a.random; are_random = h })
-    (digits_prop a.digits a.random a.are_random q) in
-    (subst₂ From digits random from) b.are_random
 
 mode_once : (round : EachRound) (random : ℕ) (one other : ConversionRound) → IsModeWith round random one
     → IsModeWith round random other → one ≡ other

@@ -13,7 +13,8 @@ use Rattle.apfloat_c.proofs.BlocksOnce.{unpacked_call_once}
 use Rattle.apfloat_c.proofs.DigitsOnce.{count_given_once, digits_once, hex_put_once, rounded_hex_put_once}
 use Rattle.apfloat_c.proofs.{ExactSums.reduced_call_once, FlaggedReadings.decimal_read_once, PairsOnce.pair_calls_once}
 use Rattle.apfloat_c.proofs.{ParsedOnce.parsed_once, StorageModesOnce.mode_array_once, StorageModesOnce.mode_reply_once}
-use Rattle.apfloat_c.proofs.{StorageOnce.storage_reply_once, TextsOnce.error_text_once, TextsOnce.text_once}
+use Rattle.apfloat_c.proofs.StorageOnce.{operation_reply_once, storage_reply_once}
+use Rattle.apfloat_c.proofs.TextsOnce.{error_text_once, text_once}
 use Rattle.apfloat_c.proofs.one_answer.one_answer.Goals as goal
 
 facts_once : AreFactsOnce
@@ -66,6 +67,7 @@ returns c =
       mapped = mapped_array_once;
       reduced = reduced_call_once;
       stored = storage_reply_once;
+      operated = operation_reply_once c.stored_results_have_one_answer.ensures;
       stored_by_mode = mode_reply_once once;
       array_by_mode = mode_array_once once;
       quantized = quantized_call_once;
