@@ -6,4 +6,5 @@ pub mod Operands
 pub mod EncodedOnce
 pub mod RootAnswers
 pub mod OrderedNumbers
+pub mod Magnitudes
 pub mod lanes_lemmas

@@ -1,5 +1,6 @@
 pub mod Encoded
 pub mod Numbers
+pub mod Order
 pub mod Once
 pub mod Addends
 pub mod Words
