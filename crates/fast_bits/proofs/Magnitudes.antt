@@ -2,18 +2,19 @@
 use Rattle.std.proofs.Common.{◌≡◌, ℕ, zero, suc, ℤ, ◌<ℤ◌, ◌+◌, ◌-◌, ◌*◌, ◌/◌, ◌%◌, ◌^◌, ◌<◌, ◌≤◌, Bool, true, false}
 use Rattle.std.proofs.Common.{Some, of_z, to_z, w64, refl, ap, ◌∙◌, sym, subst, inl, inr, ⊎_elim, arith}
 use Rattle.std.proofs.Math.Nat.{mul-le-mul_left, mul-le-mul_right, mul-lt-mul_of_pos_right, pow-le-pow_right}
-use Rattle.std.proofs.Math.Nat.{two-pow-succ}
-use Rattle.std.proofs.lemmas.{Bool.cases_lt, Bool.cond-false, Bool.ne_eqb, Bool.eq-eqb, Cmp.by_ranked, Int.ints, Nat.field_of}
+use Rattle.std.proofs.{Math.Nat.two-pow-succ, lemmas.Bool.cases_lt}
+use Rattle.std.proofs.lemmas.{Bool.cond-false, Bool.ne_eqb, Bool.eq-eqb, Cmp.by_ranked, Int.ints, Nat.field_of}
 use Rattle.std.proofs.lemmas.{Nat.div-add-mod', Nat.mod_below, Nat.pow-add, Nat.pow_pos, Bool.Decides.eqb_tells}
-use Rattle.std.specs.declared.cmp.Ordering.TheVariants.{Less, Equal, Greater}
 use Rattle.std.specs.{Ordering.int_cmp, Cmp.int_cmp_is, Cmp.int_ranks}
+use Rattle.std.specs.declared.cmp.Ordering.TheVariants.{Less, Equal, Greater}
 use Rattle.apfloat_model.specs.{arithmetic.Exact.signed, order.Classes.is_nan, order.Order.compared}
 use Rattle.apfloat_model.specs.declared.kinds.NonfiniteBehavior.{NonfiniteBehavior, TheVariants.IEEE754}
 use Rattle.apfloat_model.specs.bits.{Interchange.IsInterchange, Layout.all_ones, Layout.Layout, Layout.fields_of}
 use Rattle.apfloat_model.specs.bits.Layout.{implied_datum, implied_number, trailing_bits}
 use Rattle.apfloat_model.specs.formats.{Datum.Datum, Datum.finite, Format.Format}
 use Rattle.apfloat_model.specs.formats.Lawful.{Constants, format_with, layout_with}
-use Rattle.apfloat_model.proofs.{bits.EncodedOnce.fields_with, general.Powers.fits_longer, general.Powers.lower_mod, general.Powers.two_pos}
+use Rattle.apfloat_model.proofs.{bits.EncodedOnce.fields_with, general.Powers.fits_longer, general.Powers.lower_mod}
+use Rattle.apfloat_model.proofs.{general.Powers.two_pos}
 use Rattle.fast_bits.specs.{Encoded.value_in, Order.CountsFor, Order.IsPlaceOf, Order.quanta_at}
 use Rattle.fast_bits.proofs.Reading.{trailing_low}
 
@@ -29,7 +30,8 @@ below_exponent least (suc b) s (suc c) t few less =
     let power : 2 ^ suc b ≤ 2 ^ c = pow-le-pow_right two_pos (omega (arith, less)) in
     let more : least * 2 ^ suc b ≤ least * 2 ^ c = mul-le-mul_left least power in
     let up : least * 2 ^ c ≤ (least + t) * 2 ^ c = mul-le-mul_right (2 ^ c) (omega arith) in
-    let low : (least + s) * 2 ^ b < (least + least) * 2 ^ b = mul-lt-mul_of_pos_right (omega (arith, few)) (pow_pos b) in
+    let low : (least + s) * 2 ^ b < (least + least) * 2 ^ b =
+    mul-lt-mul_of_pos_right (omega (arith, few)) (pow_pos b) in
     let twice : least * 2 ^ suc b ≡ least * (2 ^ b + 2 ^ b) = ap (λ (n : ℕ). least * n) (two-pow-succ b) in
     omega (arith, more, up, low, twice)
 
@@ -243,7 +245,8 @@ place_is c bits magnitude infinity law implied kind is top le word =
           (λ same. let e = ap (λ (n : ℕ). n * least) same in omega (arith, parts.is, top, le, e)));
       is = ap (signed x.negative) parts.is;
       fits = subst (λ (n : ℕ). n < 2 ^ 63) parts.is (fits_longer magnitude (c.bits - 1) 63
-          (subst (λ (n : ℕ). n < 2 ^ (c.bits - 1)) (sym is) (mod_below bits _ (pow_pos (c.bits - 1)))) (omega (arith, word)));
+          (subst (λ (n : ℕ). n < 2 ^ (c.bits - 1)) (sym is) (mod_below bits _ (pow_pos (c.bits - 1))))
+          (omega (arith, word)));
     }
 
 nan_with : (f : Format) (layout : Layout) (negative : Bool) (biased trailing : ℕ)
