@@ -42,7 +42,7 @@ ROWS = (
      r'augmented\w*', 'augmented_add'),
     ('payloads as values', 'get_payload', 'get_payload', r'apfloat_\w*payload\w*', r'get_payload', r'payload',
      'get_payload'),
-    ('exact reductions', 'dot_r', 'dot', r'apfloat_\w*dot', 'dot', 'dot', None),
+    ('exact reductions', 'dot_r', 'dot', r'apfloat_\w*dot', 'dot', 'dot', 'reduce_values'),
     ('arrays', 'ArrayConversion', 'map', 'apfloat_map_array', 'map_array', 'Array', 'convert_values'),
     ('storage formats', 'StoredFloat', 'StoredFloat', r'apfloat_to_storage|APFLOAT_E2M1FN', 'stored', r'Stored\w*',
      'e2m1fn'),
@@ -63,7 +63,6 @@ ROWS = (
 # Why C, and with it C++ and Python, or the programs have an empty cell in a row.
 REASONS = {
     'decimals with these flags': {'Programs': 'rows lack them'},
-    'exact reductions': {'Programs': 'rows lack them'},
     "a format's constants": {'Programs': '`docs/FORMATS.md` has them'},
 }
 
