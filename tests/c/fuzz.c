@@ -112,7 +112,7 @@ static void remember(void) {
 
 /* What a call returned: only the results that it may write differ from before. */
 static void returned(const char *name, uint32_t error, const area *results, const area *more, const area *table) {
-    if (error > APFLOAT_OVERLAPPING_ARRAYS || error == APFLOAT_UNKNOWN_ERROR) {
+    if (error > APFLOAT_WRONG_CONTROL || error == APFLOAT_UNKNOWN_ERROR) {
         fail(name);
     }
     answered += error == APFLOAT_ANSWERED;
@@ -149,7 +149,7 @@ static size_t width_of(uint32_t of) {
         memset(&before, (int)below(256), sizeof before);                                                               \
         answer = before;                                                                                               \
         uint32_t error = name(__VA_ARGS__, &answer);                                                                   \
-        if (error > APFLOAT_OVERLAPPING_ARRAYS || error == APFLOAT_UNKNOWN_ERROR ||                                    \
+        if (error > APFLOAT_WRONG_CONTROL || error == APFLOAT_UNKNOWN_ERROR ||                                    \
             (error && memcmp(&answer, &before, sizeof answer)) || (!error && answer.status > 31)) {                    \
             fail(#name);                                                                                               \
         }                                                                                                              \

@@ -10,6 +10,8 @@ pub mod EncodedNumbers
 pub mod ExportsOnce
 pub mod IeeeOnce
 pub mod MachineOnce
+pub mod MadeInstructions
+pub mod InstructionsOnce
 pub mod FlaglessOnce
 pub mod P3109Once
 pub mod AugmentedOnce

@@ -1,7 +1,8 @@
 -- An operation of a machine leaves one code and one result.
 use Rattle.std.proofs.Common.{ℕ, Ok, Err, sym, ap, ◌∙◌}
 use Rattle.std.specs.{Prelude.unsigned_abs, Int.w128, Int.cast_unsigned}
-use Rattle.rustc_apfloat.specs.{declared.Round.Round, declared.StatusAnd.StatusAnd, Datum.Datum, Determined.Determines}
+use Rattle.rustc_apfloat.specs.declared.{Round.Round, Round.TheVariants.TowardZero, StatusAnd.StatusAnd}
+use Rattle.rustc_apfloat.specs.{Datum.Datum, Determined.Determines}
 use Rattle.rustc_apfloat.specs.{Flags.Gives, Flags.bits_of, Format.Format, Lawful.Constants, Lawful.format_with}
 use Rattle.apfloat_model.proofs.{Determined.gives_once, Determined.same_answer, Once.answer_once}
 use Rattle.apfloat_machines.specs.{declared.machine.Machine.Machine, WholeNumbers.IsMachineUnsigned}
@@ -9,7 +10,8 @@ use Rattle.apfloat_machines.proofs.Once.{operations_once, fused_sums_once, conve
 use Rattle.formats_at_run_time.specs.declared.Arithmetic.{Arithmetic, TheVariants.Sum}
 use Rattle.formats_at_run_time.specs.declared.Arithmetic.TheVariants.{Difference, Product, Quotient, NearestRemainder}
 use Rattle.formats_at_run_time.specs.{declared.Arithmetic.TheVariants.TruncatedRemainder, BuiltIns.constants_in}
-use Rattle.formats_at_run_time.specs.{FlaggedKinds.flagged_constants, FlaggedKinds.format_of_ieee, ValueKinds.value_of}
+use Rattle.formats_at_run_time.specs.{FlaggedKinds.flagged_constants, FlaggedKinds.format_of_ieee, ValueKinds.of_format}
+use Rattle.formats_at_run_time.specs.{ValueKinds.value_of, declared.FlaggedFormat.FlaggedFormat}
 use Rattle.formats_at_run_time.proofs.FormatLaws.{HasLaw, format_law}
 use Rattle.coded_calls.specs.declared.machine_call.{CodedMachine.CodedMachine, MachineCall.MachineCall}
 use Rattle.coded_calls.specs.declared.machine_call.MachineCall.TheVariants.{Operation, Conversion}
@@ -17,8 +19,9 @@ use Rattle.coded_calls.specs.declared.machine_call.{MachineFormat.MachineFormat,
 use Rattle.coded_calls.specs.declared.machine_call.MachineOperation.TheVariants.{OfTwo, FusedSum, SquareRoot}
 use Rattle.coded_calls.specs.declared.machine_call.MachineOperation.TheVariants.{IntegralExact, Integral, ToUnsigned}
 use Rattle.coded_calls.specs.declared.machine_call.MachineOperation.TheVariants.{ToSigned, Least, Greatest}
-use Rattle.coded_calls.specs.MachineCalls.{IsInteger, IsMachineAnswer, IsMachineCallAnswer, IsMachineOfTwo, choices}
-use Rattle.coded_calls.specs.{MachineCalls.format_on, OneReply.IsMachineReplyOnce}
+use Rattle.coded_calls.specs.MachineCalls.{IsInteger, IsMachineAnswerBy, IsMachineCallAnswer, IsMachineConvertedBy}
+use Rattle.coded_calls.specs.MachineCalls.{IsMachineOfTwo, Way, choices, format_on, plain_way}
+use Rattle.coded_calls.specs.OneReply.{IsMachineReplyOnce}
 use Rattle.coded_calls.proofs.{ExportsOnce.OnceAnswer, ExportsOnce.unchanged, IeeeOnce.in_format_once}
 
 -- an operation on two values has one value and one status
@@ -48,41 +51,66 @@ unsigned_once : (f : Format) (machine : Machine) (mode : Round) (width : ℕ) (x
 unsigned_once f machine mode width x answer other h k =
     same_answer answer other (ap unsigned_abs (h.number_is ∙ sym k.number_is)) (h.status_is ∙ sym k.status_is)
 
+-- whether what a way makes of relations with one answer each has one answer
+abbrev pub HasOneFinish : Way → Type 0
+HasOneFinish way =
+    (f : Format) (Says : Round → StatusAnd Datum → Type 0) → ((mode : Round) → Determines (Says mode))
+    → Determines (way.finish f Says)
+
+plain_once : (c : Constants) (mode : Round) → HasOneFinish (plain_way c mode)
+plain_once c mode f Says one = one mode
+
 -- an operation in a lawful format has one result
-machine_answer_once : (c : Constants) (has : HasLaw c) (machine : CodedMachine) (mode : Round)
-    (operation : MachineOperation) → OnceAnswer (IsMachineAnswer c machine mode operation)
-machine_answer_once c has machine mode (OfTwo arithmetic x y) =
-    in_format_once c has mode _
-    (of_two_once (format_with c) machine arithmetic mode (value_of c x) (value_of c y))
-machine_answer_once c has machine mode (FusedSum x y z) =
-    in_format_once c has mode _
-    (fused_sums_once (format_with c) (choices machine) mode (value_of c x) (value_of c y) (value_of c z))
-machine_answer_once c has machine mode (SquareRoot x) =
-    in_format_once c has mode _ ((operations_once (format_with c) (choices machine)).root mode (value_of c x))
-machine_answer_once c has machine mode (IntegralExact x) =
-    in_format_once c has mode _ ((operations_once (format_with c) (choices machine)).exact mode (value_of c x))
-machine_answer_once c has machine mode (Integral x) =
-    in_format_once c has mode _ ((operations_once (format_with c) (choices machine)).integral mode (value_of c x))
-machine_answer_once c has machine mode (ToUnsigned x width) =
-    integer_once (λ n. n) _ (unsigned_once (format_with c) (choices machine) mode width (value_of c x))
-machine_answer_once c has machine mode (ToSigned x width) =
-    integer_once (cast_unsigned w128) _ (whole_numbers_once (choices machine) (value_of c x) _ _)
-machine_answer_once c has machine mode (Least rule x y) =
-    in_format_once c has mode _ (gives_once _ (answer_once _ _))
-machine_answer_once c has machine mode (Greatest rule x y) =
-    in_format_once c has mode _ (gives_once _ (answer_once _ _))
+pub machine_answer_once : (way : Way) → HasOneFinish way → (c : Constants) (has : HasLaw c)
+    (machine : CodedMachine) (operation : MachineOperation) → OnceAnswer (IsMachineAnswerBy way c machine operation)
+machine_answer_once way once c has machine (OfTwo arithmetic x y) =
+    in_format_once c has TowardZero _
+    (once (format_with c) _
+    (λ mode. of_two_once (format_with c) machine arithmetic mode (way.read x) (way.read y)))
+machine_answer_once way once c has machine (FusedSum x y z) =
+    in_format_once c has TowardZero _
+    (once (format_with c) _
+    (λ mode. fused_sums_once (format_with c) (choices machine) mode (way.read x) (way.read y) (way.read z)))
+machine_answer_once way once c has machine (SquareRoot x) =
+    in_format_once c has TowardZero _
+    (once (format_with c) _
+    (λ mode. (operations_once (format_with c) (choices machine)).root mode (way.read x)))
+machine_answer_once way once c has machine (IntegralExact x) =
+    in_format_once c has TowardZero _
+    ((operations_once (format_with c) (choices machine)).exact (way.whole_mode (way.read x)) (way.read x))
+machine_answer_once way once c has machine (Integral x) =
+    in_format_once c has TowardZero _
+    ((operations_once (format_with c) (choices machine)).integral (way.whole_mode (way.read x)) (way.read x))
+machine_answer_once way once c has machine (ToUnsigned x width) =
+    integer_once (λ n. n) _
+    (unsigned_once (format_with c) (choices machine) (way.whole_mode (way.read x)) width (way.read x))
+machine_answer_once way once c has machine (ToSigned x width) =
+    integer_once (cast_unsigned w128) _ (whole_numbers_once (choices machine) (way.read x) _ _)
+machine_answer_once way once c has machine (Least rule x y) =
+    in_format_once c has TowardZero _ (once (format_with c) _ (λ mode. gives_once _ (answer_once _ _)))
+machine_answer_once way once c has machine (Greatest rule x y) =
+    in_format_once c has TowardZero _ (once (format_with c) _ (λ mode. gives_once _ (answer_once _ _)))
+
+-- so has a conversion
+pub machine_conversion_once : (way : Way) → HasOneFinish way → (c : Constants) (target : FlaggedFormat)
+    (machine : CodedMachine) (x : Datum)
+    → OnceAnswer (IsMachineConvertedBy way c machine x (of_format (flagged_constants target)))
+machine_conversion_once way once c target machine x =
+    let d = flagged_constants target in
+    in_format_once d (format_law target) TowardZero _
+    (once (format_with d) _
+    (λ mode. conversions_once (format_with c) (format_with d) (choices machine) mode x))
 
 -- a call on a machine has one result
 machine_call_once : (machine : CodedMachine) (m : MachineFormat) (mode : Round) (call : MachineCall)
     → OnceAnswer (IsMachineCallAnswer machine m mode call)
 machine_call_once machine m mode (Operation operation) =
     let format = format_on machine m in
-    machine_answer_once (flagged_constants format) (format_law format) machine mode operation
+    let c = flagged_constants format in
+    machine_answer_once (plain_way c mode) (plain_once c mode) c (format_law format) machine operation
 machine_call_once machine m mode (Conversion x target) =
     let c = constants_in (format_of_ieee m.format) in
-    let to = format_on machine target in
-    in_format_once (flagged_constants to) (format_law to) mode _
-    (conversions_once (format_with c) (format_with (flagged_constants to)) (choices machine) mode (value_of c x))
+    machine_conversion_once (plain_way c mode) (plain_once c mode) c (format_on machine target) machine (value_of c x)
 
 -- two replies to the same arguments are the same
 pub machine_reply_once : IsMachineReplyOnce

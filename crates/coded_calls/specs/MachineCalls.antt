@@ -293,45 +293,78 @@ pub record IsInteger {A : Type 0} (word : A → ℕ) (Holds : StatusAnd A → Ty
   pub status_is : answer.status ≡ bits_of given.status
   pub number_is : answer.number ≡ pos 0
 
+-- How an operation is carried out: what the bits of an operand stand for, in which mode a value becomes an integral
+-- one, and which answers in a format a relation for each mode leaves.
+pub record Way : Type 1 where
+  pub read : ℕ → Datum
+  pub whole_mode : Datum → Round
+  pub finish : Format → (Round → StatusAnd Datum → Type 0) → StatusAnd Datum → Type 0
+
+-- values as they are, in one mode
+abbrev pub plain_way : Constants → Round → Way
+plain_way c mode =
+    record { read = value_of c; whole_mode = λ x. mode; finish = λ f Says given. Says mode given }
+
+-- a value in values of a kind
+abbrev pub IsMachineConvertedBy : Way → Constants → CodedMachine → Datum → Kind → Answer → Type 0
+IsMachineConvertedBy way c machine x (of_format d) answer =
+    IsValue (in_format d)
+    (way.finish (format_with d) (λ mode given.
+    Gives (IsMachineConversion (format_with c) (format_with d) (choices machine) mode x) given)) answer
+IsMachineConvertedBy way c machine x of_pairs answer = ⊥
+
+-- an operation on values of a format
+abbrev pub IsMachineAnswerBy : Way → Constants → CodedMachine → MachineOperation → Answer → Type 0
+IsMachineAnswerBy way c machine (OfTwo arithmetic x y) answer =
+    IsValue (in_format c)
+    (way.finish (format_with c) (λ mode.
+    IsMachineOfTwo (format_with c) machine arithmetic mode (way.read x) (way.read y))) answer
+IsMachineAnswerBy way c machine (FusedSum x y z) answer =
+    IsValue (in_format c)
+    (way.finish (format_with c) (λ mode given.
+    Gives (IsMachineFusedSum (format_with c) (choices machine) mode (way.read x) (way.read y) (way.read z)) given))
+    answer
+IsMachineAnswerBy way c machine (SquareRoot x) answer =
+    IsValue (in_format c)
+    (way.finish (format_with c) (λ mode given.
+    Gives (IsMachineRoot (format_with c) (choices machine) mode (way.read x)) given)) answer
+IsMachineAnswerBy way c machine (IntegralExact x) answer =
+    IsValue (in_format c)
+    (λ given.
+    Gives (IsMachineIntegralExact (format_with c) (choices machine) (way.whole_mode (way.read x)) (way.read x)) given)
+    answer
+IsMachineAnswerBy way c machine (Integral x) answer =
+    IsValue (in_format c)
+    (λ given.
+    Gives (IsMachineIntegral (format_with c) (choices machine) (way.whole_mode (way.read x)) (way.read x)) given)
+    answer
+IsMachineAnswerBy way c machine (ToUnsigned x width) answer =
+    IsInteger (λ n. n)
+    (λ given.
+    Gives (IsMachineUnsigned (format_with c) (choices machine) (way.whole_mode (way.read x)) width (way.read x)) given)
+    answer
+IsMachineAnswerBy way c machine (ToSigned x width) answer =
+    IsInteger (cast_unsigned w128)
+    (λ given.
+    Gives (IsMachineSigned (format_with c) (choices machine) (way.whole_mode (way.read x)) width (way.read x)) given)
+    answer
+IsMachineAnswerBy way c machine (Least rule x y) answer =
+    IsValue (in_format c)
+    (way.finish (format_with c) (λ mode given.
+    Gives (IsLeast rule (format_with c) (choices machine) (way.read x) (way.read y)) given)) answer
+IsMachineAnswerBy way c machine (Greatest rule x y) answer =
+    IsValue (in_format c)
+    (way.finish (format_with c) (λ mode given.
+    Gives (IsGreatest rule (format_with c) (choices machine) (way.read x) (way.read y)) given)) answer
+
 -- a value of c in values of a kind
 abbrev pub IsMachineConverted : Constants → CodedMachine → Round → Datum → Kind → Answer → Type 0
-IsMachineConverted c machine mode x (of_format d) answer =
-    IsValue (in_format d)
-    (λ given. Gives (IsMachineConversion (format_with c) (format_with d) (choices machine) mode x) given) answer
-IsMachineConverted c machine mode x of_pairs answer = ⊥
+IsMachineConverted c machine mode x target answer =
+    IsMachineConvertedBy (plain_way c mode) c machine x target answer
 
 -- an operation on values of a format
 abbrev pub IsMachineAnswer : Constants → CodedMachine → Round → MachineOperation → Answer → Type 0
-IsMachineAnswer c machine mode (OfTwo arithmetic x y) answer =
-    IsValue (in_format c)
-    (IsMachineOfTwo (format_with c) machine arithmetic mode (value_of c x) (value_of c y)) answer
-IsMachineAnswer c machine mode (FusedSum x y z) answer =
-    IsValue (in_format c)
-    (λ given.
-    Gives (IsMachineFusedSum (format_with c) (choices machine) mode (value_of c x) (value_of c y) (value_of c z))
-    given)
-    answer
-IsMachineAnswer c machine mode (SquareRoot x) answer =
-    IsValue (in_format c) (λ given. Gives (IsMachineRoot (format_with c) (choices machine) mode (value_of c x)) given)
-    answer
-IsMachineAnswer c machine mode (IntegralExact x) answer =
-    IsValue (in_format c)
-    (λ given. Gives (IsMachineIntegralExact (format_with c) (choices machine) mode (value_of c x)) given) answer
-IsMachineAnswer c machine mode (Integral x) answer =
-    IsValue (in_format c)
-    (λ given. Gives (IsMachineIntegral (format_with c) (choices machine) mode (value_of c x)) given) answer
-IsMachineAnswer c machine mode (ToUnsigned x width) answer =
-    IsInteger (λ n. n)
-    (λ given. Gives (IsMachineUnsigned (format_with c) (choices machine) mode width (value_of c x)) given) answer
-IsMachineAnswer c machine mode (ToSigned x width) answer =
-    IsInteger (cast_unsigned w128)
-    (λ given. Gives (IsMachineSigned (format_with c) (choices machine) mode width (value_of c x)) given) answer
-IsMachineAnswer c machine mode (Least rule x y) answer =
-    IsValue (in_format c)
-    (λ given. Gives (IsLeast rule (format_with c) (choices machine) (value_of c x) (value_of c y)) given) answer
-IsMachineAnswer c machine mode (Greatest rule x y) answer =
-    IsValue (in_format c)
-    (λ given. Gives (IsGreatest rule (format_with c) (choices machine) (value_of c x) (value_of c y)) given) answer
+IsMachineAnswer c machine mode operation answer = IsMachineAnswerBy (plain_way c mode) c machine operation answer
 
 -- the value that bits of a kind encode, in another
 abbrev pub IsMachineConvertedFrom : Kind → CodedMachine → Round → ℕ → Kind → Answer → Type 0

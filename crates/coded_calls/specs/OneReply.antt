@@ -5,6 +5,7 @@ use Rattle.formats_at_run_time.specs.declared.FlaggedKind.{FlaggedKind}
 use Rattle.coded_calls.specs.declared.{data.Answer.Answer, data.Halves.Halves, exported_call.ExportedCall.ExportedCall}
 use Rattle.coded_calls.specs.declared.{flagless_call.FlaglessCall.FlaglessCall, ieee_call.IeeeCall.IeeeCall}
 use Rattle.coded_calls.specs.declared.{ieee_call.InAnotherCall.InAnotherCall, p3109.P3109Call.P3109Call}
+use Rattle.coded_calls.specs.{declared.instructions.Instruction.Instruction, Instructions.IsInstructionReply}
 use Rattle.coded_calls.specs.{Answers.IsReturned, Answers.whole, Augmented.IsAugmentedCall, Augmented.IsPayloadCall}
 use Rattle.coded_calls.specs.{Augmented.KnownAugmentation, Augmented.KnownPayload, FlaglessCalls.IsFlaglessReply}
 use Rattle.coded_calls.specs.{IeeeCalls.IsIeeeReply, IeeeCalls.IsInAnotherReply, KnownCalls.known_call}
@@ -54,6 +55,13 @@ abbrev pub IsMachineReplyOnce : Type 0
 IsMachineReplyOnce =
     (known : Result MachineRequest ℕ) (old first second : Answer) (code other : ℕ)
     → IsMachineReply known old first code → IsMachineReply known old second other
+    → (code ≡ other) × SameAnswer first second
+
+-- what a machine delivers with a control word
+abbrev pub IsInstructionReplyOnce : Type 0
+IsInstructionReplyOnce =
+    (known : Result Instruction ℕ) (old first second : Answer) (code other : ℕ)
+    → IsInstructionReply known old first code → IsInstructionReply known old second other
     → (code ≡ other) × SameAnswer first second
 
 -- a conversion into a format of P3109 or out of it

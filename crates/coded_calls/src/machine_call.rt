@@ -213,7 +213,7 @@ impl MachineFormat {
 
     /// The format with its rule of flags on a machine.
     #[inline(always)]
-    fn on(self, machine: CodedMachine) -> FlaggedFormat
+    pub fn on(self, machine: CodedMachine) -> FlaggedFormat
         ensures { result ≡ format_on machine self }
     {
         if self.is_tiny_before(machine) {

@@ -1330,7 +1330,7 @@ fn to_unsigned<S: Flagged>(
     if !is_width(1, width) {
         return WRONG_WIDTH;
     }
-    match unsigned_integer::<S>(machine, round, x, width as usize) {
+    match unsigned_integer(machine, round, value::<S>(x), width as usize) {
         None => LACKING_OPERATION,
         Some(integer) => {
             *answer = Answer::of(integer.value, integer.status, 0);
@@ -1340,20 +1340,17 @@ fn to_unsigned<S: Flagged>(
 }
 
 /// The integer, if the machine has unsigned ones.
-fn unsigned_integer<S: Flagged>(
+pub fn unsigned_integer<S: Flagged>(
     machine: CodedMachine,
     round: Round,
-    x: u128,
+    x: IeeeFloat<S>,
     width: usize,
 ) -> Option<StatusAnd<u128>>
-    requires bits { S.PRECISION < S.BITS }
     requires low { 1 ≤ width }
     requires high { width ≤ 128 }
-    ensures { let c = constants_of S.Flagged in
-        let says = IsMachineUnsigned (format_with c) (choices machine) round width (value_of c x) in
+    ensures { let says = IsMachineUnsigned (format_of S.Flagged) (choices machine) round width x in
         IsOffered (choices machine).has_unsigned (λ given. Gives says given) result }
 {
-    let x = value::<S>(x);
     let mut is_exact = false;
     let plain = x.to_u128_r(width, round, &mut is_exact);
     settled_unsigned(machine.choices(), x, width, plain)
@@ -1375,26 +1372,22 @@ fn to_signed<S: Flagged>(
     if !is_width(2, width) {
         return WRONG_WIDTH;
     }
-    let integer = signed_integer::<S>(machine, round, x, width as usize);
+    let integer = signed_integer(machine, round, value::<S>(x), width as usize);
     *answer = Answer::of(integer.value.cast_unsigned(), integer.status, 0);
     ANSWERED
 }
 
 /// The signed integer.
-fn signed_integer<S: Flagged>(
+pub fn signed_integer<S: Flagged>(
     machine: CodedMachine,
     round: Round,
-    x: u128,
+    x: IeeeFloat<S>,
     width: usize,
 ) -> StatusAnd<i128>
-    requires bits { S.PRECISION < S.BITS }
     requires low { 2 ≤ width }
     requires high { width ≤ 128 }
-    ensures { let c = constants_of S.Flagged in
-        Gives (IsMachineSigned (format_with c) (choices machine) round width (value_of c x))
-        result }
+    ensures { Gives (IsMachineSigned (format_of S.Flagged) (choices machine) round width x) result }
 {
-    let x = value::<S>(x);
     let mut is_exact = false;
     let plain = x.to_i128_r(width, round, &mut is_exact);
     settled_signed(machine.choices(), x, width, plain)
