@@ -166,7 +166,7 @@ static apfloat_p3109 constants(void) {
 static void values(void) {
     uint32_t f = format(), m = mode();
     apfloat_halves x = bits(), y = bits(), z = bits();
-    switch (below(52)) {
+    switch (below(53)) {
     case 0: ONE(apfloat_add, f, m, x, y); break;
     case 1: ONE(apfloat_sub, f, m, x, y); break;
     case 2: ONE(apfloat_mul, f, m, x, y); break;
@@ -237,6 +237,10 @@ static void values(void) {
     }
     case 48: ONE(apfloat_to_p3109, f, code(6), constants(), x); break;
     case 49: ONE(apfloat_from_p3109, constants(), m, f, (uint32_t)random_word()); break;
+    case 50:
+        ONE(apfloat_instruction, code(17), code(17), f, below(4) ? m : APFLOAT_TO_ODD, code(9),
+            below(2) ? format() : code(130), x, y, z);
+        break;
     default: ONE(apfloat_machine, code(17), code(17), f, m, below(2) ? format() : code(130), x, y, z);
     }
 }

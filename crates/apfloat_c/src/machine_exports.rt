@@ -48,5 +48,7 @@ pub extern "C" fn apfloat_instruction(
         IsInstructionReply (known_instruction (flagged_kind_coded format) (rounding_coded mode) call
         (machine_coded machine) control) answer.old answer.new result }
 {
-    instructed(machine, operation, format, mode, control, to, x, y, z, answer)
+    instructed(
+        machine, operation, format, mode, control, to, x, y, z, answer,
+    )
 }

@@ -77,16 +77,18 @@ pub noted_answer : (it : Instruction) (plain : Delivered) (up : Bool) (old answe
     → answer.number ≡ pos (notes plain.tells_denormal up)
     → IsLeftBy (machine_fault it.machine it.format it.call) (IsInstructionAnswer it) old answer answered
 noted_answer it plain up old answer none told rounded bits status number =
-    subst (λ (fault : Option ℕ). IsLeftBy fault (IsInstructionAnswer it) old answer answered) (sym none)
-    (refl, record {
-      plain = plain.answer;
-      up = up;
-      is_plain = told.holds;
-      is_up = rounded;
-      bits_are = ap (λ (h : Halves). whole h) bits;
-      status_is = status;
-      number_is = number ∙ ap (λ (d : Bool). pos (notes d up)) told.tells;
-    })
+    subst (λ (fault : Option ℕ). IsLeftBy fault (IsInstructionAnswer it) old answer answered) (sym none) (
+      refl,
+      record {
+        plain = plain.answer;
+        up = up;
+        is_plain = told.holds;
+        is_up = rounded;
+        bits_are = ap (λ (h : Halves). whole h) bits;
+        status_is = status;
+        number_is = number ∙ ap (λ (d : Bool). pos (notes d up)) told.tells;
+      },
+    )
 
 left_replied : (fault : Option ℕ) (known : Instruction) (old new : Answer) (code : ℕ)
     → IsLeftBy fault (IsInstructionAnswer known) old new code

@@ -8,9 +8,11 @@ pub returns : goal.returns
 returns g c =
     let says = c.settled_conversion-settled.ensures.conversion c.args.self.rounding.round
     c.convert_r-plain.new.loses_info c.convert_r-plain.ensures.converted in
-    rw (sym c.fits.ensures, c.if-not-fits.false, sym c.choices.ensures, sym c.taken-x.ensures)
-    (refl, record {
-      given = c.finished.result;
-      holds = record { plain = c.settled_conversion-settled.result; says = says; is_finished = c.finished.ensures };
-      is_written = c.written.ensures;
-    })
+    rw (sym c.fits.ensures, c.if-not-fits.false, sym c.choices.ensures, sym c.taken-x.ensures) (
+      refl,
+      record {
+        given = c.finished.result;
+        holds = record { plain = c.settled_conversion-settled.result; says = says; is_finished = c.finished.ensures };
+        is_written = c.written.ensures;
+      },
+    )
