@@ -291,7 +291,7 @@ pub extern "C" fn apfloat_compare(format: u32, x: Halves, y: Halves, answer: &mu
         (Comparison (whole x) (whole y))) answer.old answer.new result }
 {
     let (x, y) = (x.number(), y.number());
-    reply(format, NEAREST_EVEN, ComparisonCall { x, y }, answer)
+    reply_in_kind(format, NEAREST_EVEN, ComparisonCall { x, y }, answer)
 }
 
 /// The class of a value in `number` (IEEE 754-2019 5.7.2).

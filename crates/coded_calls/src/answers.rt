@@ -10,7 +10,7 @@ ghost use Rattle.coded_calls.specs.declared.exported_call.ExportedCall.TheVarian
 ghost use Rattle.coded_calls.specs.declared.exported_call.ExportedCall.TheVariants.{FromUnsigned, FromSigned};
 ghost use Rattle.coded_calls.specs.declared.exported_call.ExportedCall.TheVariants.{ToUnsigned, ToSigned};
 ghost use Rattle.coded_calls.specs.declared.exported_call.ExportedCall.TheVariants.{RoundToIntegral, Scaling, Fraction};
-ghost use Rattle.coded_calls.specs.declared.exported_call.ExportedCall.TheVariants.{Conversion, Text};
+ghost use Rattle.coded_calls.specs.declared.exported_call.ExportedCall.TheVariants.{Comparison, Conversion, Text};
 ghost use Rattle.coded_calls.specs.Answers.{FractionFits, IsConvertedInto, IsKindAnswer, IsLeft, IsNumberAlone};
 ghost use Rattle.coded_calls.specs.Answers.{IsTypeAnswer, IsTypeLeft, IsValue, IsValueWritten, class_of, one_if};
 ghost use Rattle.coded_calls.specs.Answers.{order_code, whole};
@@ -21,7 +21,8 @@ use crate::codes::{
 };
 use crate::data::Answer;
 use fast_bits::{
-    Encoded, add_normal, convert_normal, multiply_bits, root_bits, subtract_normal, word_of,
+    Encoded, add_normal, compare_bits, convert_normal, has_ordered_words, multiply_bits, root_bits,
+    subtract_normal, word_of,
 };
 use formats_at_run_time::{FillsInFormat, FlaggedKind, ValueType};
 use rustc_apfloat::ieee::{Flagged, IeeeFloat};
@@ -429,6 +430,20 @@ pub fn comparison<F: Float>(answer: &mut Answer, x: u128, y: u128)
 {
     let (x, y) = (F::from_bits(x), F::from_bits(y));
     *answer = Answer::number(order_code(x.partial_cmp(&y)));
+}
+
+/// The order of two values in a format: from their bits, where these are in order.
+#[inline(never)]
+pub fn comparison_in<S: Flagged>(answer: &mut Answer, round: Round, x: u128, y: u128)
+    requires { S.PRECISION < S.BITS }
+    ensures { let kind = of_format (constants_of S.Flagged) in
+        IsKindAnswer kind round (Comparison x y) answer.new }
+{
+    if has_ordered_words::<S>() {
+        *answer = Answer::number(order_code(compare_bits::<S>(x, y)));
+    } else {
+        comparison::<IeeeFloat<S>>(answer, x, y);
+    }
 }
 
 /// The class of a value.

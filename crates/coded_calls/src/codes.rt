@@ -68,7 +68,8 @@ pub fn order_code(order: Option<Ordering>) -> i32
     }
 }
 
-/// The code of the class of a value of this category and sign (IEEE 754-2019 5.7.2).
+/// The code of the class of a value of this category and sign (IEEE 754-2019 5.7.2). That of a negative number is made
+/// of that of the positive one, since a processor cannot predict the sign.
 pub fn class_code(category: Category, negative: bool, denormal: bool, signaling: bool) -> i32
     ensures { result ≡ class_code category negative denormal signaling }
 {
@@ -76,11 +77,8 @@ pub fn class_code(category: Category, negative: bool, denormal: bool, signaling:
         Category::NaN => if signaling { 0 } else { 1 },
         Category::Infinity => if negative { 2 } else { 9 },
         Category::Normal => {
-            if negative {
-                if denormal { 4 } else { 3 }
-            } else {
-                if denormal { 7 } else { 8 }
-            }
+            let positive = if denormal { 7 } else { 8 };
+            if negative { 11 - positive } else { positive }
         }
         Category::Zero => if negative { 5 } else { 6 },
     }

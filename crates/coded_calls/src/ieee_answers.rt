@@ -12,14 +12,15 @@ ghost use Rattle.coded_calls.specs.IeeeCalls.{IsExtremumBy, IsIeeeAnswer, IsInAn
 
 use crate::codes::{one_if, order_code};
 use crate::data::Answer;
+use fast_bits::{compare_bits, has_ordered_words};
 use ieee_operations::{
     Extremum, OnNan, Predicate, compare, extremum_number_of, extremum_of, log_b,
     round_to_integral_in, total_cmp,
 };
 use rustc_apfloat::ieee::{Flagged, IeeeFloat};
-use rustc_apfloat::{Float, Round, StatusAnd};
+use rustc_apfloat::{Float, Round, Status, StatusAnd};
 
-/// Whether a predicate holds of two values, in any mode.
+/// Whether a predicate holds of two values, in any mode. Two values that are in an order raise no flag.
 pub fn predicated<S: Flagged>(
     round: Round,
     predicate: Predicate,
@@ -31,6 +32,11 @@ pub fn predicated<S: Flagged>(
     ensures { IsIeeeAnswer (constants_of S.Flagged) round (Predicated predicate on_nan x y)
         result }
 {
+    if has_ordered_words::<S>() {
+        if let Some(order) = compare_bits::<S>(x, y) {
+            return told(Status::OK.and(predicate.relations().has(Some(order))));
+        }
+    }
     let (x, y) = (value::<S>(x), value::<S>(y));
     told(compare(predicate, on_nan, x, y))
 }

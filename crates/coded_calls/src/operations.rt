@@ -16,10 +16,10 @@ ghost use Rattle.coded_calls.specs.{declared.exported_call.ExportedCall.TheVaria
 ghost use Rattle.coded_calls.specs.{Answers.IsReturned, Answers.IsTypeLeft, KnownCalls.known_in};
 
 use crate::answers::{
-    class, comparison, converted, difference, difference_in, exponent, fraction, from_signed,
-    from_unsigned, fused_sum, nearest_remainder, next_down, next_up, product, product_in, quotient,
-    read, root, root_in, round_to_integral, scaled, sum, sum_in, to_signed, to_unsigned,
-    truncated_remainder,
+    class, comparison, comparison_in, converted, difference, difference_in, exponent, fraction,
+    from_signed, from_unsigned, fused_sum, nearest_remainder, next_down, next_up, product,
+    product_in, quotient, read, root, root_in, round_to_integral, scaled, sum, sum_in, to_signed,
+    to_unsigned, truncated_remainder,
 };
 use crate::codes::{ANSWERED, NO_SUCH_OPERATION, UNKNOWN_FORMAT, UNKNOWN_MODE};
 use crate::data::Answer;
@@ -487,12 +487,18 @@ pub struct ComparisonCall {
     pub y: u128,
 }
 
-impl Operation for ComparisonCall {
+impl KindOperation for ComparisonCall {
     ghost call = { λ it. Comparison it.x it.y };
 
     #[inline(always)]
-    fn made_in<V: ValueType>(self, round: Round, answer: &mut Answer) -> u32 {
-        comparison::<V>(answer, self.x, self.y);
+    fn in_format<S: Flagged>(self, round: Round, answer: &mut Answer) -> u32 {
+        comparison_in::<S>(answer, round, self.x, self.y);
+        ANSWERED
+    }
+
+    #[inline(always)]
+    fn in_pairs(self, round: Round, answer: &mut Answer) -> u32 {
+        comparison::<DoubleDouble>(answer, self.x, self.y);
         ANSWERED
     }
 }
