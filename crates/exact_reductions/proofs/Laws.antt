@@ -2,12 +2,13 @@
 use Rattle.std.proofs.Common.{◌≡◌, ℕ, zero, suc, ◌*◌, ◌^◌, ◌<◌, eqb, Bool, true, false, not, ◌&&◌, ◌||◌, List, [], ◌∷◌}
 use Rattle.std.proofs.Common.{◌++◌, Option, Some, None, if◌then◌else◌, refl, sym, ap, subst, ◌∙◌, inl, inr, arith}
 use Rattle.std.proofs.lemmas.{Bool.false≢true, Int.ints, Nat.pow_pos}
-use Rattle.std.specs.Prelude.{◌⊎◌}
+use Rattle.std.specs.Prelude.{◌⊎◌, Ok, Err}
+use Rattle.apfloat_model.specs.{Determined.Determines, rounding.Flags.Gives, rounding.Flags.bits_of}
 use Rattle.apfloat_model.specs.{order.Classes.is_nan, rounding.Answer.IsAnswer, rounding.Outcome.IsSound}
 use Rattle.apfloat_model.specs.{arithmetic.Exact.magnitude, arithmetic.Exact.product_sign}
 use Rattle.apfloat_model.specs.declared.kinds.{NonfiniteBehavior.NonfiniteBehavior, Round.Round}
 use Rattle.apfloat_model.specs.formats.{Datum.Datum, Datum.finite, Datum.infinite, Datum.nan, Format.Format}
-use Rattle.apfloat_model.specs.formats.Nan.{invalid_if, is_signaling, is_signaling_nan, quieted}
+use Rattle.apfloat_model.specs.formats.Nan.{qnan, invalid_if, is_signaling, is_signaling_nan, quieted}
 use Rattle.apfloat_model.specs.rounding.Rounding.{ok_bits, IsDelivered, signed_quanta, zero_sign}
 use Rattle.apfloat_model.specs.rounding.Outcome.{Outcome, settled, rounded, totalled, rooted, exactly, invalid, Yields}
 use Rattle.apfloat_model.specs.arithmetic.{Exact.signed, Exact.sign_of, Exact.zero_sum_sign, Products.product}
@@ -16,9 +17,11 @@ use Rattle.apfloat_model.proofs.rounding.Laws.{delivered_once, exact_delivered}
 use Rattle.apfloat_model.proofs.rounding.StatusesTogether.{ok_together, invalid_together, invalid_if_together}
 use Rattle.apfloat_model.proofs.Determined.{gives_once}
 use Rattle.apfloat_model.proofs.Outcomes.{yields_once, yields_something, yields_together}
+use Rattle.exact_reductions.specs.BlockDots.{IsDotCallOnce, IsInEveryOrder, IsTotalTo, double_format, total_after_to}
+use Rattle.exact_reductions.specs.BlockDots.{values}
 use Rattle.exact_reductions.specs.Laws.{IsTotalOnce, IsTotalSomething, IsInAnyOrder, IsOneProduct, IsOneValue}
 use Rattle.exact_reductions.specs.Laws.{IsTallyOfParts}
-use Rattle.exact_reductions.specs.Reductions.{Tally, IsTotal, first_of, infinite_total, joined, number_tally}
+use Rattle.exact_reductions.specs.Reductions.{Tally, IsTotal, product_terms, first_of, infinite_total, joined, number_tally}
 use Rattle.exact_reductions.specs.Reductions.{special_tally, tally, tally_of, total, total_after, value_term}
 use Rattle.exact_reductions.proofs.Tallies.{same_tally, joined_none, none_joined, joined_again}
 
@@ -26,6 +29,18 @@ use Rattle.exact_reductions.proofs.Tallies.{same_tally, joined_none, none_joined
 
 pub total_once : IsTotalOnce
 total_once f mode t = gives_once (IsTotal f mode t) (yields_once f mode (total f t))
+
+pub total_to_once : (f g : Format) (mode : Round) (t : Tally) → Determines (Gives (IsTotalTo f g mode t))
+total_to_once f g mode t = gives_once (IsTotalTo f g mode t) (yields_once g mode (total_after_to f g t.first_nan t))
+
+pub dot_call_once : IsDotCallOnce
+dot_call_once g mode x y None (Ok answer) (Ok other) h k =
+    ap Ok (total_to_once double_format g mode (tally (product_terms double_format (values x) (values y))) answer other h k)
+dot_call_once g mode x y None (Ok answer) (Err other) h k = absurd k
+dot_call_once g mode x y None (Err error) other h k = absurd h
+dot_call_once g mode x y (Some fault) (Err error) (Err other) h k = ap Err (h ∙ sym k)
+dot_call_once g mode x y (Some fault) (Err error) (Ok other) h k = absurd k
+dot_call_once g mode x y (Some fault) (Ok answer) other h k = absurd h
 
 infinite_sound : (f : Format) (plus minus : Bool) (number : Outcome) → IsSound number
     → IsSound (infinite_total f plus minus number)
@@ -155,6 +170,23 @@ in_any_order f mode before one other after value swapped status swapped_status h
     let alike = tally_swapped before one other after in
     alike_results f mode (tally left).first_nan (tally right).first_nan (tally left) (tally right) value swapped status
     swapped_status alike.nans alike.others (first_is_nan left) (first_is_nan right) h k
+
+-- of a total in another format no NaN is told from another
+same_after : (f g : Format) (x y : Option Datum) (s t : Tally) → has_nan x ≡ has_nan y
+    → record s { first_nan = None } ≡ record t { first_nan = None } → total_after_to f g x s ≡ total_after_to f g y t
+same_after f g (Some a) (Some b) s t n e = ap (λ (z : Tally). settled (qnan g 0) (invalid_if z.invalid)) e
+same_after f g None None s t n e = ap (λ (z : Tally). total_after_to f g None z) e
+same_after f g (Some a) None s t n e = absurd (false≢true (sym n))
+same_after f g None (Some b) s t n e = absurd (false≢true n)
+
+pub in_every_order : IsInEveryOrder
+in_every_order f g mode before one other after answer swapped h k =
+    let left : Tally = tally (before ++ one ∷ other ∷ after) in
+    let right : Tally = tally (before ++ other ∷ one ∷ after) in
+    let alike = tally_swapped before one other after in
+    let same = same_after f g left.first_nan right.first_nan left right alike.nans alike.others in
+    total_to_once f g mode right answer swapped
+    (subst (λ (o : Outcome). Yields g mode o answer.value (bits_of answer.status)) same h) k
 
 -- ---- one term
 

@@ -1,3 +1,4 @@
+pub mod BlockDots
 pub mod Laws
 pub mod Placed
 pub mod Rooms

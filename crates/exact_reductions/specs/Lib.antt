@@ -1,3 +1,4 @@
 pub mod Amounts
+pub mod BlockDots
 pub mod Laws
 pub mod Reductions

@@ -5,6 +5,7 @@ ghost use Rattle.apfloat_model.specs.arithmetic.Products.{product, IsProduct};
 ghost use Rattle.apfloat_model.specs.{declared.kinds.Round.TheVariants.TowardZero, order.Classes.is_finite};
 ghost use Rattle.apfloat_model.specs.rounding.Flags.{Gives, bits_of};
 ghost use Rattle.apfloat_ieee.specs.FlaggedTypes.{format_of};
+ghost use Rattle.exact_reductions.specs.BlockDots.{IsTotalTo};
 ghost use Rattle.exact_reductions.specs.Reductions.{IsSummable, IsTotal, first_of, joined, no_terms, number_tally};
 ghost use Rattle.exact_reductions.specs.Reductions.{special_tally, tally, tally_of, value_term, magnitude_of};
 ghost use Rattle.exact_reductions.specs.Reductions.{value_terms, magnitude_terms, product_terms};
@@ -15,6 +16,7 @@ use crate::counted::{deliver_sides, in_quanta, scale_of};
 use crate::sides::Sides;
 use apfloat_arithmetic::products::product_sign;
 use apfloat_base::{Category, Float, Round, Status, StatusAnd};
+use apfloat_ieee::format_of::{add, subtract};
 use apfloat_ieee::{Flagged, IeeeFloat};
 use apfloat_words::{Wide, full_product, full_wide_product};
 use std::marker::Model;
@@ -241,7 +243,34 @@ impl<S: Flagged, const WORDS: usize> ExactSum<S, WORDS> {
             (true, true) => Status::INVALID_OP.and(IeeeFloat::nan()),
             (true, false) => Status::OK.and(IeeeFloat::infinity()),
             (false, true) => Status::OK.and(-IeeeFloat::<S>::infinity()),
-            (false, false) => deliver_sides(self.sides, self.positive, self.negative, round),
+            (false, false) => {
+                deliver_sides::<S, S, WORDS>(self.sides, self.positive, self.negative, round)
+            }
+        }
+    }
+
+    /// The sum in the format `T`, rounded once. A NaN is the quiet one without a payload; an infinity raises INEXACT
+    /// in a target without infinities.
+    pub(crate) fn rounded_to<T: Flagged>(self, round: Round) -> StatusAnd<IeeeFloat<T>>
+        requires { IsSummable WORDS (format_of S.Flagged) }
+        ensures { Gives (IsTotalTo (format_of S.Flagged) (format_of T.Flagged) round self) result }
+    {
+        if self.first_nan.is_some() {
+            let status = if self.invalid {
+                Status::INVALID_OP
+            } else {
+                Status::OK
+            };
+            return status.and(IeeeFloat::nan());
+        }
+        let infinity = IeeeFloat::<S>::infinity();
+        match (self.positive_infinity, self.negative_infinity) {
+            (true, true) => subtract::<T, S, S>(infinity, infinity, round),
+            (true, false) => add::<T, S, S>(infinity, infinity, round),
+            (false, true) => add::<T, S, S>(-infinity, -infinity, round),
+            (false, false) => {
+                deliver_sides::<S, T, WORDS>(self.sides, self.positive, self.negative, round)
+            }
         }
     }
 

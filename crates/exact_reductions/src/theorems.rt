@@ -2,6 +2,7 @@
 
 ghost use Rattle.std.specs.Prelude.{ℕ, ◌<◌};
 ghost use Rattle.apfloat_model.specs.{declared.kinds.Round.Round, formats.Format.Format};
+ghost use Rattle.exact_reductions.specs.BlockDots.{IsDotCallOnce, IsInEveryOrder};
 ghost use Rattle.exact_reductions.specs.Laws.{IsInAnyOrder, IsOneProduct, IsOneValue, IsTallyOfParts, IsTotalOnce};
 ghost use Rattle.exact_reductions.specs.{Laws.IsTotalSomething, Reductions.Tally};
 
@@ -30,4 +31,14 @@ pub fn parts_are_joined()
 pub fn one_term_is_itself()
     ensures product { IsOneProduct }
     ensures value { IsOneValue }
+{}
+
+/// A dot product of vectors in blocks has one answer: its value and its status, or its error.
+pub fn block_dots_have_one_answer()
+    ensures { IsDotCallOnce }
+{}
+
+/// It does not depend on the order of the terms.
+pub fn block_dots_are_in_every_order()
+    ensures { IsInEveryOrder }
 {}
