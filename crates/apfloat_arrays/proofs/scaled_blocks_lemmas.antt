@@ -6,4 +6,3 @@ pub mod Numbers
 pub mod Elements
 pub mod Scaled
 pub mod OneArray
-pub mod Products

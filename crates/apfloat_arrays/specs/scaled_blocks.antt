@@ -3,7 +3,6 @@ pub mod Lengths
 pub mod Values
 pub mod Elements
 pub mod Greatest
-pub mod Products
 pub mod Quantized
 pub mod Dequantized
 pub mod OneArray

@@ -10,7 +10,6 @@ mod elements;
 mod errors;
 mod formats;
 mod lengths;
-mod products;
 mod quantizing;
 mod scales;
 mod theorems;

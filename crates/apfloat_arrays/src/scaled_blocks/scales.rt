@@ -17,7 +17,7 @@ use small_formats::blocks::{ElementFormat, greater, quotient_code};
 
 /// A power of two.
 #[inline(always)]
-pub(crate) fn power_of_two(places: usize) -> u32
+fn power_of_two(places: usize) -> u32
     requires { places < 32 }
     ensures { result ≡ 2 ^ places }
 {
