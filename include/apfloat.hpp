@@ -3083,7 +3083,7 @@ struct p3109 {
                                                   char way = 'a',
                                                   overflowing large = overflowing::rounds) const noexcept {
         if (way < 'a' || way > 'c') return errc::unknown_mode;
-        const auto mode = static_cast<apfloat_mode>(APFLOAT_RANDOM_DIGITS + (way - 'a'));
+        const auto mode = static_cast<apfloat_mode>(APFLOAT_RANDOM_DIGITS + static_cast<unsigned>(way - 'a'));
         return encoded(x, mode | static_cast<apfloat_mode>(large), digits, random);
     }
 
