@@ -119,7 +119,8 @@ def chosen():
     yield nvfp4(one, [0, 56], [7, 8]), mx(E5M2, [127, 127], [0x7B, 1])
     plus, minus, quiet, signaling = 0x7C, 0xFC, 0x7E, 0xFD
     ones = mx(E5M2, [127], [0x3C, 0x3C, 0x3C], length=3)
-    for codes in ([plus, 1, 1], [1, minus, 1], [plus, minus, 1], [quiet, 1, plus], [signaling, 1, 1], [1, quiet, minus]):
+    for codes in ([plus, 1, 1], [1, minus, 1], [plus, minus, 1], [quiet, 1, plus], [signaling, 1, 1],
+                  [1, quiet, minus]):
         yield mx(E5M2, [0], codes, length=3), ones
     zeros = nvfp4(one, [56, 56, 0], [0, 2, 7])
     for codes in ([plus, 1, 1], [1, plus, minus], [quiet, minus, minus], [1, minus, 1]):
