@@ -6,3 +6,4 @@ pub mod Numbers
 pub mod Elements
 pub mod Scaled
 pub mod OneArray
+pub mod Products

@@ -3,6 +3,7 @@ pub mod Lengths
 pub mod Values
 pub mod Elements
 pub mod Greatest
+pub mod Products
 pub mod Quantized
 pub mod Dequantized
 pub mod OneArray

@@ -10,6 +10,7 @@ mod elements;
 mod errors;
 mod formats;
 mod lengths;
+mod products;
 mod quantizing;
 mod scales;
 mod theorems;

@@ -118,7 +118,7 @@ signed_parts half m x false below is =
       sign = ap (λ (n : ℕ). eqb (n % 2) 1) (ap (λ (n : ℕ). n / half) swapped ∙ div-mul-add 0 half m below);
     }
 
-sign_most : (negative : Bool) (half : ℕ) → cond negative half 0 ≤ half
+pub sign_most : (negative : Bool) (half : ℕ) → cond negative half 0 ≤ half
 sign_most true half = omega arith
 sign_most false half = omega arith
 

@@ -1,19 +1,26 @@
 //! Dequantizing: arrays of values from the scales and element codes of blocks.
 
-ghost use Rattle.std.specs.Prelude.{◌≡◌, ◌*◌, ◌<◌, ◌≤◌, Ok, length};
+ghost use Rattle.std.specs.Prelude.{◌≡◌, ◌*◌, ◌<◌, ◌≤◌, IfSome, Ok, length};
 ghost use Rattle.rustc_apfloat.specs.FlaggedTypes.{constants_of};
+ghost use Rattle.small_formats.specs.Types.{constants_of as storage_constants_of};
 ghost use Rattle.apfloat_arrays.specs.{Calls.at_format, scaled_blocks.Dequantized.AreDequantized};
 ghost use Rattle.apfloat_arrays.specs.scaled_blocks.Dequantized.{IsDequantizedArray, IsScaledCode, width_out};
 ghost use Rattle.apfloat_arrays.specs.scaled_blocks.Formats.{AreNarrow, HasScale, IsNarrow};
-ghost use Rattle.apfloat_arrays.specs.scaled_blocks.Lengths.{blocks_in};
+ghost use Rattle.apfloat_arrays.specs.scaled_blocks.{Lengths.blocks_in, Products.IsCodedAs};
 
+use crate::bytes::has_width;
+use crate::scaled_blocks::digits::{E4M3Digits, E5M2Digits};
 use crate::scaled_blocks::errors::ArrayError;
 use crate::scaled_blocks::formats::BlockFormat;
 use crate::scaled_blocks::lengths::blocks_in;
+use crate::scaled_blocks::products::product_bits;
+use crate::stored::number_codes::has_words;
 use crate::{Counts, Extended, Outcome, width, write_number};
 use formats_at_run_time::{FlaggedFormat, WritesInFormat};
 use rustc_apfloat::ieee::Flagged;
 use rustc_apfloat::{Float, Round};
+use small_formats::blocks::ElementFormat;
+use small_formats::{E2M1FN, E2M3FN, E3M2FN, StorageFormat};
 
 /// How blocks become values.
 #[derive(Clone, Copy)]
@@ -110,24 +117,86 @@ impl WritesInFormat for ScaledCall<'_> {
         counts) };
 
     fn write_in_format<T: Flagged>(self, bytes: &mut [u8]) -> Counts {
-        let Dequantization {
-            format,
-            length,
-            round,
-            ..
-        } = self.dequantization;
-        let mut counts = Counts::NONE;
-        for index in 0..self.codes.len() {
-            let from = index * self.width;
-            let place = &mut bytes[from..from + self.width];
-            let scale = self.scales[index / length];
-            counts.count(write_scaled::<T>(format, scale, self.codes[index], round, place));
+        if has_words::<T>() {
+            if let BlockFormat::Mx(element) = self.dequantization.format {
+                return match element {
+                    ElementFormat::E5M2 => write_each::<T, E5M2Digits>(self, Some(0x7b), bytes),
+                    ElementFormat::E4M3FN => write_each::<T, E4M3Digits>(self, Some(0x7e), bytes),
+                    ElementFormat::E3M2FN => write_each::<T, E3M2FN>(self, Some(0x1f), bytes),
+                    ElementFormat::E2M3FN => write_each::<T, E2M3FN>(self, Some(0x1f), bytes),
+                    ElementFormat::E2M1FN => write_each::<T, E2M1FN>(self, Some(0x7), bytes),
+                };
+            }
         }
-        counts
+        write_each::<T, E2M1FN>(self, None, bytes)
     }
 }
 
-/// Writes the product of an element and a scale.
+/// Writes the products of elements and scales, from code to bits if the digits of elements are those of `F` and the
+/// largest one has the code `most`.
+#[inline(never)]
+fn write_each<T: Flagged, F: StorageFormat>(
+    call: ScaledCall,
+    most: Option<u32>,
+    bytes: &mut [u8],
+) -> Counts
+    requires written { T.PRECISION < T.BITS }
+    requires coded { IfSome most
+        (IsCodedAs call.dequantization.format (storage_constants_of F.StorageFormat)) }
+    requires can { (length call.codes.now ≡ length call.scales.now * call.dequantization.length)
+        × HasScale call.dequantization.format
+        × AreNarrow call.dequantization.format call.scales.now call.codes.now
+        × (length bytes.old ≡ length call.codes.now * call.width)
+        × (T.BITS ≤ 8 * call.width) }
+    ensures { AreDequantized call.entry.dequantization (constants_of T.Flagged) call.entry.width
+        call.entry.scales.now call.entry.codes.now bytes.new result }
+{
+    let Dequantization {
+        format,
+        length,
+        round,
+        ..
+    } = call.dequantization;
+    let mut counts = Counts::NONE;
+    for index in 0..call.codes.len() {
+        let from = index * call.width;
+        let place = &mut bytes[from..from + call.width];
+        let (scale, code) = (call.scales[index / length], call.codes[index]);
+        counts.count(write_one::<T, F>(format, most, scale, code, round, place));
+    }
+    counts
+}
+
+/// Writes the product of an element and a scale, from code to bits if it is a number of `T`.
+#[inline(always)]
+fn write_one<T: Flagged, F: StorageFormat>(
+    format: BlockFormat,
+    most: Option<u32>,
+    scale: u8,
+    code: u8,
+    round: Round,
+    bytes: &mut [u8],
+) -> Outcome
+    requires coded { IfSome most (IsCodedAs format (storage_constants_of F.StorageFormat)) }
+    requires format { HasScale format }
+    requires code { IsNarrow format scale code }
+    requires written { T.PRECISION < T.BITS }
+    requires bytes { T.BITS ≤ 8 * length bytes.old }
+    ensures { IsScaledCode format (constants_of T.Flagged) round scale code bytes.new result }
+{
+    if has_width::<T>(bytes.len()) {
+        if let Some(most) = most {
+            if let Some(bits) = product_bits::<T, F>(scale, code, most) {
+                write_number(u128::from(bits), bytes);
+                return Outcome::EXACT;
+            }
+        }
+    }
+    write_scaled::<T>(format, scale, code, round, bytes)
+}
+
+/// The same for any product.
+#[inline(never)]
 fn write_scaled<T: Flagged>(
     format: BlockFormat,
     scale: u8,

@@ -17,7 +17,7 @@ use small_formats::blocks::{ElementFormat, greater, quotient_code};
 
 /// A power of two.
 #[inline(always)]
-fn power_of_two(places: usize) -> u32
+pub(crate) fn power_of_two(places: usize) -> u32
     requires { places < 32 }
     ensures { result ≡ 2 ^ places }
 {

@@ -5,6 +5,7 @@ ghost use Rattle.std.specs.Prelude.{◌≡◌, ◌⊎◌, ◌+◌, ◌-◌, ◌*
 ghost use Rattle.std.specs.Prelude.{false, not, eqb, ltb, if◌then◌else◌, IsTrue};
 ghost use Rattle.std.specs.Int.RustNames.{bit_and};
 ghost use Rattle.apfloat_model.specs.declared.kinds.NonfiniteBehavior.TheVariants.{IEEE754};
+ghost use Rattle.rustc_apfloat.specs.FlaggedTypes.{constants_of as flagged_constants_of};
 ghost use Rattle.rustc_apfloat.specs.{Flags.bits_of, Layout.datum_of};
 ghost use Rattle.rustc_apfloat.specs.Types.{constants_of, format_of, layout_of};
 ghost use Rattle.small_formats.specs.Conversions.{IsInto};
@@ -13,13 +14,13 @@ ghost use Rattle.apfloat_arrays.specs.stored.NumberCodes.{IsCodedNumber, IsWordS
 ghost use Rattle.apfloat_arrays.specs.stored.NumberCodes.{significand_of};
 
 use fast_bits::words::{WordPlan, round_word};
-use rustc_apfloat::ieee::{NonfiniteBehavior, Semantics};
+use rustc_apfloat::ieee::{Flagged, NonfiniteBehavior, Semantics};
 use rustc_apfloat::{Flags, Status, StatusAnd};
 use small_formats::StorageFormat;
 
 /// Whether the numbers of `S` have at most 24 digits and an implied integer bit.
 #[inline(always)]
-pub(crate) fn has_words<S: Semantics>() -> bool
+pub(crate) fn has_words<S: Flagged>() -> bool
     ensures { IsTrue result → (S.NONFINITE_BEHAVIOR ≡ IEEE754) × (S.EXPLICIT_INTEGER_BIT ≡ false)
         × (S.BITS ≤ 32) × (S.EXP_BITS ≤ 8) × (S.PRECISION ≤ 24) }
 {
@@ -32,7 +33,7 @@ pub(crate) fn has_words<S: Semantics>() -> bool
 
 /// Whether they have the digits of those of `F`.
 #[inline(always)]
-fn has_digits<S: Semantics, F: StorageFormat>() -> bool
+fn has_digits<S: Flagged, F: StorageFormat>() -> bool
     ensures { IsTrue result → F.PRECISION ≤ S.PRECISION }
 {
     F::PRECISION <= S::PRECISION
@@ -40,7 +41,7 @@ fn has_digits<S: Semantics, F: StorageFormat>() -> bool
 
 /// Whether the least exponent of `S` is at least that of singles.
 #[inline(always)]
-fn has_exponents<S: Semantics>() -> bool
+fn has_exponents<S: Flagged>() -> bool
     ensures { IsTrue result → negsuc 125 ≤ℤ S.MIN_EXP }
 {
     S::MIN_EXP >= -126
@@ -48,7 +49,7 @@ fn has_exponents<S: Semantics>() -> bool
 
 /// Whether it is at most that of `F`.
 #[inline(always)]
-fn is_finer<S: Semantics, F: StorageFormat>() -> bool
+fn is_finer<S: Flagged, F: StorageFormat>() -> bool
     ensures { IsTrue result → S.MIN_EXP ≤ℤ F.MIN_EXP }
 {
     S::MIN_EXP <= F::MIN_EXP
@@ -56,9 +57,9 @@ fn is_finer<S: Semantics, F: StorageFormat>() -> bool
 
 /// Whether the numbers of `S` become codes of `F` here.
 #[inline(always)]
-pub(crate) fn is_word_source<S: Semantics, F: StorageFormat>() -> bool
+pub(crate) fn is_word_source<S: Flagged, F: StorageFormat>() -> bool
     ensures { IsTrue result
-        → IsWordSource (constants_of S.Semantics) (storage_constants_of F.StorageFormat) }
+        → IsWordSource (flagged_constants_of S.Flagged) (storage_constants_of F.StorageFormat) }
 {
     has_words::<S>() & has_digits::<S, F>() & has_exponents::<S>() & is_finer::<S, F>()
 }
@@ -121,8 +122,8 @@ fn is_minus_in<S: Semantics>(bits: u32) -> bool
 
 /// The place of the numbers of `S` from which on a code has all its digits.
 #[inline(always)]
-pub(crate) fn first_place<S: Semantics, F: StorageFormat>() -> u32
-    requires { IsWordSource (constants_of S.Semantics) (storage_constants_of F.StorageFormat) }
+pub(crate) fn first_place<S: Flagged, F: StorageFormat>() -> u32
+    requires { IsWordSource (flagged_constants_of S.Flagged) (storage_constants_of F.StorageFormat) }
     ensures is { pos result ≡ F.MIN_EXP -ℤ S.MIN_EXP }
     ensures below { result ≤ 126 }
 {
@@ -141,7 +142,7 @@ fn placed<F: StorageFormat>(place: u32) -> u32
 
 /// How many codes have no sign.
 #[inline(always)]
-fn unsigned_codes<F: StorageFormat>() -> u32
+pub(crate) fn unsigned_codes<F: StorageFormat>() -> u32
     ensures is { result ≡ 2 ^ (F.BITS - 1) }
     ensures most { result ≤ 128 }
 {
@@ -150,7 +151,7 @@ fn unsigned_codes<F: StorageFormat>() -> u32
 
 /// How many of them have not all digits.
 #[inline(always)]
-fn denormal_codes<F: StorageFormat>() -> u32
+pub(crate) fn denormal_codes<F: StorageFormat>() -> u32
     ensures { result ≡ 2 ^ (F.PRECISION - 1) }
 {
     1_u32 << (F::PRECISION - 1)

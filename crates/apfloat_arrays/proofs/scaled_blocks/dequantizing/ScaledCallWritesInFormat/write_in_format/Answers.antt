@@ -1,64 +1,31 @@
-use Rattle.std.proofs.Common.{◌≡◌, ℕ, ◌*◌, ◌/◌, ◌≤◌, length, ◌∙◌, sym, subst, arith}
-use Rattle.rustc_apfloat.specs.FlaggedTypes.{constants_of}
-use Rattle.apfloat_arrays.specs.{Blocks.AreInPlaces, scaled_blocks.Dequantized.IsScaledAt}
-use Rattle.apfloat_arrays.proofs.Places.{place_size}
-use Rattle.apfloat_arrays.proofs.scaled_blocks_lemmas.Formats.{div_below, narrow_at}
-use Rattle.apfloat_arrays.proofs.scaled_blocks_lemmas.Scaled.{room_for, scaled_more, scaled_none}
+use Rattle.std.proofs.Common.{ap, sym, ◌∙◌, subst}
+use Rattle.std.specs.Prelude.{negsuc}
+use Rattle.small_formats.specs.Storage.{constants_with}
+use Rattle.small_formats.specs.blocks.Elements.{e2m1fn, e2m3fn, e3m2fn}
+use Rattle.apfloat_arrays.specs.declared.scaled_blocks.formats.BlockFormat.{BlockFormat, TheVariants.Mx}
+use Rattle.apfloat_arrays.specs.scaled_blocks.Products.{IsCodedAs}
+use Rattle.apfloat_arrays.proofs.scaled_blocks_lemmas.Elements.{coded_e2m1fn, coded_e2m3fn, coded_e3m2fn, coded_e4m3fn}
+use Rattle.apfloat_arrays.proofs.scaled_blocks_lemmas.Elements.{coded_e5m2}
 use Rattle.apfloat_arrays.proofs.scaled_blocks.dequantizing.ScaledCallWritesInFormat.write_in_format.Goals as goal
 
-pub loop-index-init : goal.loop-index-init
-loop-index-init g c =
-    scaled_none c.args.self.dequantization (constants_of g.T.Flagged) c.args.self.width c.args.self.scales.now
-    c.args.self.codes.now c.args.bytes.now
+pub write_each-requires-clause-coded : goal.write_each-requires-clause-coded
+write_each-requires-clause-coded g c =
+    subst (λ (b : BlockFormat). IsCodedAs b (constants_with 8 3 (negsuc 13)) 123)
+    (sym (c.in-Mx.is ∙ ap Mx c.in-E5M2.is)) coded_e5m2
 
-pub write_scaled-requires-clause-code : goal.write_scaled-requires-clause-code
-write_scaled-requires-clause-code g c =
-    let q = c.args.self.dequantization in
-    let index = c.loop-index.index in
-    narrow_at q.format c.args.self.scales.now c.args.self.codes.now (index / q.length) index c.requires.can.2
-    (div_below index (length c.args.self.scales.now) q.length (omega (arith, c.loop-index-test.true, c.requires.can.0)))
-    (omega (arith, c.loop-index-test.true))
+pub write_each-requires-in-E4M3FN-clause-coded : goal.write_each-requires-in-E4M3FN-clause-coded
+write_each-requires-in-E4M3FN-clause-coded g c =
+    subst (λ (b : BlockFormat). IsCodedAs b (constants_with 8 4 (negsuc 5)) 126)
+    (sym (c.in-Mx.is ∙ ap Mx c.in-E4M3FN.is)) coded_e4m3fn
 
-pub write_scaled-requires-clause-format : goal.write_scaled-requires-clause-format
-write_scaled-requires-clause-format g c = c.requires.can.1
+pub write_each-requires-in-E3M2FN-clause-coded : goal.write_each-requires-in-E3M2FN-clause-coded
+write_each-requires-in-E3M2FN-clause-coded g c =
+    subst (λ (b : BlockFormat). IsCodedAs b e3m2fn 31) (sym (c.in-Mx.is ∙ ap Mx c.in-E3M2FN.is)) coded_e3m2fn
 
-pub write_scaled-requires-clause-bytes : goal.write_scaled-requires-clause-bytes
-write_scaled-requires-clause-bytes g c =
-    let size : length c.loop-index.bytes ≡ length c.args.self.codes.now * c.args.self.width =
-    c.loop-index.auto.bytes ∙ c.requires.can.3 in
-    subst (λ (n : ℕ). g.T.Flagged.BITS ≤ 8 * n)
-    (sym (place_size c.args.self.width c.loop-index.index (length c.args.self.codes.now) c.loop-index.bytes
-    c.loop-index-test.true size)) c.requires.can.4
+pub write_each-requires-in-E2M3FN-clause-coded : goal.write_each-requires-in-E2M3FN-clause-coded
+write_each-requires-in-E2M3FN-clause-coded g c =
+    subst (λ (b : BlockFormat). IsCodedAs b e2m3fn 31) (sym (c.in-Mx.is ∙ ap Mx c.in-E2M3FN.is)) coded_e2m3fn
 
-pub count-requires : goal.count-requires
-count-requires g c =
-    let size = c.loop-index.invariant.places.size in
-    room_for c.loop-index.invariant.outcomes c.loop-index.counts c.loop-index.invariant.counted
-    (omega (arith, size, c.loop-index-test.true))
-
-pub loop-index-preserved : goal.loop-index-preserved
-loop-index-preserved g c =
-    let q = c.args.self.dequantization in
-    let size : length c.loop-index.bytes ≡ length c.args.self.codes.now * c.args.self.width =
-    c.loop-index.auto.bytes ∙ c.requires.can.3 in
-    let long : length c.write_scaled.new.bytes ≡ c.args.self.width =
-    c.write_scaled.auto.bytes
-    ∙ place_size c.args.self.width c.loop-index.index (length c.args.self.codes.now) c.loop-index.bytes
-    c.loop-index-test.true size in
-    rw c.count.ensures
-    (scaled_more q (constants_of g.T.Flagged) c.args.self.width c.args.self.scales.now c.args.self.codes.now
-    c.loop-index.index (length c.args.self.codes.now) c.loop-index.bytes c.write_scaled.new.bytes c.loop-index.counts
-    c.write_scaled.result c.loop-index-test.true size long c.write_scaled.ensures c.loop-index.invariant)
-
-pub returns : goal.returns
-returns g c =
-    let q = c.args.self.dequantization in
-    let made = c.loop-index.invariant in
-    let last : c.loop-index.index ≡ length c.args.self.codes.now =
-    omega (arith, c.loop-index-test.false, c.loop-index.auto.index-end) in
-    record {
-      outcomes = made.outcomes;
-      places = subst (λ (n : ℕ). AreInPlaces (IsScaledAt q (constants_of g.T.Flagged) c.args.self.scales.now
-          c.args.self.codes.now) c.args.self.width n c.loop-index.bytes made.outcomes) last made.places;
-      counted = made.counted;
-    }
+pub write_each-requires-in-E2M1FN-clause-coded : goal.write_each-requires-in-E2M1FN-clause-coded
+write_each-requires-in-E2M1FN-clause-coded g c =
+    subst (λ (b : BlockFormat). IsCodedAs b e2m1fn 7) (sym (c.in-Mx.is ∙ ap Mx c.in-E2M1FN.is)) coded_e2m1fn
