@@ -8,6 +8,7 @@ pub mod KnownRequests
 pub mod NumberAnswers
 pub mod EncodedNumbers
 pub mod ExportsOnce
+pub mod RulesOfSources
 pub mod IeeeOnce
 pub mod MachineOnce
 pub mod FlaglessOnce
