@@ -47,7 +47,7 @@ ROWS = (
     ('storage formats', 'StoredFloat', 'StoredFloat', r'apfloat_to_storage|APFLOAT_E2M1FN', 'stored', r'Stored\w*',
      'e2m1fn'),
     ('blocks of MX', 'quantize_block', 'Block', 'apfloat_quantize_blocks', 'quantize_blocks', 'mx', '--block'),
-    ('blocks of NVFP4', 'quantize_nvfp4_block', 'Nvfp4Block', r'apfloat_\w*nvfp4\w*', r'\w*nvfp4\w*', r'\w*nvfp4\w*',
+    ('blocks of NVFP4', 'quantize_nvfp4_block', 'Nvfp4Block', r'apfloat_\w*nvfp4\w*', 'quantize_nvfp4', r'\w*nvfp4\w*',
      'quantize_nvfp4_block'),
     ('formats of P3109', 'Projected', 'Projected', r'apfloat_\w*(?:p3109|project)\w*|APFLOAT_BINARY\w+',
      r'\w*(?:p3109|project)\w*', r'\w*(?:p3109|project)\w*', 'binary8p3se'),

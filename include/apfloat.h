@@ -99,6 +99,9 @@ typedef enum apfloat_format APFLOAT_CODE {
     APFLOAT_E8M0FNU = 48, /* 8 bits: the powers of two from 2^-127 to 2^127, and a NaN; no sign, no zero */
     APFLOAT_UE4M3 = 49,   /* 7 bits: the numbers of APFLOAT_E4M3FN that are not below zero, and a NaN */
 
+    /* Of apfloat_dot_blocks alone, in the place of a format of elements: blocks of NVFP4. */
+    APFLOAT_NVFP4 = 64,
+
     /* Joined to the code of a format by |, these choose by which rule its roundings raise APFLOAT_OVERFLOW and
      * APFLOAT_UNDERFLOW. No value depends on the rule. Without them, a result that a mode rounds to the largest value
      * raises no APFLOAT_OVERFLOW, and an inexact result raises APFLOAT_UNDERFLOW if it is below the smallest normal
@@ -862,6 +865,18 @@ apfloat_error apfloat_dequantize_nvfp4(uint32_t tensor, apfloat_mode mode, apflo
                                        const uint8_t *scales, size_t scales_length, const uint8_t *codes,
                                        size_t codes_length, uint8_t *results, size_t results_length,
                                        apfloat_array_answer *answer);
+
+/* The exact dot product of two vectors in blocks: the sum of the products of the elements at the same places, each
+ * times its scales, rounded once to `format`, in `bits`, with the flags of that rounding; `number` is 0. Blocks of both
+ * may differ in format and length. A tensor is that of APFLOAT_NVFP4; in MX it is ignored. What is said of exact sums
+ * holds, but a NaN, also one of a scale, gives the quiet NaN without a payload, and raises no flag; an infinity raises
+ * APFLOAT_INEXACT in a format without infinities. APFLOAT_WRONG_LENGTH says also that the vectors have different
+ * numbers of elements. */
+apfloat_error apfloat_dot_blocks(apfloat_format format, apfloat_mode mode, apfloat_format x_element, uint32_t x_tensor,
+                                 size_t x_length, const uint8_t *x_scales, size_t x_scales_length,
+                                 const uint8_t *x_codes, size_t x_codes_length, apfloat_format y_element,
+                                 uint32_t y_tensor, size_t y_length, const uint8_t *y_scales, size_t y_scales_length,
+                                 const uint8_t *y_codes, size_t y_codes_length, apfloat_answer *answer);
 
 /* Codes of 4 bits two in a byte, the first one in its low half, and of 6 bits four in three bytes, from the lowest bit
  * of the first byte on; and the codes again, one in a byte. There is nothing to pack of elements of 8 bits

@@ -3035,6 +3035,45 @@ expected<array_counts> dequantize_nvfp4(const value<e4m3fn> *scales, const store
     return detail::counts_of(code, answer);
 }
 
+/// A vector in blocks of `length` elements of a microscaling format: the scale of each block, and the codes of the
+/// elements.
+template <class Code>
+struct mx_vector {
+    static_assert(detail::is_element<typename Code::format>::value, "this is no format of elements in blocks");
+    const stored<e8m0fnu> *scales;
+    const Code *codes;
+    std::size_t length;
+    static constexpr apfloat_format element = Code::format::code;
+    static constexpr value<binary32> tensor = {};
+};
+
+/// A vector in blocks of NVFP4, and the scale of its tensor.
+struct nvfp4_vector {
+    const value<e4m3fn> *scales;
+    const stored<e2m1fn> *codes;
+    value<binary32> tensor;
+    std::size_t length = nvfp4_block;
+    static constexpr apfloat_format element = APFLOAT_NVFP4;
+};
+
+/// The exact dot product of two vectors of `count` elements in blocks, whatever their formats and lengths, rounded once
+/// to the format `To` (apfloat.h). Errors are those of dequantize_blocks and dequantize_nvfp4.
+template <class To, class X, class Y>
+expected<result<value<To>>> dot_blocks(const X &x, const Y &y, std::size_t count,
+                                       rounding mode = rounding::nearest_even) noexcept {
+    const bool are_there = x.scales != nullptr && x.codes != nullptr && y.scales != nullptr && y.codes != nullptr;
+    const bool is_missing = count != 0 && !are_there;
+    const std::size_t present = is_missing ? 0 : count;
+    return detail::exact_sum<To>(
+        apfloat_dot_blocks, mode, is_missing, X::element, x.tensor.bits(), x.length, detail::bytes_of(x.scales),
+        detail::blocks_of(present, x.length), detail::bytes_of(x.codes), present, Y::element, y.tensor.bits(),
+        y.length, detail::bytes_of(y.scales), detail::blocks_of(present, y.length), detail::bytes_of(y.codes), present);
+}
+template <class To, class X, class Y>
+expected<value<To>> dot_blocks(const X &x, const Y &y, std::size_t count, gather &with) noexcept {
+    return detail::joined(dot_blocks<To>(x, y, count, with.mode()), with);
+}
+
 /// The scale of a tensor of NVFP4: the greatest magnitude over 2688, rounded once to nearest, at most the largest
 /// value, and 1 in place of 0. If a value is an infinity or a NaN, the error is no_such_operation.
 template <class From>

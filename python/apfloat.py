@@ -265,6 +265,7 @@ def _parameters() -> dict[str, list[Any]]:
         'map_array_by_table': [code, code, code, *array * 5, ctypes.POINTER(_ArrayAnswer)],
         **dict.fromkeys(('sum', 'sum_abs', 'sum_square'), [code, code, *array, answer]),
         'dot': [code, code, *array * 2, answer],
+        'dot_blocks': [code, code, *[code, code, length, *array * 2] * 2, answer],
         **dict.fromkeys(('quantize_blocks', 'dequantize_blocks', 'quantize_nvfp4', 'dequantize_nvfp4'),
                         [code, code, code, length, *array * 3, ctypes.POINTER(_ArrayAnswer)]),
         **dict.fromkeys(('pack_codes', 'unpack_codes'), [code, *array * 2]),
@@ -3088,6 +3089,38 @@ class Blocks:
     def _dequantized(self, format: Format | None) -> Array:
         return mx.dequantize(self.scales, self.codes, self.block, format, self.axis)
 
+    def dot(self, other: Blocks, format: Format | None = None) -> Any:
+        """The dot products of the vectors in blocks of both: the exact sums of the products of their elements, each
+        times its scales, rounded once to the format, `single` if none is given, in the mode of the context. Blocks of
+        both may differ. The other axes of both are those of the result.
+
+        >>> xs, ys = mx.quantize([[3.0, 1e4], [0.5, 2]], 'e2m1', block=2), nvfp4.quantize([6.0, 3], tensor=1, pad=True)
+        >>> xs.dot(ys), mx.quantize([1, 2, 3], block=2, pad=True).dot(mx.quantize([4, 5, 6], block=3), half)
+        (single.array(['24576.0', '9.0']), half('32.0'))
+        """
+        target, mode = single if format is None else format, context().mode
+        (left, rows), (right, columns) = self._vectors(), other._vectors()
+        made = [_whole(_call('dot_blocks', target.code, mode, *x, *y).bits) for x in left for y in right]
+        shape = rows + columns
+        return Array(target, target._joined(made), None, shape) if shape else Value(target, made[0])
+
+    def _vectors(self) -> tuple[list[tuple[Any, ...]], tuple[int, ...]]:
+        """What the library is told of each vector, without what fills its last block, and the shape of the others."""
+        last = len(self.shape) - 1
+        place = _axis(self.axis, last + 1)
+        count = self.shape[place]
+        # Blocks that a shorter length divides, with the same scale in several of them.
+        length = math.gcd(self.block, count)
+        scales, codes = self.scales._moved(place, last), self.codes._moved(place, last)
+        vectors = []
+        for by, row in zip(scales._last_rows(), codes._last_rows()):
+            each = bytes(scale for scale in by for _ in range(self.block // length))[:count // length]
+            vectors.append((*self._scaling(), length, each, len(each), row[:count], count))
+        return vectors, codes.shape[:-1]
+
+    def _scaling(self) -> tuple[int, int]:
+        return self.codes.format.code, 0
+
     def packed(self) -> bytes:
         """The codes packed: of 4 bits two in a byte, of 6 bits four in three bytes, and those of 8 bits as they are."""
         return mx.pack(self.codes)
@@ -3183,6 +3216,9 @@ class Nvfp4Blocks(Blocks):
     def _dequantized(self, format: Format | None) -> Array:
         return nvfp4.dequantize(self.scales, self.codes, self.tensor, format, self.axis)
 
+    def _scaling(self) -> tuple[int, int]:
+        return _NVFP4, self.tensor.bits
+
 
 class nvfp4:
     """NVFP4: blocks of 16 elements of `float4_e2m1fn`, each with a scale of `e4m3fn`, and one of their tensor.
@@ -3234,6 +3270,8 @@ class nvfp4:
 
 
 _NVFP4_BLOCK = 16
+# The code of its blocks in the place of a format of elements.
+_NVFP4 = 64
 
 
 def _single_of(number: Any) -> Value:

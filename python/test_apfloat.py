@@ -1819,6 +1819,45 @@ class Nvfp4Tests(unittest.TestCase):
             form = getattr(form, rule)
         return form
 
+    @staticmethod
+    def vector(words):
+        """A vector in blocks, as a row of dot products has it."""
+        name, length, *digits = words.split()
+        scales, codes = (bytes.fromhex(each.strip('-')) for each in digits)
+        if name.startswith('NVFP4'):
+            made = apfloat.Nvfp4Blocks(apfloat.e4m3fn.from_bits(scales), apfloat.float4_e2m1fn.from_bits(codes),
+                                       int(length), {})
+            made.tensor = apfloat.single.from_bits(int(name[6:], 16))
+            return made
+        elements = {'E5M2': apfloat.e5m2, 'E4M3FN': apfloat.e4m3fn, 'E3M2FN': apfloat.float6_e3m2fn,
+                    'E2M3FN': apfloat.float6_e2m3fn, 'E2M1FN': apfloat.float4_e2m1fn}
+        return apfloat.Blocks(apfloat.float8_e8m0fnu.from_bits(scales), elements[name].from_bits(codes), int(length),
+                              {})
+
+    def test_dots(self):
+        # Rows of dot products (evidence/block_dots.py) of two vectors of one length.
+        rows = [row for row in self.rows('rows', 'by_crate', 'block_dots.tsv') if row[2] != '-']
+        self.assertGreater(len(rows), 2000)
+        for _, name, mode, operands, wanted, flags, _ in rows:
+            left, right = map(self.vector, operands.split(' / '))
+            with Context(self.MODES.get(mode, MODES[0])) as context:
+                found = left.dot(right, self.format(name))
+            self.assertEqual((found.bits, str(context.flags.name or 'OK')), (int(wanted, 16), flags), operands)
+
+    def test_dots_along_axes(self):
+        xs = [[drawn % 7 - 3 for drawn in range(at, at + 9)] for at in range(2)]
+        ys = [[[at * each % 5 - 2, each] for each in range(-4, 5)] for at in range(3)]
+        left = apfloat.mx.quantize(xs, 'e2m3', 4, pad=True)
+        for right in (apfloat.mx.quantize(ys, 'e2m3', 2, axis=1, pad=True), apfloat.mx.quantize(ys, axis=1, block=9),
+                      apfloat.mx.quantize(ys, axis=-2, pad=True)):
+            found = left.dot(right, apfloat.half)
+            wanted = [[[sum(x * y[at] for x, y in zip(row, of)) for at in range(2)] for of in ys] for row in xs]
+            self.assertEqual((found.shape, found.tolist()), ((2, 3, 2), wanted))
+        self.assertEqual((left.dot(left).format, left.dot(left).shape), (apfloat.single, (2, 2)))
+        for wrong in apfloat.mx.quantize([1.0] * 8, block=8), apfloat.nvfp4.quantize([1.0] * 16):
+            self.assertRaises(apfloat.Refused, left.dot, wrong)
+        self.assertRaises(apfloat.Refused, left.dot, left, apfloat.double_pair)
+
     def test_rows(self):
         # The calls of C (tests/c/check_blocks.c has what the columns say).
         for call, name, mode, by, *numbers, counted, nans, flags in self.rows('c', 'blocks'):

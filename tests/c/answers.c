@@ -218,7 +218,7 @@ static const char *const names[] = {
     "machine",   "read_decimal", "write_digits", "digit_count", "write_hex", "write_hex_rounded", "format_facts",
     "pair_to_format", "pair_from_format", "pair_fma", "pair_shortest", "augmented", "payload",
     "convert_array", "map_array", "quantize_blocks", "dequantize_blocks", "pack_codes", "unpack_codes",
-    "sum", "sum_abs", "sum_square", "dot"};
+    "sum", "sum_abs", "sum_square", "dot", "dot_blocks"};
 #define KINDS (sizeof names / sizeof names[0])
 
 static void call_on_arrays(uint32_t kind) {
@@ -311,6 +311,27 @@ static void call_for_sum(uint32_t kind) {
     case 2: CALL(apfloat_sum_square, format, mode, operands[0], first); break;
     default: CALL(apfloat_dot, format, mode, operands[0], first, operands[1], second); break;
     }
+}
+
+/* Vectors in blocks of the same number of elements. */
+static void call_on_vectors(void) {
+    uint8_t scales[2][12], codes[2][12];
+    uint32_t elements[2], tensors[2], lengths[2], count = 12 / (1 + below(3));
+    for (size_t i = 0; i < 2; i++) {
+        elements[i] = below(3) == 0 ? APFLOAT_NVFP4 : draw_element();
+        tensors[i] = (uint32_t)draw() >> (below(16) ? 1 : 0);
+        lengths[i] = 1 + below(4);
+        uint32_t bits = elements[i] == APFLOAT_E2M1FN || elements[i] == APFLOAT_NVFP4 ? 4
+                        : elements[i] < APFLOAT_E2M1FN                                ? 8
+                                                                                      : 6;
+        for (size_t n = 0; n < 12; n++) {
+            scales[i][n] = (uint8_t)((below(4) ? 119 + below(16) : draw()) & (below(64) ? 127 : 255));
+            codes[i][n] = (uint8_t)(draw() & (below(64) ? (1u << bits) - 1 : 255));
+        }
+    }
+    CALL(apfloat_dot_blocks, draw_format(), draw_mode(), elements[0], tensors[0], lengths[0], scales[0],
+         count / lengths[0], codes[0], count, elements[1], tensors[1], lengths[1], scales[1], count / lengths[1],
+         codes[1], count);
 }
 
 static void call_on_digits(uint32_t kind, uint32_t format, uint32_t mode, apfloat_halves x) {
@@ -436,6 +457,7 @@ static void call(size_t kind) {
     case 59:
     case 60:
     case 61: call_on_blocks((uint32_t)kind - 58); break;
+    case 66: call_on_vectors(); break;
     default: call_for_sum((uint32_t)kind - 62); break;
     }
 }

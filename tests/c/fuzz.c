@@ -481,6 +481,27 @@ static void sums(void) {
     returned("a sum", 1, NULL, NULL, NULL);
 }
 
+/* Vectors in blocks, mostly of as many elements. */
+static void dots(void) {
+    static const size_t some[] = {1, 2, 3, 4, 6, 12, 0};
+    area *scales[2], *codes[2];
+    uint32_t element[2], tensor[2];
+    size_t length[2], count = 12 * below(below(3) ? 3 : 50);
+    for (int i = 0; i < 2; i++) {
+        length[i] = some[below(below(8) ? 6 : 7)];
+        element[i] = below(3) ? 32 + below(3) : below(8) ? APFLOAT_NVFP4 : format();
+        tensor[i] = (uint32_t)random_word() >> (below(8) ? 2 : 0);
+        scales[i] = lend(i, fitting(length[i] ? count / length[i] : below(5), 1));
+        codes[i] = lend(2 + i, fitting(count, 1));
+        for (size_t at = 0; at < codes[i]->length; at++) codes[i]->first[at] &= below(2000) ? 15 : 255;
+        for (size_t at = 0; at < scales[i]->length; at++) scales[i]->first[at] &= below(2000) ? 127 : 255;
+    }
+    remember();
+    ONE(apfloat_dot_blocks, format(), mode(), element[0], tensor[0], length[0], LENT(scales[0]), LENT(codes[0]),
+        element[1], tensor[1], length[1], LENT(scales[1]), LENT(codes[1]));
+    returned("a dot product of blocks", 1, NULL, NULL, NULL);
+}
+
 int main(int count, char **words) {
     unsigned long calls = 0;
     time_t end = time(NULL) + (count > 2 ? atoi(words[2]) : 2);
@@ -496,7 +517,7 @@ int main(int count, char **words) {
         switch (below(9)) {
         case 0: arrays(); break;
         case 1: texts(); break;
-        case 2: sums(); break;
+        case 2: below(4) ? sums() : dots(); break;
         case 3: in_place(); break;
         default: values();
         }

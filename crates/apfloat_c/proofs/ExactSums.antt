@@ -7,6 +7,8 @@ use Rattle.std.specs.Prelude.{◌==◌, if◌then◌else◌, ok_or}
 use Rattle.rustc_apfloat.specs.{declared.Round.Round, declared.StatusAnd.StatusAnd, Datum.Datum, Determined.Determines}
 use Rattle.rustc_apfloat.specs.{Flags.Gives, Format.Format, Lawful.Constants, Lawful.format_with}
 use Rattle.apfloat_model.specs.rounding.Outcome.{Outcome}
+use Rattle.exact_reductions.specs.{BlockDots.IsDotCallOnce, declared.BlockVector.BlockVector}
+use Rattle.exact_reductions.specs.declared.DotError.{DotError}
 use Rattle.exact_reductions.specs.Reductions.{IsReducible, IsTotal, Tally, joined, magnitude_of, magnitude_terms}
 use Rattle.exact_reductions.specs.Reductions.{no_terms, product_terms, tally, tally_of, value_terms}
 use Rattle.exact_reductions.proofs.Laws.{total_once}
@@ -19,12 +21,13 @@ use Rattle.formats_at_run_time.specs.declared.FlaggedFormat.TheVariants.{BuiltIn
 use Rattle.formats_at_run_time.specs.declared.FlaggedKind.{FlaggedKind, TheVariants.OfFormat, TheVariants.Pairs}
 use Rattle.formats_at_run_time.proofs.FormatLaws.{HasLaw, format_law}
 use Rattle.apfloat_arrays.specs.{Blocks.value_at, Bytes.number_of}
-use Rattle.coded_calls.specs.declared.data.Answer.{Answer}
+use Rattle.coded_calls.specs.{declared.data.Answer.Answer, OneReply.SameAnswer}
 use Rattle.coded_calls.specs.KnownCalls.{◌>>=◌, no_such_operation}
 use Rattle.coded_calls.proofs.ExportsOnce.{OnceAnswer, format_determined, unchanged, value_once}
 use Rattle.apfloat_c.specs.declared.reductions.{KnownReduction.KnownReduction, Reduction.Reduction}
 use Rattle.apfloat_c.specs.declared.reductions.Reduction.TheVariants.{Sum, Magnitudes, Products}
 use Rattle.apfloat_c.specs.ArrayCalls.{bytes_in}
+use Rattle.apfloat_c.specs.Reductions.{IsDotBlocksCallOnce, IsDotReply, IsDotWritten}
 use Rattle.apfloat_c.specs.Reductions.{IsReducedArray, IsReducedCall, IsReducedCallOnce, IsReducedIn, IsReductionOf}
 use Rattle.apfloat_c.specs.Reductions.{fitting_sum, known_reduction, sums_fit, term_of, values_from}
 use Rattle.apfloat_c.proofs.ArrayCalls.{if_fitting_ok}
@@ -206,3 +209,32 @@ reduced_call_once reduction (Ok known) xs ys old a b code other x y = (
   x.0 ∙ sym y.0,
   reduced_once (flagged_constants known.format) (format_law known.format) reduction known.round _ _ a b x.1 y.1,
 )
+
+written_once : (c : Constants) → HasLaw c → (mode : Round) (made : Result (StatusAnd Datum) DotError)
+    (old a b : Answer) (code other : ℕ) → IsDotWritten c made old a code → IsDotWritten c made old b other
+    → (code ≡ other) × SameAnswer a b
+written_once c has mode (Err error) old a b code other x y = (x.0 ∙ sym y.0, unchanged old a b x.1 y.1)
+written_once c has mode (Ok given) old a b code other x y = (
+  x.0 ∙ sym y.0,
+  value_once (in_format c) mode c.precision c.bits has.wide (format_determined c has mode)
+      (λ (g : StatusAnd Datum). g ≡ given) (λ g k e f. e ∙ sym f) a b
+      (record { given = given; holds = refl; is_written = x.1 })
+      (record { given = given; holds = refl; is_written = y.1 }),
+)
+
+reply_once : IsDotCallOnce → (c : Constants) → HasLaw c → (mode : Round) (x y : BlockVector) (old a b : Answer)
+    (code other : ℕ) → IsDotReply c mode x y old a code → IsDotReply c mode x y old b other
+    → (code ≡ other) × SameAnswer a b
+reply_once once c has mode x y old a b code other p q =
+    let same = once (format_with c) mode x y p.made q.made p.is_made q.is_made in
+    written_once c has mode p.made old a b code other p.is_written
+    (subst (λ (m : Result (StatusAnd Datum) DotError). IsDotWritten c m old b other) (sym same) q.is_written)
+
+pub dot_blocks_call_once : IsDotCallOnce → IsDotBlocksCallOnce
+dot_blocks_call_once once (Ok known) (Ok x) (Ok y) old a b code other p q =
+    reply_once once (flagged_constants known.format) (format_law known.format) known.round x y old a b code other p q
+dot_blocks_call_once once (Ok known) (Ok x) (Err error) old a b code other p q =
+    (p.0 ∙ sym q.0, unchanged old a b p.1 q.1)
+dot_blocks_call_once once (Ok known) (Err error) y old a b code other p q =
+    (p.0 ∙ sym q.0, unchanged old a b p.1 q.1)
+dot_blocks_call_once once (Err error) x y old a b code other p q = (p.0 ∙ sym q.0, unchanged old a b p.1 q.1)

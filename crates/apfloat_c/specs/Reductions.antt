@@ -1,20 +1,27 @@
 -- Exact sums of arrays, rounded once.
 use Rattle.std.specs.Prelude.{◌≡◌, ℕ, zero, suc, ◌+◌, ◌/◌, ◌%◌, ◌==◌, Bool, true, false, ◌&&◌, if◌then◌else◌, List, []}
-use Rattle.std.specs.Prelude.{◌∷◌, length, Option, Some, None, ok_or, Result, Ok, Err}
-use Rattle.rustc_apfloat.specs.{declared.Round.Round, Datum.Datum, Flags.Gives, Format.Format}
+use Rattle.std.specs.Prelude.{◌∷◌, length, Option, Some, None, ok_or, Result, Ok, Err, not, pos}
+use Rattle.std.specs.Borrow.{Bor}
+use Rattle.rustc_apfloat.specs.{declared.Round.Round, declared.StatusAnd.StatusAnd, Datum.Datum, Flags.Gives}
+use Rattle.rustc_apfloat.specs.Format.{Format}
 use Rattle.rustc_apfloat.specs.Lawful.{Constants, format_with}
 use Rattle.apfloat_model.specs.{rounding.Outcome.Outcome, arithmetic.Products.product}
 use Rattle.exact_reductions.specs.Reductions.{IsDot, IsSumOf, IsSumOfMagnitudes, magnitude_of, value_term}
+use Rattle.exact_reductions.specs.{BlockDots.IsDotCall, BlockDots.tensor_of, declared.BlockVector.BlockVector}
+use Rattle.exact_reductions.specs.declared.{BlockScaling.BlockScaling, BlockScaling.TheVariants.Mx}
+use Rattle.exact_reductions.specs.declared.{BlockScaling.TheVariants.Nvfp4, DotError.DotError}
+use Rattle.exact_reductions.specs.declared.DotError.TheVariants.{LengthsDiffer, NotBlocks}
+use Rattle.small_formats.specs.blocks.Nvfp4.{is_positive}
 use Rattle.formats_at_run_time.specs.{FlaggedKinds.flagged_constants, Relations.in_format, ValueKinds.value_of}
 use Rattle.formats_at_run_time.specs.declared.{FlaggedFormat.FlaggedFormat, FlaggedKind.FlaggedKind}
 use Rattle.formats_at_run_time.specs.declared.FlaggedKind.TheVariants.{OfFormat, Pairs}
 use Rattle.apfloat_arrays.specs.{Blocks.value_at, Bytes.number_of}
-use Rattle.coded_calls.specs.{declared.data.Answer.Answer, Answers.IsValue}
+use Rattle.coded_calls.specs.{declared.data.Answer.Answer, Answers.IsValue, Answers.IsValueWritten}
 use Rattle.coded_calls.specs.KnownCalls.{◌>>=◌, answered, no_such_operation, unknown_format, unknown_mode}
-use Rattle.coded_calls.specs.OneReply.{SameAnswer}
+use Rattle.coded_calls.specs.{MachineCalls.wide_operand, OneReply.SameAnswer}
 use Rattle.apfloat_c.specs.declared.reductions.{KnownReduction.KnownReduction, Reduction.Reduction}
 use Rattle.apfloat_c.specs.declared.reductions.Reduction.TheVariants.{Sum, Magnitudes, Products}
-use Rattle.apfloat_c.specs.ArrayCalls.{bytes_in, if_fitting}
+use Rattle.apfloat_c.specs.{ArrayCalls.bytes_in, ArrayCalls.if_fitting, ArrayCalls.wrong_length, Blocks.element_coded}
 
 -- ---- what a call asks for
 
@@ -78,3 +85,51 @@ IsReducedCallOnce =
     (reduction : Reduction) (known : Result KnownReduction ℕ) (xs ys : List ℕ) (old first second : Answer)
     (code other : ℕ) → IsReducedCall reduction known xs ys old first code
     → IsReducedCall reduction known xs ys old second other → (code ≡ other) × SameAnswer first second
+
+-- ---- dot products of vectors in blocks
+
+-- the code 64 is that of NVFP4
+abbrev pub scaling_coded : ℕ → ℕ → Result BlockScaling ℕ
+scaling_coded element tensor =
+    if element == 64 then Ok (Nvfp4 tensor)
+    else (ok_or (element_coded element) unknown_format >>= λ known. Ok (Mx known))
+
+-- blocks have elements, each code is in a block, and each block has a scale
+abbrev pub are_blocks : ℕ → ℕ → ℕ → Bool
+are_blocks size scales codes = not (size == 0) && (codes % size == 0) && (scales == codes / size)
+
+-- The faults in their order: the format of the elements, the lengths, the scale of the tensor.
+abbrev pub vector_coded : ℕ → ℕ → ℕ → Bor (List ℕ) → Bor (List ℕ) → Result BlockVector ℕ
+vector_coded element tensor size scales codes =
+    scaling_coded element tensor >>= λ known.
+    if_fitting (are_blocks size (length scales.now) (length codes.now)) known >>= λ scaling.
+    if (element == 64) && not (is_positive (tensor_of tensor)) then Err no_such_operation
+    else Ok (record { scaling = scaling; length = size; scales = scales; codes = codes })
+
+-- of vectors whose lengths and tensors have no fault
+abbrev pub dot_error : DotError → ℕ
+dot_error LengthsDiffer = wrong_length
+dot_error NotBlocks = wide_operand
+
+abbrev pub IsDotWritten : Constants → Result (StatusAnd Datum) DotError → Answer → Answer → ℕ → Type 0
+IsDotWritten c (Ok given) old new code = (code ≡ answered) × IsValueWritten (in_format c) given (pos 0) new
+IsDotWritten c (Err error) old new code = (code ≡ dot_error error) × (new ≡ old)
+
+pub record IsDotReply (c : Constants) (mode : Round) (x y : BlockVector) (old new : Answer) (code : ℕ) : Type 0 where
+  pub made : Result (StatusAnd Datum) DotError
+  pub is_made : IsDotCall (format_with c) mode x y made
+  pub is_written : IsDotWritten c made old new code
+
+abbrev pub IsDotBlocksCall : Result KnownReduction ℕ → Result BlockVector ℕ → Result BlockVector ℕ → Answer → Answer
+    → ℕ → Type 0
+IsDotBlocksCall (Ok known) (Ok x) (Ok y) old new code =
+    IsDotReply (flagged_constants known.format) known.round x y old new code
+IsDotBlocksCall (Ok known) (Ok x) (Err error) old new code = (code ≡ error) × (new ≡ old)
+IsDotBlocksCall (Ok known) (Err error) y old new code = (code ≡ error) × (new ≡ old)
+IsDotBlocksCall (Err error) x y old new code = (code ≡ error) × (new ≡ old)
+
+abbrev pub IsDotBlocksCallOnce : Type 0
+IsDotBlocksCallOnce =
+    (known : Result KnownReduction ℕ) (x y : Result BlockVector ℕ) (old first second : Answer) (code other : ℕ)
+    → IsDotBlocksCall known x y old first code → IsDotBlocksCall known x y old second other
+    → (code ≡ other) × SameAnswer first second

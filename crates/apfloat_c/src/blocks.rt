@@ -25,7 +25,7 @@ const CEIL: u32 = 0x1000;
 const EVEN: u32 = 0x2000;
 
 /// The element format with this code.
-fn element_coded(code: u32) -> Option<ElementFormat>
+pub(crate) fn element_coded(code: u32) -> Option<ElementFormat>
     ensures { result ≡ element_coded code }
 {
     match code {

@@ -6,12 +6,14 @@ ghost use Rattle.apfloat_c.specs.Digits.{AreDigitsWrittenOnce, IsCountGivenOnce,
 ghost use Rattle.apfloat_c.specs.{Facts.AreFactsOnce, OneAnswer.IsConvertedArrayOnce, OneAnswer.IsDequantizedCallOnce};
 ghost use Rattle.apfloat_c.specs.OneAnswer.{IsErrorTextOnce, IsMappedArrayOnce, IsPackedCallOnce, IsParsedOnce};
 ghost use Rattle.apfloat_c.specs.OneAnswer.{IsQuantizedCallOnce, IsTextOnce, IsUnpackedCallOnce};
-ghost use Rattle.apfloat_c.specs.{Pairs.ArePairCallsOnce, Readings.IsDecimalReadOnce, Reductions.IsReducedCallOnce};
+ghost use Rattle.apfloat_c.specs.{Pairs.ArePairCallsOnce, Readings.IsDecimalReadOnce};
+ghost use Rattle.apfloat_c.specs.Reductions.{IsDotBlocksCallOnce, IsReducedCallOnce};
 ghost use Rattle.apfloat_c.specs.StorageModes.{IsModeArrayOnce, IsModeReplyOnce};
 ghost use Rattle.apfloat_c.specs.{StorageOperations.IsOperationReplyOnce, StorageValues.IsStorageReplyOnce};
 
 use apfloat_arithmetic::other_formats::theorems::operations_have_one_answer;
 use apfloat_digits::of_double_doubles::pair_shortest_reads_back;
+use exact_reductions::block_dots_have_one_answer;
 use ieee_operations::augmented::{
     augmented_differences_have_one_answer, augmented_products_have_one_answer,
     augmented_sums_have_one_answer,
@@ -49,6 +51,7 @@ pub fn one_answer()
     ensures converted { IsConvertedArrayOnce }
     ensures mapped { IsMappedArrayOnce }
     ensures reduced { IsReducedCallOnce }
+    ensures block_dots { IsDotBlocksCallOnce }
     ensures stored { IsStorageReplyOnce }
     ensures operated { IsOperationReplyOnce }
     ensures stored_by_mode { IsModeReplyOnce }
@@ -71,4 +74,5 @@ pub fn one_answer()
     scales_by_mode_have_one_answer();
     unsigned_conversions_by_mode_have_one_answer();
     packed_codes_have_one_answer();
+    block_dots_have_one_answer();
 }

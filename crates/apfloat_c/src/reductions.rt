@@ -1,5 +1,5 @@
 //! Exact sums of arrays (IEEE 754-2019 9.4), rounded once, for C programs: of values, of their magnitudes, of their
-//! squares, and of products.
+//! squares, and of products, also of vectors in blocks.
 
 ghost use Rattle.std.specs.Prelude.{◌≡◌, ◌+◌, ◌*◌, ◌^◌, ◌<◌, ◌≤◌, length, pos};
 ghost use Rattle.rustc_apfloat.specs.{FlaggedTypes.constants_of, FlaggedTypes.format_of, Lawful.format_with};
@@ -8,17 +8,27 @@ ghost use Rattle.formats_at_run_time.specs.{FlaggedKinds.flagged_kind_coded, For
 ghost use Rattle.formats_at_run_time.specs.Relations.{in_format};
 ghost use Rattle.coded_calls.specs.Answers.{IsValueWritten};
 ghost use Rattle.apfloat_c.specs.declared.reductions.Reduction.TheVariants.{Sum, Magnitudes, Products};
-ghost use Rattle.apfloat_c.specs.Reductions.{IsReducedCall, IsReducedIn, known_reduction, reducible_format, sums_fit};
-ghost use Rattle.apfloat_c.specs.Reductions.{term_of, values_from};
+ghost use Rattle.apfloat_c.specs.Reductions.{IsDotBlocksCall, IsDotReply, IsReducedCall, IsReducedIn, known_reduction};
+ghost use Rattle.apfloat_c.specs.Reductions.{term_of, values_from, vector_coded};
 
 use crate::array_calls::bytes_in;
+use crate::blocks::element_coded;
 use crate::elements::number_at;
-use coded_calls::codes::{ANSWERED, NO_SUCH_OPERATION, UNKNOWN_FORMAT, UNKNOWN_MODE, WRONG_LENGTH};
+use coded_calls::codes::{
+    ANSWERED, NO_SUCH_OPERATION, UNKNOWN_FORMAT, UNKNOWN_MODE, WIDE_OPERAND, WRONG_LENGTH,
+};
 use coded_calls::data::Answer;
-use exact_reductions::{ExactSum, NARROW_WORDS, WIDE_WORDS, are_enough};
-use formats_at_run_time::{FlaggedFormat, FlaggedKind, WritesInFormat, mode_coded};
-use rustc_apfloat::ieee::{Flagged, IeeeFloat};
+use exact_reductions::{
+    BlockScaling, BlockVector, DotError, ExactSum, NARROW_WORDS, WIDE_WORDS, are_enough,
+    dot_blocks_r,
+};
+use formats_at_run_time::{FillsInFormat, FlaggedFormat, FlaggedKind, WritesInFormat, mode_coded};
+use rustc_apfloat::ieee::{Flagged, IeeeFloat, Single};
 use rustc_apfloat::{Float, Round, StatusAnd};
+use small_formats::blocks::is_positive;
+
+/// The code of NVFP4 in the place of that of a format of elements.
+const NVFP4: u32 = 64;
 
 /// What is added.
 #[derive(Clone, Copy)]
@@ -47,8 +57,7 @@ pub extern "C" fn apfloat_sum(format: u32, mode: u32, xs: &[u8], answer: &mut An
         let known = known_reduction (flagged_kind_coded format) (mode_coded mode) size size in
         IsReducedCall Sum known xs.now xs.now answer.old answer.new result }
 {
-    let (kind, round) = (FlaggedKind::coded(format), mode_coded(mode));
-    reduce(Reduction::Sum, kind, round, xs, xs, answer)
+    reduce(Reduction::Sum, format, mode, xs, xs, answer)
 }
 
 /// The sum of the magnitudes of the values of an array (IEEE 754-2019 9.4, sumAbs).
@@ -58,8 +67,7 @@ pub extern "C" fn apfloat_sum_abs(format: u32, mode: u32, xs: &[u8], answer: &mu
         let known = known_reduction (flagged_kind_coded format) (mode_coded mode) size size in
         IsReducedCall Magnitudes known xs.now xs.now answer.old answer.new result }
 {
-    let (kind, round) = (FlaggedKind::coded(format), mode_coded(mode));
-    reduce(Reduction::Magnitudes, kind, round, xs, xs, answer)
+    reduce(Reduction::Magnitudes, format, mode, xs, xs, answer)
 }
 
 /// The sum of the squares of the values of an array (IEEE 754-2019 9.4, sumSquare).
@@ -69,8 +77,7 @@ pub extern "C" fn apfloat_sum_square(format: u32, mode: u32, xs: &[u8], answer: 
         let known = known_reduction (flagged_kind_coded format) (mode_coded mode) size size in
         IsReducedCall Products known xs.now xs.now answer.old answer.new result }
 {
-    let (kind, round) = (FlaggedKind::coded(format), mode_coded(mode));
-    reduce(Reduction::Products, kind, round, xs, xs, answer)
+    reduce(Reduction::Products, format, mode, xs, xs, answer)
 }
 
 /// The sum of the products of the values at the same places of two arrays (IEEE 754-2019 9.4, dot).
@@ -86,23 +93,50 @@ pub extern "C" fn apfloat_dot(
         (length xs.now) (length ys.now) in
         IsReducedCall Products known xs.now ys.now answer.old answer.new result }
 {
-    let (kind, round) = (FlaggedKind::coded(format), mode_coded(mode));
-    reduce(Reduction::Products, kind, round, xs, ys, answer)
+    reduce(Reduction::Products, format, mode, xs, ys, answer)
+}
+
+/// The dot product of two vectors in blocks, the sum of the products of their elements, each times its scales.
+#[unsafe(no_mangle)]
+pub extern "C" fn apfloat_dot_blocks(
+    format: u32,
+    mode: u32,
+    x_element: u32,
+    x_tensor: u32,
+    x_length: usize,
+    x_scales: &[u8],
+    x_codes: &[u8],
+    y_element: u32,
+    y_tensor: u32,
+    y_length: usize,
+    y_scales: &[u8],
+    y_codes: &[u8],
+    answer: &mut Answer,
+) -> u32
+    ensures { let known = known_reduction (flagged_kind_coded format) (mode_coded mode) 0 0 in
+        let x = vector_coded x_element x_tensor x_length x_scales.entry x_codes.entry in
+        let y = vector_coded y_element y_tensor y_length y_scales.entry y_codes.entry in
+        IsDotBlocksCall known x y answer.old answer.new result }
+{
+    let x = vector_coded(x_element, x_tensor, x_length, x_scales, x_codes);
+    let y = vector_coded(y_element, y_tensor, y_length, y_scales, y_codes);
+    dot_blocks(known_reduction(format, mode, 0, 0), x, y, answer)
 }
 
 /// The sum, as the decoded arguments ask.
 fn reduce(
     reduction: Reduction,
-    kind: Option<FlaggedKind>,
-    mode: Option<Round>,
+    format: u32,
+    mode: u32,
     xs: &[u8],
     ys: &[u8],
     answer: &mut Answer,
 ) -> u32
-    ensures { let known = known_reduction kind mode (length xs.now) (length ys.now) in
+    ensures { let known = known_reduction (flagged_kind_coded format) (mode_coded mode)
+        (length xs.now) (length ys.now) in
         IsReducedCall reduction known xs.now ys.now answer.old answer.new result }
 {
-    let known = known_reduction(kind, mode, xs.len(), ys.len());
+    let known = known_reduction(format, mode, xs.len(), ys.len());
     match known {
         Err(error) => error,
         Ok(call) => {
@@ -124,46 +158,106 @@ fn reduce(
 
 /// The format and the mode of a sum of arrays of these lengths, or the code of the first error.
 fn known_reduction(
-    kind: Option<FlaggedKind>,
-    mode: Option<Round>,
+    format: u32,
+    mode: u32,
     first: usize,
     second: usize,
 ) -> Result<KnownReduction, u32>
-    ensures { result ≡ known_reduction kind mode first second }
+    ensures { result ≡ known_reduction (flagged_kind_coded format) (mode_coded mode) first second }
 {
-    let Some(kind) = kind else {
+    let Some(kind) = FlaggedKind::coded(format) else {
         return Err(UNKNOWN_FORMAT);
     };
-    let Some(round) = mode else {
+    let Some(round) = mode_coded(mode) else {
         return Err(UNKNOWN_MODE);
     };
-    let Some(format) = reducible_format(kind) else {
+    let FlaggedKind::OfFormat(format) = kind else {
         return Err(NO_SUCH_OPERATION);
     };
-    let width = bytes_in(FlaggedKind::OfFormat(format));
-    if sums_fit(width, first, second) {
+    if first % bytes_in(kind) == 0 && second == first {
         Ok(KnownReduction { format, round })
     } else {
         Err(WRONG_LENGTH)
     }
 }
 
-/// The format of a kind, if it has exact sums.
-fn reducible_format(kind: FlaggedKind) -> Option<FlaggedFormat>
-    ensures { result ≡ reducible_format kind }
+/// A vector in blocks, by the code of its elements, or the code of the first error.
+fn vector_coded<'a>(
+    element: u32,
+    tensor: u32,
+    length: usize,
+    scales: &'a [u8],
+    codes: &'a [u8],
+) -> Result<BlockVector<'a>, u32>
+    ensures { result ≡ vector_coded element tensor length scales.entry codes.entry }
 {
-    match kind {
-        FlaggedKind::OfFormat(format) => Some(format),
-        FlaggedKind::Pairs => None,
+    let scaling = if element == NVFP4 {
+        BlockScaling::Nvfp4(tensor)
+    } else {
+        match element_coded(element) {
+            None => return Err(UNKNOWN_FORMAT),
+            Some(element) => BlockScaling::Mx(element),
+        }
+    };
+    if length == 0 || codes.len() % length != 0 || scales.len() != codes.len() / length {
+        return Err(WRONG_LENGTH);
+    }
+    if element == NVFP4 && !is_positive(Single::from_bits(u128::from(tensor))) {
+        return Err(NO_SUCH_OPERATION);
+    }
+    Ok(BlockVector {
+        scaling,
+        length,
+        scales,
+        codes,
+    })
+}
+
+/// The dot product of two vectors in blocks, as the decoded arguments ask.
+fn dot_blocks(
+    known: Result<KnownReduction, u32>,
+    x: Result<BlockVector, u32>,
+    y: Result<BlockVector, u32>,
+    answer: &mut Answer,
+) -> u32
+    ensures { IsDotBlocksCall known x.entry y.entry answer.old answer.new result }
+{
+    match (known, x, y) {
+        (Err(error), _, _) => error,
+        (Ok(_), Err(error), _) => error,
+        (Ok(_), Ok(_), Err(error)) => error,
+        (Ok(KnownReduction { format, round }), Ok(x), Ok(y)) => {
+            format.fill(BlocksCall { round, x, y }, answer)
+        }
     }
 }
 
-/// Whether the bytes are an integral number of values, and those of a second array as many.
-fn sums_fit(width: usize, first: usize, second: usize) -> bool
-    requires { 1 ≤ width }
-    ensures { result ≡ sums_fit width first second }
-{
-    first % width == 0 && second == first
+/// A dot product of vectors in blocks.
+#[derive(Clone, Copy)]
+struct BlocksCall<'a> {
+    round: Round,
+    x: BlockVector<'a>,
+    y: BlockVector<'a>,
+}
+
+impl FillsInFormat for BlocksCall<'_> {
+    type Place = Answer;
+
+    type Output = u32;
+
+    ghost gives = { λ it kind old new code.
+        IfFormat kind (λ c. IsDotReply c it.round it.x it.y old new code) };
+
+    fn fill_in_format<S: Flagged>(self, answer: &mut Answer) -> u32 {
+        match dot_blocks_r::<S>(self.x, self.y, self.round) {
+            Err(DotError::LengthsDiffer) => WRONG_LENGTH,
+            Err(DotError::NotBlocks) => WIDE_OPERAND,
+            Ok(made) => {
+                *answer = in_bits(made);
+                ANSWERED
+            }
+        }
+    }
 }
 
 /// A sum of `count` terms of arrays whose values take `width` bytes each.

@@ -11,7 +11,8 @@ use Rattle.apfloat_c.proofs.ArraysOnce.{converted_array_once, mapped_array_once}
 use Rattle.apfloat_c.proofs.BlocksOnce.{dequantized_call_once, packed_call_once, quantized_call_once}
 use Rattle.apfloat_c.proofs.BlocksOnce.{unpacked_call_once}
 use Rattle.apfloat_c.proofs.DigitsOnce.{count_given_once, digits_once, hex_put_once, rounded_hex_put_once}
-use Rattle.apfloat_c.proofs.{ExactSums.reduced_call_once, FlaggedReadings.decimal_read_once, PairsOnce.pair_calls_once}
+use Rattle.apfloat_c.proofs.ExactSums.{dot_blocks_call_once, reduced_call_once}
+use Rattle.apfloat_c.proofs.{FlaggedReadings.decimal_read_once, PairsOnce.pair_calls_once}
 use Rattle.apfloat_c.proofs.{ParsedOnce.parsed_once, StorageModesOnce.mode_array_once, StorageModesOnce.mode_reply_once}
 use Rattle.apfloat_c.proofs.StorageOnce.{operation_reply_once, storage_reply_once}
 use Rattle.apfloat_c.proofs.TextsOnce.{error_text_once, text_once}
@@ -66,6 +67,7 @@ returns c =
       converted = converted_array_once;
       mapped = mapped_array_once;
       reduced = reduced_call_once;
+      block_dots = dot_blocks_call_once c.block_dots_have_one_answer.ensures;
       stored = storage_reply_once;
       operated = operation_reply_once c.stored_results_have_one_answer.ensures;
       stored_by_mode = mode_reply_once once;

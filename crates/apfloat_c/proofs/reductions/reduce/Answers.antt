@@ -1,10 +1,12 @@
 use Rattle.std.proofs.Common.{◌≡◌, ℕ, ◌*◌, ◌/◌, length, sym, ◌∙◌, subst}
+use Rattle.formats_at_run_time.specs.{FlaggedKinds.flagged_kind_coded, Modes.mode_coded}
 use Rattle.apfloat_c.proofs.ExactSums.{reduced_call, reducible, reduction_is_known}
 use Rattle.apfloat_c.proofs.reductions.reduce.Goals as goal
 
 pub write-requires : goal.write-requires
 write-requires c =
-    let known = reduction_is_known c.args.kind c.args.mode (length c.args.xs.now) (length c.args.ys.now) c.in-Ok.call
+    let known = reduction_is_known (flagged_kind_coded c.args.format) (mode_coded c.args.mode) (length c.args.xs.now)
+    (length c.args.ys.now) c.in-Ok.call
     (sym c.known_reduction-known.ensures ∙ c.in-Ok.is) in
     let width_is = c.bytes_in-width.ensures.is in
     let whole : length c.args.xs.now ≡ length c.args.xs.now / c.bytes_in-width.result * c.bytes_in-width.result =
