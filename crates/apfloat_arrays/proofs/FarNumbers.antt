@@ -36,15 +36,13 @@ past_by top from precision biased trailing scale far =
     let right : 2 ^ (precision - 1 + (biased - 1) + scale) ≡ 2 ^ (precision - 1) * 2 ^ (biased - 1) * 2 ^ scale =
     pow3 (precision - 1) (biased - 1) scale in
     let more : 2 ^ (precision - 1) ≤ 2 ^ (precision - 1) + trailing = omega arith in
-    let placed : 2 ^ (precision - 1) * 2 ^ (biased - 1) ≤ (2 ^ (precision - 1) + trailing) * 2 ^ (biased - 1) =
-    mul-le-mul_right (2 ^ (biased - 1)) more in
+    let placed = mul-le-mul_right (2 ^ (biased - 1)) more in
     let all : 2 ^ (precision - 1) * 2 ^ (biased - 1) * 2 ^ scale
     ≤ (2 ^ (precision - 1) + trailing) * 2 ^ (biased - 1) * 2 ^ scale = mul-le-mul_right (2 ^ scale) placed in
     omega arith
 
 little_by : (from precision biased trailing scale : ℕ) → 1 ≤ precision → trailing < 2 ^ (precision - 1)
-    → precision + (biased - 1) + scale + 1 ≤ from
-    → 2 * (quanta_with precision biased trailing * 2 ^ scale) < 2 ^ from
+    → precision + (biased - 1) + scale + 1 ≤ from → 2 * (quanta_with precision biased trailing * 2 ^ scale) < 2 ^ from
 little_by from precision biased trailing scale some low far =
     let high : 2 ^ (precision + (biased - 1) + scale + 1) ≤ 2 ^ from = pow-le-pow_right two_pos far in
     let right : 2 ^ (precision + (biased - 1) + scale) ≡ 2 ^ precision * 2 ^ (biased - 1) * 2 ^ scale =
@@ -53,8 +51,7 @@ little_by from precision biased trailing scale some low far =
     pow-add 2 (precision + (biased - 1) + scale) 1 in
     let halves : 2 * 2 ^ (precision - 1) ≡ 2 ^ precision = twice_half precision some in
     let less : 2 ^ (precision - 1) + trailing < 2 ^ precision = omega arith in
-    let placed : (2 ^ (precision - 1) + trailing) * 2 ^ (biased - 1) < 2 ^ precision * 2 ^ (biased - 1) =
-    mul-lt-mul_of_pos_right less (pow_pos (biased - 1)) in
+    let placed = mul-lt-mul_of_pos_right less (pow_pos (biased - 1)) in
     let all : (2 ^ (precision - 1) + trailing) * 2 ^ (biased - 1) * 2 ^ scale
     < 2 ^ precision * 2 ^ (biased - 1) * 2 ^ scale = mul-lt-mul_of_pos_right placed (pow_pos scale) in
     omega arith
@@ -72,11 +69,10 @@ pub past_far : (c d : Constants) (biased trailing : ℕ) → IsLawful c → IsLa
 past_far c d biased trailing lawful_c lawful_d some far =
     let pc = lawful_c.parameters in
     let pd = lawful_d.parameters in
-    let from = scale_is c pc in
     let to = scale_is d pd in
     let span = span_is d pd in
     past_by (d.precision + (format_with d).span) (format_with c).scale c.precision biased trailing
-    (format_with d).scale (omega (arith, ints, pc.precision_low, pd.precision_low, from, to, span, far))
+    (format_with d).scale (omega (arith, ints, pc.precision_low, pd.precision_low, scale_is c pc, to, span, far))
 
 -- a number whose exponent is below the least one by more than the precision is below half of the smallest positive
 -- value
@@ -86,11 +82,9 @@ pub little_far : (c d : Constants) (biased trailing : ℕ) → IsLawful c → Is
 little_far c d biased trailing lawful_c lawful_d some low far =
     let pc = lawful_c.parameters in
     let pd = lawful_d.parameters in
-    let from = scale_is c pc in
-    let to = scale_is d pd in
     let precise : 1 ≤ c.precision = omega (arith, pc.precision_low) in
     little_by (format_with c).scale c.precision biased trailing (format_with d).scale precise low
-    (omega (arith, ints, pc.precision_low, pd.precision_low, from, to, far))
+    (omega (arith, ints, pc.precision_low, pd.precision_low, scale_is c pc, scale_is d pd, far))
 
 abbrev biased_of : Constants → ℕ → ℕ
 biased_of c bits = (fields_of (format_with c) (layout_with c) bits).biased_exponent
@@ -118,8 +112,7 @@ number_placed c d bits place past implied low high is far = record {
 
 -- bits that pass the tests encode a number on that side
 pub placed : (c d : Constants) (bits place : ℕ) (past little number : Bool) → IsLawful c → IsLawful d
-    → c.explicit_integer_bit ≡ false
-    → (IsTrue past → (d.max_exp +ℤ pos 2) ≤ℤ (c.min_exp +ℤ pos (biased_of c bits)))
+    → c.explicit_integer_bit ≡ false → (IsTrue past → (d.max_exp +ℤ pos 2) ≤ℤ (c.min_exp +ℤ pos (biased_of c bits)))
     → (IsTrue little → (c.min_exp +ℤ pos (biased_of c bits)) ≤ℤ (d.min_exp -ℤ pos d.precision))
     → (IsTrue number → (0 < biased_of c bits) × (biased_of c bits + 1 < 2 ^ c.exp_bits))
     → IsTrue ((past || little) && number)
@@ -174,10 +167,7 @@ above_within precision min max are =
 
 pub above_unit : (c : Constants) → AreParameters c.precision c.min_exp c.max_exp
     → ((c.max_exp +ℤ pos 1) +ℤ pos (format_with c).scale) ≡ pos (c.precision + (format_with c).span)
-above_unit c are =
-    let scale = scale_is c are in
-    let span = span_is c are in
-    omega (arith, ints, scale, span, are.precision_low)
+above_unit c are = omega (arith, ints, scale_is c are, span_is c are, are.precision_low)
 
 pub beside_fits : (precision : ℕ) (min max : ℤ) → AreParameters precision min max
     → FitsSigned w32 (min -ℤ pos precision)
@@ -196,9 +186,7 @@ below_within precision min max are =
 
 pub below_unit : (c : Constants) → AreParameters c.precision c.min_exp c.max_exp
     → (((c.min_exp -ℤ pos c.precision) -ℤ pos 1) +ℤ pos (format_with c).scale) ≡ neg_ℤ (pos 2)
-below_unit c are =
-    let scale = scale_is c are in
-    omega (arith, ints, scale, are.precision_low)
+below_unit c are = omega (arith, ints, scale_is c are, are.precision_low)
 
 -- ---- the results
 

@@ -25,8 +25,7 @@ count_more test outcomes some count (suc more) within quiet =
     (quiet (count + more) (omega arith) (omega (arith, within)))
     ∙ count_more test outcomes some count more (omega (arith, within)) quiet
 
-count_first : (test : Outcome → Bool) (outcomes : List Outcome) (some : Outcome) (count : ℕ)
-    → count ≤ length outcomes
+count_first : (test : Outcome → Bool) (outcomes : List Outcome) (some : Outcome) (count : ℕ) → count ≤ length outcomes
     → ((k : ℕ) → count ≤ k → k < length outcomes → test (get_or outcomes k some) ≡ false)
     → count_by test outcomes ≡ count_by test (take count outcomes)
 count_first test outcomes some count within quiet =

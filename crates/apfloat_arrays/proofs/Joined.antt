@@ -43,8 +43,7 @@ count_join test first second few =
     let high = count_by-le-length test second in
     let all : count_by test (first ++ second) ≡ count_by test first + count_by test second =
     sum_by-append (λ x. if test x then 1 else 0) first second in
-    let below : count_by test first + count_by test second ≤ 2 ^ 64 - 1 = omega (arith, low, high, few) in
-    min-eq_left below ∙ sym all
+    min-eq_left (omega (arith, low, high, few)) ∙ sym all
 
 -- the counts of outcomes one after another are the sums of the counts
 pub counts_join : (first second : List Outcome) → length first + length second < 2 ^ 64
@@ -64,8 +63,7 @@ counts_join first second few =
 
 -- the value of an index from the start of a range on is a value of the range
 pub in_range : (width index more k : ℕ) (bytes : List ℕ) → k < more
-    → value_at width k (slice_range bytes (index * width) ((index + more) * width))
-    ≡ value_at width (index + k) bytes
+    → value_at width k (slice_range bytes (index * width) ((index + more) * width)) ≡ value_at width (index + k) bytes
 in_range width index more k bytes within =
     let next : suc k * width ≤ more * width = mul-le-mul_right width within in
     let one_more : suc k * width ≡ k * width + width = suc-mul k width in
@@ -107,13 +105,11 @@ block_joined Holds source target index more count input output new counts others
     let late : (k : ℕ) → k < more → Says (index + k) = λ k inside.
     let found : slice_get outcomes (index + k) ≡ slice_get block.outcomes k =
     ap (λ (n : ℕ). slice_get outcomes (n + k)) (sym so_far.size) ∙ get_right so_far.outcomes block.outcomes k in
-    let given = in_range source index more k input inside in
-    let made : value_at target k new ≡ value_at target (index + k) written =
-    ap (value_at target k) (sym put) ∙ in_range target index more k written inside in
+    let made = ap (value_at target k) (sym put) ∙ in_range target index more k written inside in
     subst (λ (found : Option Outcome). IfSome found
     (λ o. Holds (value_at source (index + k) input) (value_at target (index + k) written) o)) (sym found)
     (subst (λ (bytes : List ℕ). IfSome (slice_get block.outcomes k)
-    (λ o. Holds bytes (value_at target (index + k) written) o)) given
+    (λ o. Holds bytes (value_at target (index + k) written) o)) (in_range source index more k input inside)
     (subst (λ (bytes : List ℕ). IfSome (slice_get block.outcomes k)
     (λ o. Holds (value_at source k (slice_range input (index * source) ((index + more) * source))) bytes o)) made
     (block.each k))) in

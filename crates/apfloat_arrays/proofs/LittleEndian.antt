@@ -29,17 +29,14 @@ one_more_fits number byte place small digit within = digit_fits 256 number byte 
 
 -- one more byte is read, below the others
 pub read_more : (bytes : List ℕ) (number byte place : ℕ) → place < length bytes → IsReadDown bytes number place
-    → byte ≡ get_or bytes (length bytes - 1 - place) 0 → byte < 256
-    → IsReadDown bytes (number * 256 + byte) (place + 1)
+    → byte ≡ get_or bytes (length bytes - 1 - place) 0 → byte < 256 → IsReadDown bytes (number * 256 + byte) (place + 1)
 read_more bytes number byte place within so_far is small =
     let here : length bytes - (place + 1) ≡ length bytes - 1 - place = omega arith in
     let step : length bytes - 1 - place + 1 ≡ length bytes - place = omega arith in
-    let inside : length bytes - 1 - place < length bytes = omega arith in
     let split : drop (length bytes - (place + 1)) bytes ≡ byte ∷ drop (length bytes - place) bytes =
-    ap (λ n. drop n bytes) here ∙ drop_more bytes (length bytes - 1 - place) 0 inside
+    ap (λ n. drop n bytes) here ∙ drop_more bytes (length bytes - 1 - place) 0 (omega arith)
     ∙ ap (λ b. b ∷ drop (length bytes - 1 - place + 1) bytes) (sym is) ∙ ap (λ n. byte ∷ drop n bytes) step in
-    let told : number_of (drop (length bytes - (place + 1)) bytes)
-    ≡ byte + 256 * number_of (drop (length bytes - place) bytes) = ap number_of split in
+    let told = ap number_of split in
     let last : number ≡ number_of (drop (length bytes - place) bytes) = so_far.read in
     record {
       below = digit_more 256 number byte place so_far.below small;
@@ -96,17 +93,13 @@ cut n power wider rest number scale so_far =
     omega arith
 
 -- one more byte is written after the others
-pub write_more : (number rest place : ℕ) (bytes : List ℕ) → place < length bytes
-    → IsWrittenUp number rest place bytes
+pub write_more : (number rest place : ℕ) (bytes : List ℕ) → place < length bytes → IsWrittenUp number rest place bytes
     → IsWrittenUp number (rest / 256) (place + 1) (set bytes place (rest % 256))
 write_more number rest place bytes within so_far =
-    let enough : place ≤ length bytes = omega arith in
-    let size : length (take place bytes) ≡ place = length-take-le place bytes enough in
-    let taken : take (place + 1) (set bytes place (rest % 256)) ≡ take place bytes ++ (rest % 256) ∷ [] =
-    take_more_set bytes place (rest % 256) within in
+    let size : length (take place bytes) ≡ place = length-take-le place bytes (omega arith) in
     let pushed : number_of (take (place + 1) (set bytes place (rest % 256)))
     ≡ number_of (take place bytes) + 256 ^ place * (rest % 256) =
-    ap number_of taken ∙ number_of-push (take place bytes) (rest % 256)
+    ap number_of (take_more_set bytes place (rest % 256) within) ∙ number_of-push (take place bytes) (rest % 256)
     ∙ ap (λ k. number_of (take place bytes) + 256 ^ k * (rest % 256)) size in
     let more : 256 ^ (place + 1) ≡ 256 ^ place * 256 = pow-add 256 place 1 in
     let last = cut (number_of (take place bytes)) (256 ^ place) (256 ^ (place + 1)) rest number more so_far.written in
@@ -123,8 +116,7 @@ none_left n power (suc rest) number told small =
 pub write_to_end : (number rest place : ℕ) (bytes : List ℕ) → place ≡ length bytes
     → number < 256 ^ length bytes → IsWrittenUp number rest place bytes → number_of bytes ≡ number
 write_to_end number rest place bytes all small so_far =
-    let short : length bytes ≤ place = omega arith in
-    let whole : take place bytes ≡ bytes = take_all place bytes short in
+    let whole : take place bytes ≡ bytes = take_all place bytes (omega arith) in
     let scale : 256 ^ place ≡ 256 ^ length bytes = ap (λ k. 256 ^ k) all in
     let below : number < 256 ^ place = omega arith in
     ap number_of (sym whole) ∙ none_left (number_of (take place bytes)) (256 ^ place) rest number so_far.written below

@@ -23,7 +23,6 @@ pub number_answered : (overflow : Overflow) (c d : Constants) (mode : Round) (bi
     → answer.bits ≡ number.bits → answer.outcome.status ≡ number.status → answer.outcome.is_nan ≡ false
     → IsAnswerFrom overflow c d mode bits answer
 number_answered overflow c d mode bits number answer is bits_are status_is no_nan =
-    let f = format_with c in
     let g = format_with d in
     let it = is.number in
     let value = finite is.negative it.quanta in
@@ -35,7 +34,7 @@ number_answered overflow c d mode bits number answer is bits_are status_is no_na
     (λ (v : Datum). IsConversionBy overflow (format_with c) (format_with d) mode (finite is.negative is.quanta) v
     (bits_of number.status) (not (eqb (bits_of number.status) ok_bits)))
     (kept_number overflow g is.negative is.negative it.quanta)
-    (number_converted overflow f g mode is.negative is.quanta value status is.some it.is_delivered) in
+    (number_converted overflow (format_with c) g mode is.negative is.quanta value status is.some it.is_delivered) in
     record {
       value = value;
       loses = not (eqb status ok_bits);

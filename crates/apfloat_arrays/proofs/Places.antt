@@ -1,7 +1,7 @@
 -- One more value in its place.
 use Rattle.std.proofs.{Math.Nat.mul-le-mul_right, Math.Nat.suc-mul, Math.Path.subst₃, lemmas.Bool.cases_lt}
 use Rattle.std.proofs.Common.{◌≡◌, ℕ, suc, ◌+◌, ◌-◌, ◌*◌, ◌<◌, ◌≤◌, Bool, ⊎_elim, if◌then◌else◌, List, [], ◌∷◌, ◌++◌}
-use Rattle.std.proofs.Common.{length, drop, Option, Some, refl, sym, ◌∙◌, ap, subst, arith, zero-add}
+use Rattle.std.proofs.Common.{length, drop, Option, refl, sym, ◌∙◌, ap, subst, arith, zero-add}
 use Rattle.std.proofs.lemmas.{Bool.cases_eq, List.length_push, List.Edits.length-between, List.Sums.sum_by-append}
 use Rattle.std.proofs.lemmas.{Option.slice_get_past, Slice.between_is, Slice.take-put_mid_below, Slice.between-put_mid}
 use Rattle.std.specs.Prelude.{slice_get, IfSome, count_by}
@@ -47,16 +47,14 @@ pub place_size : (width index count : ℕ) (bytes : List ℕ) → index < count 
     → length (value_at width index bytes) ≡ width
 place_size width index count bytes before size =
     let room = place_below index count width before in
-    let within : index * width + width ≤ length bytes = omega arith in
-    length-between bytes (index * width) (index * width + width) within
+    length-between bytes (index * width) (index * width + width) (omega arith)
     ∙ (let all : index * width + width - index * width ≡ width = omega arith in all)
 
 -- a write from the place of a value on leaves the earlier ones
 pub before_write : (target index from to k : ℕ) (output new : List ℕ) → from ≡ index * target → k < index
     → from ≤ length output → value_at target k (put_mid from (to - from) output new) ≡ value_at target k output
 before_write target index from to k output new is before within =
-    let next = place_below k index target before in
-    let below : k * target + target ≤ from = omega (arith, next, is) in
+    let below : k * target + target ≤ from = omega (arith, place_below k index target before, is) in
     between_is (put_mid from (to - from) output new) (k * target) (k * target + target)
     ∙ ap (drop (k * target)) (take-put_mid_below from (to - from) output new (k * target + target) below within)
     ∙ sym (between_is output (k * target) (k * target + target))
@@ -101,8 +99,7 @@ places_next {O} Holds width index next bytes written outcomes outcome last here 
     let Says : ℕ → Type 0 = λ k. IfSome (slice_get (outcomes ++ outcome ∷ []) k)
     (λ o. Holds k (value_at width k written) o) in
     let size = so_far.size in
-    let found : slice_get (outcomes ++ outcome ∷ []) index ≡ Some outcome =
-    ap (slice_get (outcomes ++ outcome ∷ [])) (sym size) ∙ get_last outcomes outcome in
+    let found = ap (slice_get (outcomes ++ outcome ∷ [])) (sym size) ∙ get_last outcomes outcome in
     let at_end : Says index =
     subst (λ (o : Option O). IfSome o (λ o. Holds index (value_at width index written) o)) (sym found) here in
     let before_it : (k : ℕ) → k < index → Says k = λ k h.

@@ -1,5 +1,5 @@
 -- Values that are determined in their places are determined as a whole.
-use Rattle.std.proofs.Common.{◌≡◌, ℕ, zero, suc, ◌+◌, ◌-◌, ◌*◌, ◌<◌, ◌≤◌, List, []}
+use Rattle.std.proofs.Common.{◌≡◌, ℕ, zero, suc, ◌+◌, ◌-◌, ◌*◌, ◌<◌, List, []}
 use Rattle.std.proofs.Common.{◌∷◌, ◌++◌, length, take, drop, Option, Some, refl, sym, ◌∙◌, ap, subst}
 use Rattle.std.proofs.{Common.arith, Math.Nat.suc-mul, lemmas.List.take-take}
 use Rattle.std.proofs.lemmas.{List.take-append-drop, List.length-take, List.length-drop, Slice.between_is}
@@ -62,9 +62,8 @@ one_more_place : (width count : ℕ) (bytes : List ℕ)
     → take (count * width + width) bytes ≡ take (count * width) bytes ++ value_at width count bytes
 one_more_place width count bytes =
     let more = take (count * width + width) bytes in
-    let within : count * width ≤ count * width + width = omega arith in
     sym (take-append-drop (count * width) more) ∙ ap (λ (front : List ℕ). front ++ drop (count * width) more)
-    (take-take (count * width) (count * width + width) bytes within)
+    (take-take (count * width) (count * width + width) bytes (omega arith))
     ∙ ap (λ (last : List ℕ). take (count * width) bytes ++ last)
     (sym (between_is bytes (count * width) (count * width + width)))
 
@@ -84,10 +83,9 @@ same_places width zero bytes other each =
 same_places width (suc count) bytes other each =
     let split : suc count * width ≡ count * width + width = suc-mul count width in
     let front = same_places width count bytes other (λ index h. each index (omega (arith, h))) in
-    let here : count < suc count = omega arith in
     ap (λ (n : ℕ). take n bytes) split ∙ one_more_place width count bytes
     ∙ ap (λ (l : List ℕ). l ++ value_at width count bytes) front
-    ∙ ap (λ (l : List ℕ). take (count * width) other ++ l) (each count here)
+    ∙ ap (λ (l : List ℕ). take (count * width) other ++ l) (each count (omega arith))
     ∙ sym (one_more_place width count other)
     ∙ ap (λ (n : ℕ). take n other) (sym split)
 

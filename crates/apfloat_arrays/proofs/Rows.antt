@@ -95,10 +95,9 @@ later : (width earlier index : ℕ) (bytes new : List ℕ) → earlier < index �
     → value_at width index (put_mid (earlier * width) (earlier * width + width - earlier * width) bytes new)
     ≡ value_at width index bytes
 later width earlier index bytes new after within size =
-    let below = place_below earlier index width after in
     let wide : earlier * width + width - earlier * width ≡ width = omega arith in
     let dropped = drop-put_mid (earlier * width) (earlier * width + width - earlier * width) bytes new (index * width)
-    (omega (arith, below, wide)) within (size ∙ sym wide) in
+    (omega (arith, place_below earlier index width after, wide)) within (size ∙ sym wide) in
     ap (λ ys. take (index * width + width - index * width) ys) dropped
 
 count_set : (test : Outcome → Bool) (outcomes : List Outcome) (index : ℕ) (outcome : Outcome)
@@ -109,11 +108,10 @@ count_set test outcomes index outcome within few quiet =
     ≡ count_by test outcomes + one_if (test outcome) =
     sum_by-set (λ x. one_if (test x)) outcomes index outcome outcome within in
     let none : one_if (test (get_or outcomes index outcome)) ≡ 0 = ap one_if quiet in
-    let most = count_by-le-length test (set outcomes index outcome) in
     let size = length-set outcomes index outcome in
     let sum : count_by test outcomes + one_if (test outcome) ≡ count_by test (set outcomes index outcome) =
     omega (arith, all, none) in
-    min-eq_left (omega (arith, sum, most, size, few)) ∙ sum
+    min-eq_left (omega (arith, sum, count_by-le-length test (set outcomes index outcome), size, few)) ∙ sum
 
 counts_set : (outcomes : List Outcome) (index : ℕ) (outcome : Outcome) → index < length outcomes
     → length outcomes < 2 ^ 64 → IsQuiet (get_or outcomes index outcome)
@@ -207,8 +205,7 @@ zero_kept f g mode value status loses it =
     (it.status_is ∙ rw sign refl, it.value_is ∙ ap (λ (b : Bool). finite b 0) sign)
 
 zero_by : (overflow : Overflow) (f g : Format) (mode : Round) (value : Datum) (status : ℕ) (loses : Bool)
-    → IsConversionBy overflow f g mode (finite false 0) value status loses → (status ≡ 0) ×
-    (is_nan value ≡ false)
+    → IsConversionBy overflow f g mode (finite false 0) value status loses → (status ≡ 0) × (is_nan value ≡ false)
 zero_by Rounded f g mode value status loses it =
     let kept = zero_kept f g mode value status loses it in (kept.0, ap is_nan kept.1)
 zero_by Saturated f g mode value status loses it =
@@ -233,9 +230,8 @@ zeros_quiet overflow c d mode is_single input bytes o none of =
     quiet_from o zero.0 (of.nan_is ∙ zero.1)
 
 -- what no bytes encode is one
-pub zero_quiet : (overflow : Overflow) (c d : Constants) (mode : Round)
-    → IsSingleFormat (format_with c) (layout_with c) → (bytes : List ℕ) (o : Outcome)
-    → IsConvertedBy overflow c d mode [] bytes o → IsQuiet o
+pub zero_quiet : (overflow : Overflow) (c d : Constants) (mode : Round) → IsSingleFormat (format_with c) (layout_with c)
+    → (bytes : List ℕ) (o : Outcome) → IsConvertedBy overflow c d mode [] bytes o → IsQuiet o
 zero_quiet overflow c d mode is_single bytes o it = zeros_quiet overflow c d mode is_single [] bytes o refl it
 
 -- ---- which values are numbers
@@ -287,8 +283,7 @@ done_there done input index before =
     then value_at 4 index input else []) (lt-ltb index done before)
 
 -- a zero stands for what is not a number
-pub zero_there : (index : ℕ) (input : List ℕ)
-    → ltb (number_of (value_at 4 index input) % 2 ^ 31) (255 * 2 ^ 23) ≡ false
+pub zero_there : (index : ℕ) (input : List ℕ) → ltb (number_of (value_at 4 index input) % 2 ^ 31) (255 * 2 ^ 23) ≡ false
     → number_from index input index ≡ []
 zero_there index input special =
     (λ i. if le-ltb index index (omega arith) i || special i then value_at 4 index input else [])
@@ -304,8 +299,7 @@ next_there index input k other =
     ap (λ (b : Bool). if b || ltb (number_of (value_at 4 k input) % 2 ^ 31) (255 * 2 ^ 23) then value_at 4 k input
     else []) same
 
-pub next_number : (index : ℕ) (input : List ℕ)
-    → ltb (number_of (value_at 4 index input) % 2 ^ 31) (255 * 2 ^ 23) ≡ true
+pub next_number : (index : ℕ) (input : List ℕ) → ltb (number_of (value_at 4 index input) % 2 ^ 31) (255 * 2 ^ 23) ≡ true
     → (k : ℕ) → number_from index input k ≡ number_from (index + 1) input k
 next_number index input number k =
     ⊎_elim {C = number_from index input k ≡ number_from (index + 1) input k}
@@ -373,8 +367,7 @@ made_there convert number input index zero is =
     then value_at 4 index input else []))) (sym none)
 
 -- the same of the upper half of a single, rounded to odd
-pub halves_there : (input : List ℕ) (index half : ℕ)
-    → half ≡ odd_quotient (number_of (value_at 4 index input)) (2 ^ 16)
+pub halves_there : (input : List ℕ) (index half : ℕ) → half ≡ odd_quotient (number_of (value_at 4 index input)) (2 ^ 16)
     → number_in half ≡ odd_quotient (number_of (number_from 0 input index)) (2 ^ 16)
 halves_there input index half is =
     let x = number_of (value_at 4 index input) in

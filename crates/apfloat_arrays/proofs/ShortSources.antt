@@ -18,7 +18,7 @@ use Rattle.rustc_apfloat.specs.{Datum.nan, Flags.bits_of, Lawful.Constants, Lawf
 use Rattle.rustc_apfloat.specs.{Lawful.IsLawful, Lawful.format_with, Lawful.layout_with, Layout.datum_of}
 use Rattle.rustc_apfloat.specs.Conversions.{IsConversion, IsConvertedNumber, IsKept, loses_zero_sign}
 use Rattle.rustc_apfloat.specs.Rounding.{IsDelivered, zero_sign}
-use Rattle.rustc_apfloat.specs.{Grid.IsAbove, Grid.IsBelow, Enclosure.IsEnclosed, Standing.reads_halves}
+use Rattle.rustc_apfloat.specs.{Grid.IsBelow, Enclosure.IsEnclosed, Standing.reads_halves}
 use Rattle.round_to_odd.specs.{Again.HasRoomFor, Odd.is_odd_below, Odd.odd_between}
 use Rattle.round_to_odd.proofs.OddPoints.{AgreesAtEven, odd_agrees, odd_below_is}
 use Rattle.round_to_odd.proofs.RoundedOnce.{delivered_once_more}
@@ -70,30 +70,24 @@ module _ (u m c : ℕ) (unit : 0 < u) (fits : m < 64 * u) (full : (c ≡ 0) ⊎ 
       let parts : m / u * u + m % u ≡ m = div-add-mod' m u in
       let whole : m ≡ m / u * u = omega (arith, parts, none) in
       let placed : m * 2 ^ c ≡ m / u * u * 2 ^ c = ap (λ (n : ℕ). n * 2 ^ c) whole in
-      let e : m * 2 ^ c ≡ m / u * 2 ^ c * u = omega (arith, placed) in
-      let above : IsAbove 6 (m / u * 2 ^ c) (m * 2 ^ c) u =
-      exact_above 6 (m / u * 2 ^ c) (m * 2 ^ c) u unit below.on_grid e in
+      let above = exact_above 6 (m / u * 2 ^ c) (m * 2 ^ c) u unit below.on_grid (omega (arith, placed)) in
       let same : odd_between (m / u * 2 ^ c) (m / u * 2 ^ c) ≡ odd_quotient m u * 2 ^ c =
       sym (cond_same (is_odd_below (m / u * 2 ^ c) (m / u * 2 ^ c)) (m / u * 2 ^ c))
       ∙ ap (λ (n : ℕ). n * 2 ^ c) (sym (exact_odd (m / u) (m % u) none)) in
-      let six : 0 < 6 = omega arith in
       subst (λ (n : ℕ). AgreesAtEven 5 (m * 2 ^ c) u n) same
-      (odd_agrees 6 (m / u * 2 ^ c) (m / u * 2 ^ c) (m * 2 ^ c) u six unit below above)
+      (odd_agrees 6 (m / u * 2 ^ c) (m / u * 2 ^ c) (m * 2 ^ c) u (omega arith) unit below above)
 
   inexact_point : (m % u ≡ 0 → ⊥) → AgreesAtEven 5 (m * 2 ^ c) u (odd_quotient m u * 2 ^ c)
   inexact_point some =
       let parts : m / u * u + m % u ≡ m = div-add-mod' m u in
       let less : m / u * u < m = omega (arith, parts, some) in
       let placed : m / u * u * 2 ^ c < m * 2 ^ c = mul-lt-mul_of_pos_right less (pow_pos c) in
-      let strict : m / u * 2 ^ c * u < m * 2 ^ c = omega (arith, placed) in
-      let above : IsAbove 6 ((m / u + 1) * 2 ^ c) (m * 2 ^ c) u =
-      above_is_next 6 (2 ^ 5) (m / u) c (m * 2 ^ c) u enclosed strict in
+      let above = above_is_next 6 (2 ^ 5) (m / u) c (m * 2 ^ c) u enclosed (omega (arith, placed)) in
       let same : odd_between (m / u * 2 ^ c) ((m / u + 1) * 2 ^ c) ≡ odd_quotient m u * 2 ^ c =
       odd_of_two (m / u) (2 ^ c) (is_odd_below (m / u * 2 ^ c) ((m / u + 1) * 2 ^ c)) (sym (odd_below_is (m / u) c))
       ∙ ap (λ (n : ℕ). n * 2 ^ c) (sym (inexact_odd (m / u) (m % u) some)) in
-      let six : 0 < 6 = omega arith in
       subst (λ (n : ℕ). AgreesAtEven 5 (m * 2 ^ c) u n) same
-      (odd_agrees 6 (m / u * 2 ^ c) ((m / u + 1) * 2 ^ c) (m * 2 ^ c) u six unit below above)
+      (odd_agrees 6 (m / u * 2 ^ c) ((m / u + 1) * 2 ^ c) (m * 2 ^ c) u (omega arith) unit below above)
 
   pub odd_point : AgreesAtEven 5 (m * 2 ^ c) u (odd_quotient m u * 2 ^ c)
   odd_point = ⊎_elim exact_point inexact_point (cases_eq (m % u) 0)
@@ -125,10 +119,9 @@ quantum_room false coarse scale h = omega (arith, h)
 
 short_room : (scale : ℕ) (g : Format) → IsCoarseFormat scale g → HasRoomFor g (short_format scale g)
 short_room scale g is =
-    let high = is.high in
     record {
       kind = refl;
-      digits = omega (arith, high);
+      digits = omega (arith, is.high);
       quantum = quantum_room (reads_halves g) g.scale scale is.quantum;
       exponents = omega arith;
       flags = refl;
@@ -244,8 +237,7 @@ odd_above u h t unit =
     even_apart h a = omega arith
 
 odd_of_zero : (u t : ℕ) → 0 < u → t ≡ 0 → odd_quotient t u ≡ 0
-odd_of_zero u t unit z =
-    ap (λ (n : ℕ). odd_quotient n u) z ∙ exact_odd (0 / u) (0 % u) (zero-mod u) ∙ zero-div u
+odd_of_zero u t unit z = ap (λ (n : ℕ). odd_quotient n u) z ∙ exact_odd (0 / u) (0 % u) (zero-mod u) ∙ zero-div u
 
 module _ (overflow : Overflow) (f h g : Format) (mode : Round) (cut : ℕ) (coarse : IsCoarseFormat h.scale g)
     (scale : f.scale ≡ h.scale + cut) where
@@ -264,12 +256,11 @@ module _ (overflow : Overflow) (f h g : Format) (mode : Round) (cut : ℕ) (coar
       let p : 0 < trailing = omega (arith, some) in
       let q : 0 < short = subst (λ (n : ℕ). 0 < n) (sym is) (odd_some trailing (2 ^ cut) (pow_pos cut) p) in
       let fits : trailing < 64 * 2 ^ cut = omega (arith, low) in
-      let unit : trailing * 2 ^ 0 ≡ trailing = omega arith in
       let short_unit : short ≡ odd_quotient trailing (2 ^ cut) * 2 ^ 0 =
       is ∙ (let one : odd_quotient trailing (2 ^ cut) ≡ odd_quotient trailing (2 ^ cut) * 2 ^ 0 = times_one _ in one) in
       number_alike overflow f h g mode negative trailing short value status loses p q
       (λ v s d.
-      subst (λ (n : ℕ). IsDelivered g mode negative (n * 2 ^ g.scale) (2 ^ f.scale) v s) unit
+      subst (λ (n : ℕ). IsDelivered g mode negative (n * 2 ^ g.scale) (2 ^ f.scale) v s) (omega arith)
       (subst (λ (n : ℕ). IsDelivered g mode negative (trailing * 2 ^ 0 * 2 ^ g.scale) (2 ^ n) v s) (sym scale)
       (delivered_alike g mode negative cut trailing 0 h.scale v s coarse fits (inl refl)
       (subst (λ (n : ℕ). IsDelivered g mode negative (n * 2 ^ g.scale) (2 ^ h.scale) v s) short_unit d))))
@@ -290,13 +281,12 @@ module _ (overflow : Overflow) (f h g : Format) (mode : Round) (cut : ℕ) (coar
       let some : 0 < 32 * 2 ^ cut + trailing = omega (arith, u) in
       let some_short : 0 < 2 ^ 5 + short = omega arith in
       let fits : 32 * 2 ^ cut + trailing < 64 * 2 ^ cut = omega (arith, low) in
-      let full : 32 * 2 ^ cut ≤ 32 * 2 ^ cut + trailing = omega arith in
       number_alike overflow f h g mode negative ((32 * 2 ^ cut + trailing) * 2 ^ place) ((2 ^ 5 + short) * 2 ^ place)
       value status loses (mul-pos some (pow_pos place)) (mul-pos some_short (pow_pos place))
       (λ v s d.
       subst (λ (n : ℕ). IsDelivered g mode negative ((32 * 2 ^ cut + trailing) * 2 ^ place * 2 ^ g.scale) (2 ^ n) v s)
       (sym scale)
-      (delivered_alike g mode negative cut (32 * 2 ^ cut + trailing) place h.scale v s coarse fits (inr full)
+      (delivered_alike g mode negative cut (32 * 2 ^ cut + trailing) place h.scale v s coarse fits (inr (omega arith))
       (subst (λ (n : ℕ). IsDelivered g mode negative (n * 2 ^ place * 2 ^ g.scale) (2 ^ h.scale) v s) whole d))) x
 
   -- values with the same sign and exponent are converted alike
@@ -357,8 +347,7 @@ short_high x u = odd_high (x / u) (x % u) ∙ div-div-eq-div-mul x u 32 ∙ ap (
 short_trailing : (x u : ℕ) → 0 < u → odd_quotient x u % 32 ≡ odd_quotient (x % (32 * u)) u
 short_trailing x u unit =
     let split : x / (32 * u) * (32 * u) + x % (32 * u) ≡ x = div-add-mod' x (32 * u) in
-    let w : 0 < 32 * u = omega (arith, unit) in
-    let low : x % (32 * u) < 32 * u = mod_below x (32 * u) w in
+    let low : x % (32 * u) < 32 * u = mod_below x (32 * u) (omega (arith, unit)) in
     let some : x / (32 * u) * 32 * u + x % (32 * u) ≡ x = omega (arith, split) in
     let q : x / u ≡ x / (32 * u) * 32 + x % (32 * u) / u =
     ap (λ (n : ℕ). n / u) (sym some) ∙ mul-add-div_right unit (x / (32 * u) * 32) (x % (32 * u)) in
@@ -374,8 +363,7 @@ short_trailing x u unit =
 short_sign : (x exp_bits cut : ℕ) → odd_quotient x (2 ^ cut) / 2 ^ (exp_bits + 5) ≡ x / 2 ^ (exp_bits + (5 + cut))
 short_sign x exp_bits cut =
     let short : 2 ^ (exp_bits + 5) ≡ 32 * 2 ^ exp_bits = pow-add 2 exp_bits 5 ∙ mul_comm (2 ^ exp_bits) 32 in
-    let long : 2 ^ (exp_bits + (5 + cut)) ≡ 2 ^ (5 + cut) * 2 ^ exp_bits =
-    pow-add 2 exp_bits (5 + cut) ∙ mul_comm (2 ^ exp_bits) (2 ^ (5 + cut)) in
+    let long = pow-add 2 exp_bits (5 + cut) ∙ mul_comm (2 ^ exp_bits) (2 ^ (5 + cut)) in
     let power : 2 ^ (5 + cut) ≡ 32 * 2 ^ cut = pow-add 2 5 cut in
     ap (λ (n : ℕ). odd_quotient x (2 ^ cut) / n) short
     ∙ sym (div-div-eq-div-mul (odd_quotient x (2 ^ cut)) 32 (2 ^ exp_bits))
@@ -436,9 +424,8 @@ implied_bits c lawful wide implied =
     ⊎_elim {C = c.bits ≡ c.exp_bits + c.precision}
     (λ (none : HasNoBits c). let zero_bits = none.bits in absurd (omega (arith, zero_bits, wide)))
     (λ (some : HasBits c).
-    let all = some.bits in
     let e : c.bits ≡ c.exp_bits + c.precision + 0 =
-    subst (λ (b : Bool). c.bits ≡ c.exp_bits + c.precision + (if b then 1 else 0)) implied all in
+    subst (λ (b : Bool). c.bits ≡ c.exp_bits + c.precision + (if b then 1 else 0)) implied some.bits in
     omega (arith, e)) lawful.layout
 
 -- the short value has at most as many bits as its format
@@ -546,10 +533,7 @@ short_answers overflow c z d mode x answer short lawful_c lawful_z lawful_d wide
     (x / n % 2 ^ z.exp_bits) (x % n)) power in
     let At : Format → Datum → Type 0 = λ f y. IsConversionBy overflow f (format_with d) mode y it.value
     (bits_of answer.outcome.status) it.loses in
-    let read_y : At (format_with z)
-    (read (2 ^ z.exp_bits - 1) 32 (eqb (short_of c x / 2 ^ (z.exp_bits + 5) % 2) 1)
-    (short_of c x / 32 % 2 ^ z.exp_bits) (short_of c x % 32)) =
-    subst (At (format_with z)) (datum_is z z.exp_bits 0 (short_of c x) like_z) it.is_conversion in
+    let read_y = subst (At (format_with z)) (datum_is z z.exp_bits 0 (short_of c x) like_z) it.is_conversion in
     let signed : At (format_with z)
     (read (2 ^ z.exp_bits - 1) 32 (eqb (x / 2 ^ (z.exp_bits + (5 + (c.precision - 6))) % 2) 1)
     (short_of c x / 32 % 2 ^ z.exp_bits) (short_of c x % 32)) =
@@ -574,13 +558,10 @@ short_answers overflow c z d mode x answer short lawful_c lawful_z lawful_d wide
     (λ (n : ℕ). (eqb (x / n % 2 ^ c.exp_bits) (2 ^ c.exp_bits - 1) && not (eqb (x % n) 0)) ≡ false)
     below_exponent is_number) in
     let unit : 0 < 2 ^ (c.precision - 6) = pow_pos (c.precision - 6) in
-    let wide : 0 < 32 * 2 ^ (c.precision - 6) = omega (arith, unit) in
-    let low : x % (32 * 2 ^ (c.precision - 6)) < 32 * 2 ^ (c.precision - 6) =
-    mod_below x (32 * 2 ^ (c.precision - 6)) wide in
-    let scale_c = scale_is c lawful_c.parameters in
+    let low = mod_below x (32 * 2 ^ (c.precision - 6)) (omega (arith, unit)) in
     let scale_z = scale_is z lawful_z.parameters in
     let scale : (format_with c).scale ≡ (format_with z).scale + (c.precision - 6) =
-    omega (arith, ints, scale_c, scale_z, digits, more, short.least) in
+    omega (arith, ints, scale_is c lawful_c.parameters, scale_z, digits, more, short.least) in
     let scale_d = scale_is d lawful_d.parameters in
     let quantum : (format_with d).scale + 3 ≤ (format_with z).scale =
     omega (arith, ints, scale_d, scale_z, digits, coarse.quantum, lawful_d.parameters.precision_low) in

@@ -12,14 +12,13 @@ pub target_is : (d : Constants) → IsLawful d → d.precision < d.bits → d.bi
 target_is d lawful wide few digits implied least greatest rule =
     let law = lawful_interchange d lawful wide in
     let are = lawful.parameters in
-    let width = cond-false d.explicit_integer_bit d.precision (d.precision - 1) implied in
     let bits = law.bits in
     let precise = law.precise in
     record {
       implied = implied;
       precise = precise;
       exponents = law.some;
-      widths = omega (arith, bits, width, precise);
+      widths = omega (arith, bits, cond-false d.explicit_integer_bit d.precision (d.precision - 1) implied, precise);
       span = law.span;
       bits = few;
       digits = digits;

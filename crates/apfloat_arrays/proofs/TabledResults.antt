@@ -18,11 +18,10 @@ pub table_more : {O : Type 0} (Holds : ℕ → List ℕ → O → Type 0) (width
     → AreInPlaces Holds width (index + 1) (put_mid (index * width) (index * width + width - index * width) bytes new)
     (take (index + 1) (set outcomes index outcome))
 table_more {O} Holds width index count bytes new outcomes outcome before all size wide here so_far =
-    let within : index < length outcomes = omega arith in
     subst
     (λ (xs : List O). AreInPlaces Holds width (index + 1)
     (put_mid (index * width) (index * width + width - index * width) bytes new) xs)
-    (sym (take_more_set outcomes index outcome within))
+    (sym (take_more_set outcomes index outcome (omega arith)))
     (places_more Holds width index count bytes new (take index outcomes) outcome before size wide here so_far)
 
 module _ (Gives : ℕ → ℕ → Outcome → Type 0) where
@@ -34,16 +33,14 @@ module _ (Gives : ℕ → ℕ → Outcome → Type 0) where
       let here : Gives place (number_of (value_at width place values)) outcome =
       subst (λ (o : Option Outcome). IfSome o (λ x. Gives place (number_of (value_at width place values)) x)) found
       (table.each place) in
-      let same : value_at width place values ≡ new =
-      ap (λ (n : ℕ). value_at n place values) (sym wide) ∙ sym copied in
+      let same : value_at width place values ≡ new = ap (λ (n : ℕ). value_at n place values) (sym wide) ∙ sym copied in
       subst (λ (n : ℕ). Gives n (number_of new) outcome) is
       (subst (λ (bytes : List ℕ). Gives place (number_of bytes) outcome) same here)
 
   -- the results fit in the bytes of a value of the target
   pub entries_of : (bits width size : ℕ) (table : List ℕ)
       → ((place result : ℕ) (outcome : Outcome) → Gives place result outcome → result < 2 ^ bits)
-      → length table ≡ size * 8 → bits ≤ 8 * width → IsResultTable Gives size table
-      → AreEntries width size table
+      → length table ≡ size * 8 → bits ≤ 8 * width → IsResultTable Gives size table → AreEntries width size table
   entries_of bits width size table few room wide is =
       are_entries Gives outcome_tally width size table room
       (λ place result outcome made. fits result bits width (few place result outcome made) wide) is

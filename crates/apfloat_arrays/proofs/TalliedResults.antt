@@ -31,8 +31,7 @@ packed_more some others =
     others.div_by_zero others.overflow others.underflow others.inexact others.nans
 
 abbrev with_counts : ℕ → ℕ → ℕ → ℕ → ℕ → ℕ → Tally
-with_counts a b c d e f =
-    record { inexact = a; underflow = b; overflow = c; div_by_zero = d; invalid = e; nans = f }
+with_counts a b c d e f = record { inexact = a; underflow = b; overflow = c; div_by_zero = d; invalid = e; nans = f }
 
 same_tally : {a b c d e f p q r s t u : ℕ} → a ≡ p → b ≡ q → c ≡ r → d ≡ s → e ≡ t → f ≡ u
     → with_counts a b c d e f ≡ with_counts p q r s t u
@@ -77,8 +76,7 @@ tally_most flags is_nan =
 pub most_sum : (first size : ℕ) (some others : Tally) → AreTalliesAtMost first some → AreTalliesAtMost size others
     → AreTalliesAtMost (first + size) (sum_of some others)
 most_sum first size some others p q =
-    let added : (a b : ℕ) → a ≤ first → b ≤ size → a + b ≤ first + size =
-    λ a b p q. omega (arith, p, q) in
+    let added : (a b : ℕ) → a ≤ first → b ≤ size → a + b ≤ first + size = λ a b p q. omega (arith, p, q) in
     record {
       inexact = added _ _ p.inexact q.inexact;
       underflow = added _ _ p.underflow q.underflow;
@@ -165,8 +163,7 @@ unfolding total
 total_more marks first index tally packed mark so_far =
     let e = mark.tally in
     let same : unpacked (marks index) ≡ e = unpacked_mark (marks index) mark in
-    let next : total marks (index + 1) ≡ sum_of (total marks index) (unpacked (marks index)) =
-    ap (total marks) (add-one index) in
+    let next = ap (total marks) (add-one index) in
     record {
       few = sum_of so_far.few e;
       done = so_far.done + 1;
@@ -178,13 +175,11 @@ total_more marks first index tally packed mark so_far =
     }
 
 -- the digits of the number are the tally
-digits_are : (marks : ℕ → ℕ) (first index size : ℕ) (tally : Tally) (packed : ℕ) → index ≡ first + size
-    → size ≤ 31
+digits_are : (marks : ℕ → ℕ) (first index size : ℕ) (tally : Tally) (packed : ℕ) → index ≡ first + size → size ≤ 31
     → (it : IsTallyTotal marks first index tally packed) → (it.done ≡ size) × (unpacked packed ≡ it.few)
 digits_are marks first index size tally packed last few it =
     let all : it.done ≡ size = omega (arith, it.index_is, last) in
-    let most : it.done ≤ 31 = omega (arith, all, few) in
-    (all, ap unpacked it.packed_is ∙ taken_out it.few it.done most it.most)
+    (all, ap unpacked it.packed_is ∙ taken_out it.few it.done (omega (arith, all, few)) it.most)
 
 pub total_done : (marks : ℕ → ℕ) (first index size : ℕ) (tally : Tally) (packed : ℕ)
     → index ≡ first + size
@@ -201,15 +196,13 @@ total_done marks first index size tally packed last few before it =
 
 -- ---- entries
 
-quotient_is : (result mark entry power : ℕ) → entry ≡ result + power * mark → result < power
-    → entry / power ≡ mark
+quotient_is : (result mark entry power : ℕ) → entry ≡ result + power * mark → result < power → entry / power ≡ mark
 quotient_is result mark entry power is fits =
     let turned : power * mark ≡ mark * power = mul_comm power mark in
     let parts : entry ≡ mark * power + result = omega (arith, is, turned) in
     ap (λ (n : ℕ). n / power) parts ∙ div-mul-add mark power result fits
 
-rest_is : (result mark entry power : ℕ) → entry ≡ result + power * mark → result < power
-    → entry % power ≡ result
+rest_is : (result mark entry power : ℕ) → entry ≡ result + power * mark → result < power → entry % power ≡ result
 rest_is result mark entry power is fits =
     let turned : power * mark ≡ mark * power = mul_comm power mark in
     let parts : entry ≡ mark * power + result = omega (arith, is, turned) in
@@ -237,8 +230,7 @@ pub each_more : (value : ℕ → ℕ) (width index count : ℕ) (output new : Li
     → number_of (value_at width k (put_mid (index * width) (index * width + width - index * width) output new))
     ≡ value k
 each_more value width index count output new before size wide here so_far k within =
-    let below = place_below index count width before in
-    let room : index * width ≤ length output = omega (arith, below, size) in
+    let room : index * width ≤ length output = omega (arith, place_below index count width before, size) in
     let written = put_mid (index * width) (index * width + width - index * width) output new in
     ⊎_elim {C = number_of (value_at width k written) ≡ value k}
     (λ (same : k ≡ index). ap (λ (n : ℕ). number_of (value_at width n written)) same
@@ -248,8 +240,7 @@ each_more value width index count output new before size wide here so_far k with
     (cases_eq k index)
 
 -- what holds of the values up to an index holds of one more
-below_more : {P : ℕ → Type 0} (index : ℕ) → P index → ((k : ℕ) → k < index → P k)
-    → (k : ℕ) → k < index + 1 → P k
+below_more : {P : ℕ → Type 0} (index : ℕ) → P index → ((k : ℕ) → k < index → P k) → (k : ℕ) → k < index + 1 → P k
 below_more {P} index here so_far k within =
     ⊎_elim {C = P k} (λ (same : k ≡ index). subst P (sym same) here)
     (λ (other : k ≡ index → ⊥). so_far k (omega (arith, other, within))) (cases_eq k index)
@@ -295,14 +286,12 @@ module _ (place : ℕ → ℕ) (size width first : ℕ) (table : List ℕ) (tall
 
   pub since_fits : (index few : ℕ) (output : List ℕ) (packed : ℕ) → index ≡ first + few → few ≤ 31
       → first + few < 2 ^ 64 → AreTalliesAtMost first tally
-      → AreLookedUpSince place size width first index table output tally packed
-      → Fits (sum_of tally (unpacked packed))
+      → AreLookedUpSince place size width first index table output tally packed → Fits (sum_of tally (unpacked packed))
   since_fits index few output packed last is_few room before it =
       sum_fits (first + few) (sum_of tally (unpacked packed)) room
       (total_done marks first index few tally packed last is_few before it.counted).1
 
-  pub since_done : (index few : ℕ) (output : List ℕ) (all : Tally) (packed : ℕ) → index ≡ first + few
-      → few ≤ 31
+  pub since_done : (index few : ℕ) (output : List ℕ) (all : Tally) (packed : ℕ) → index ≡ first + few → few ≤ 31
       → AreTalliesAtMost first tally → all ≡ sum_of tally (unpacked packed)
       → AreLookedUpSince place size width first index table output tally packed
       → AreLookedUp place size width (first + few) table output all
@@ -421,8 +410,7 @@ module _ {O : Type 0} (Answers : ℕ → ℕ → O → Type 0) (tally : O → Ta
       (outcomes_of Holds tally marks width output count (λ k h.
       let one = found (place k) size table (it.within k h) is in
       let entry = one.1.is_entry in
-      let same : number_of (value_at width k output) ≡ one.1.result =
-      it.each k h ∙ result_in (entry_of table (place k)) one.1.result (tally one.0) entry in
+      let same = it.each k h ∙ result_in (entry_of table (place k)) one.1.result (tally one.0) entry in
       let mark = mark_in (entry_of table (place k)) one.1.result (tally one.0) entry in (
         one.0,
         subst (λ (n : ℕ). Answers (place k) n one.0) (sym same) one.1.is_answer,

@@ -35,8 +35,7 @@ narrow bits few = two (div_ceil bits 8 == 3) refl
     two false e = omega (arith, few)
 
 -- sixteen bytes have room for the bits
-padded : (bits : ℕ) (explicit : Bool) → 1 ≤ bits → bits ≤ 128
-    → HasRoom bits (if explicit then 16 else bytes_of bits)
+padded : (bits : ℕ) (explicit : Bool) → 1 ≤ bits → bits ≤ 128 → HasRoom bits (if explicit then 16 else bytes_of bits)
 padded bits true some few = record { least = omega arith; greatest = omega arith; enough = omega arith }
 padded bits false some few = in_bytes bits some few
 

@@ -30,8 +30,7 @@ abbrev pub AreFiniteHalves : ℕ → List ℕ → Type 0
 AreFiniteHalves count halves = (index : ℕ) → index < count → slice_index halves index % 2 ^ 15 < 255 * 2 ^ 7
 
 -- these halves are taken of the words of so many given values
-abbrev pub AreTaken : (ℕ → ℕ → ℕ → Type 0) → ℕ → List ℕ → List ℕ → (ℕ → List ℕ)
-    → Type 0
+abbrev pub AreTaken : (ℕ → ℕ → ℕ → Type 0) → ℕ → List ℕ → List ℕ → (ℕ → List ℕ) → Type 0
 AreTaken Takes count uppers lowers given =
     (index : ℕ) → index < count
     → Takes (slice_index uppers index) (slice_index lowers index) (number_of (given index))

@@ -21,7 +21,6 @@ IsAnswerFrom overflow c d mode bits answer = IsAnswerAt overflow c d mode bits a
 
 -- the same from bytes to bytes: those beyond the width of the first format are ignored, those beyond the width of the
 -- second are 0
-abbrev pub IsConvertedBy : Overflow → Constants → Constants → Round → List ℕ → List ℕ → Outcome
-    → Type 0
+abbrev pub IsConvertedBy : Overflow → Constants → Constants → Round → List ℕ → List ℕ → Outcome → Type 0
 IsConvertedBy overflow c d mode input output outcome =
     IsAnswerAt overflow c d mode (number_of input) (number_of output) outcome

@@ -37,8 +37,7 @@ scientific_text n e = some_pointed n (length (decimal n) - 1)
 
 -- a zero has no exponent
 abbrev pub magnitude_text : ℕ → ℤ → List ℕ
-magnitude_text n e =
-    if eqb n 0 then codes "0.0" else (if is_plain n e then plain_text n e else scientific_text n e)
+magnitude_text n e = if eqb n 0 then codes "0.0" else (if is_plain n e then plain_text n e else scientific_text n e)
 
 abbrev pub sign_text : Bool → List ℕ
 sign_text negative = if negative then codes "-" else []

@@ -37,9 +37,8 @@ inner_within c n place law inner fits =
 -- ---- the bits
 
 -- a significand with all its digits, which may have been rounded up to the next power of two
-pub encoded_inner : (c : Constants) (negative : Bool) (place n bits : ℕ)
-    → IsInterchange (format_with c) (layout_with c) → c.explicit_integer_bit ≡ false
-    → 2 ^ (c.precision - 1) ≤ n → n ≤ 2 ^ c.precision → place + 5 ≤ 2 ^ c.exp_bits
+pub encoded_inner : (c : Constants) (negative : Bool) (place n bits : ℕ) → IsInterchange (format_with c) (layout_with c)
+    → c.explicit_integer_bit ≡ false → 2 ^ (c.precision - 1) ≤ n → n ≤ 2 ^ c.precision → place + 5 ≤ 2 ^ c.exp_bits
     → bits ≡ cond negative (2 ^ (c.bits - 1)) 0 + place * 2 ^ (c.precision - 1) + n
     → IsEncodedBy (format_with c) (layout_with c) bits (finite negative (n * 2 ^ place))
 encoded_inner c negative place n bits law implied full fits inner is =
@@ -49,9 +48,8 @@ encoded_inner c negative place n bits law implied full fits inner is =
 
 -- the bits fit in a word
 pub bits_fit : (c : Constants) (negative : Bool) (place n : ℕ) → IsInterchange (format_with c) (layout_with c)
-    → c.explicit_integer_bit ≡ false → c.bits ≤ 64
-    → 2 ^ (c.precision - 1) ≤ n → n ≤ 2 ^ c.precision → place + 5 ≤ 2 ^ c.exp_bits
-    → cond negative (2 ^ (c.bits - 1)) 0 + place * 2 ^ (c.precision - 1) + n < 2 ^ 64
+    → c.explicit_integer_bit ≡ false → c.bits ≤ 64 → 2 ^ (c.precision - 1) ≤ n → n ≤ 2 ^ c.precision
+    → place + 5 ≤ 2 ^ c.exp_bits → cond negative (2 ^ (c.bits - 1)) 0 + place * 2 ^ (c.precision - 1) + n < 2 ^ 64
 bits_fit c negative place n law implied word full fits inner =
     let below = (encoded_inner c negative place n
     (cond negative (2 ^ (c.bits - 1)) 0 + place * 2 ^ (c.precision - 1) + n) law implied full fits inner refl).below in

@@ -156,10 +156,8 @@ infinity_fits c law implied word =
     let t = c.precision - 1 in
     let width : trailing_bits (format_with c) ≡ c.precision - 1 = cond-false c.explicit_integer_bit _ _ implied in
     let power : 2 ^ (c.exp_bits + t) ≡ 2 ^ c.exp_bits * 2 ^ t = pow-add 2 c.exp_bits t in
-    let some = pow_pos t in
-    let one = pow_pos c.exp_bits in
     let less : all_ones c.exp_bits * 2 ^ t < 2 ^ c.exp_bits * 2 ^ t =
-    mul-lt-mul_of_pos_right (omega (arith, one)) some in
+    mul-lt-mul_of_pos_right (omega (arith, pow_pos c.exp_bits)) (pow_pos t) in
     fits_longer (all_ones c.exp_bits * 2 ^ t) (c.exp_bits + t) 64 (omega (arith, less, power))
     (omega (arith, law.bits, width, word))
 
@@ -181,12 +179,10 @@ parts_of c bits magnitude law implied is =
     let high = ap (λ (n : ℕ). n * 2 ^ t) (field_of bits e t) in
     let low = lower_mod bits (e + t) t (omega arith) in
     let parts = div-add-mod' (bits % 2 ^ (e + t)) (2 ^ t) in
-    let scaled = ap (λ (n : ℕ). bits / 2 ^ t % 2 ^ e * 2 ^ n) width in
-    let below = mod_below (bits / 2 ^ t) (2 ^ e) (pow_pos e) in
     record {
-      most = omega (arith, below);
+      most = omega (arith, mod_below (bits / 2 ^ t) (2 ^ e) (pow_pos e));
       few = trailing_low c bits implied;
-      is = omega (arith, there, low, parts, high, scaled);
+      is = omega (arith, there, low, parts, high, ap (λ (n : ℕ). bits / 2 ^ t % 2 ^ e * 2 ^ n) width);
     }
 
 -- the value of bits in a format with infinities
@@ -230,8 +226,7 @@ fields_count f layout negative biased trailing most few none =
 
 pub place_is : (c : Constants) (bits magnitude infinity : ℕ) → IsInterchange (format_with c) (layout_with c)
     → c.explicit_integer_bit ≡ false → c.nonfinite ≡ IEEE754 → magnitude ≡ bits % 2 ^ (c.bits - 1)
-    → infinity ≡ all_ones c.exp_bits * 2 ^ (c.precision - 1) → magnitude ≤ infinity
-    → c.bits ≤ 64
+    → infinity ≡ all_ones c.exp_bits * 2 ^ (c.precision - 1) → magnitude ≤ infinity → c.bits ≤ 64
     → IsPlaceOf c bits (signed (fields_of (format_with c) (layout_with c) bits).negative magnitude)
 place_is c bits magnitude infinity law implied kind is top le word =
     let x = fields_of (format_with c) (layout_with c) bits in
@@ -257,8 +252,7 @@ nan_with f layout negative biased trailing top some =
 
 pub nan_above : (c : Constants) (bits magnitude infinity : ℕ) → IsInterchange (format_with c) (layout_with c)
     → c.explicit_integer_bit ≡ false → c.nonfinite ≡ IEEE754 → magnitude ≡ bits % 2 ^ (c.bits - 1)
-    → infinity ≡ all_ones c.exp_bits * 2 ^ (c.precision - 1) → infinity < magnitude
-    → is_nan (value_in c bits) ≡ true
+    → infinity ≡ all_ones c.exp_bits * 2 ^ (c.precision - 1) → infinity < magnitude → is_nan (value_in c bits) ≡ true
 nan_above c bits magnitude infinity law implied kind is top less =
     let x = fields_of (format_with c) (layout_with c) bits in
     let least = 2 ^ (c.precision - 1) in
@@ -266,10 +260,9 @@ nan_above c bits magnitude infinity law implied kind is top less =
     let past = exponents_below least (all_ones c.exp_bits) 0 x.biased_exponent x.trailing parts.few
     (omega (arith, parts.is, top, less)) in
     let same : x.biased_exponent ≡ all_ones c.exp_bits = omega (arith, past, parts.most) in
-    let e = ap (λ (n : ℕ). n * least) same in
     ap is_nan (value_is c bits implied kind)
     ∙ nan_with (format_with c) (layout_with c) x.negative x.biased_exponent x.trailing same
-    (omega (arith, parts.is, top, less, e))
+    (omega (arith, parts.is, top, less, ap (λ (n : ℕ). n * least) same))
 
 -- ---- two values
 
@@ -278,8 +271,7 @@ word_back true m h = omega (arith, ints, h)
 word_back false m h = omega (arith, ints, h)
 
 -- such a place fits in a signed word
-pub place_back : (c : Constants) (bits : ℕ) (place : ℤ) → IsPlaceOf c bits place
-    → to_z w64 (of_z w64 place) ≡ place
+pub place_back : (c : Constants) (bits : ℕ) (place : ℤ) → IsPlaceOf c bits place → to_z w64 (of_z w64 place) ≡ place
 place_back c bits place is =
     let x = fields_of (format_with c) (layout_with c) bits in
     rw is.is (word_back x.negative (x.biased_exponent * 2 ^ (c.precision - 1) + x.trailing) is.fits)

@@ -73,8 +73,7 @@ product_kept precision m from n to moved scale product place half some is fits f
     let long : precision < 2 * precision = omega (arith, some) in
     let rest_is : product % 2 ^ precision ≡ product % 2 ^ (2 * precision - precision) =
     ap (λ (x : ℕ). product % 2 ^ x) (sym digits) in
-    let half_there : half ≡ 2 ^ (2 * precision - precision - 1) =
-    half_is ∙ ap (λ (x : ℕ). 2 ^ (x - 1)) (sym digits) in
+    let half_there : half ≡ 2 ^ (2 * precision - precision - 1) = half_is ∙ ap (λ (x : ℕ). 2 ^ (x - 1)) (sym digits) in
     let split : IsSplitRest precision product (2 * precision) place (product % 2 ^ precision) half (from + to)
     (scale + moved) = record {
       some = some;

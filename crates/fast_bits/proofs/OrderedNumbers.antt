@@ -98,15 +98,13 @@ number_of c bits =
 encoded_number : (c : Constants) (bits : ℕ) → IsInterchange (format_with c) (layout_with c)
     → c.explicit_integer_bit ≡ false → 0 < (fields_of (format_with c) (layout_with c) bits).biased_exponent
     → (fields_of (format_with c) (layout_with c) bits).biased_exponent + 1 < 2 ^ c.exp_bits
-    → (fields_of (format_with c) (layout_with c) bits).biased_exponent < 2 ^ 22
-    → IsNumberOf c bits (number_of c bits)
+    → (fields_of (format_with c) (layout_with c) bits).biased_exponent < 2 ^ 22 → IsNumberOf c bits (number_of c bits)
 encoded_number c bits law implied some few near =
-    let low = trailing_low c bits implied in
     let digits : c.precision ≡ c.precision - 1 + 1 = omega (arith, law.precise) in
     let power : 2 ^ c.precision ≡ 2 ^ (c.precision - 1) * 2 ^ 1 =
     ap (λ (n : ℕ). 2 ^ n) digits ∙ pow-add 2 (c.precision - 1) 1 in
     number_is c bits (fields_of (format_with c) (layout_with c) bits).biased_exponent (number_of c bits) implied refl
-    some few near refl refl refl (omega (arith, low, power))
+    some few near refl refl refl (omega (arith, trailing_low c bits implied, power))
 
 -- two numbers whose magnitudes are in order
 record AreInOrder (c : Constants) (h l high low above below : ℕ) : Type 0 where
@@ -125,11 +123,10 @@ record AreInOrder (c : Constants) (h l high low above below : ℕ) : Type 0 wher
       ≤ 2 ^ (c.precision - 1) + (fields_of (format_with c) (layout_with c) high).trailing
 
 in_order : (c : Constants) (h l high low above below : ℕ) → IsInterchange (format_with c) (layout_with c)
-    → c.explicit_integer_bit ≡ false → high ≡ h % 2 ^ (c.bits - 1) → low ≡ l % 2 ^ (c.bits - 1)
-    → low ≤ high
+    → c.explicit_integer_bit ≡ false → high ≡ h % 2 ^ (c.bits - 1) → low ≡ l % 2 ^ (c.bits - 1) → low ≤ high
     → above ≡ (fields_of (format_with c) (layout_with c) high).biased_exponent
-    → below ≡ (fields_of (format_with c) (layout_with c) low).biased_exponent
-    → above < 2 ^ 22 → 0 < below → above + 1 < 2 ^ c.exp_bits → AreInOrder c h l high low above below
+    → below ≡ (fields_of (format_with c) (layout_with c) low).biased_exponent → above < 2 ^ 22 → 0 < below
+    → above + 1 < 2 ^ c.exp_bits → AreInOrder c h l high low above below
 in_order c h l high low above below law implied high_is low_is le above_is below_is near some few =
     let t = trailing_bits (format_with c) in
     let width : c.bits - 1 ≡ c.exp_bits + t = omega (arith, law.bits) in
@@ -157,13 +154,11 @@ in_order c h l high low above below law implied high_is low_is le above_is below
     }
 
 pub some_above : (c : Constants) (x y left right high low above below : ℕ) (b : Bool)
-    → IsInterchange (format_with c) (layout_with c) → c.explicit_integer_bit ≡ false
-    → left ≡ x % 2 ^ (c.bits - 1) → right ≡ y % 2 ^ (c.bits - 1)
-    → (b ≡ true → right ≤ left) → (b ≡ false → left ≤ right)
-    → high ≡ cond b left right → low ≡ cond b right left
-    → above ≡ (fields_of (format_with c) (layout_with c) high).biased_exponent
-    → below ≡ (fields_of (format_with c) (layout_with c) low).biased_exponent
-    → above < 2 ^ 22 → 0 < below → above + 1 < 2 ^ c.exp_bits → 1 ≤ above
+    → IsInterchange (format_with c) (layout_with c) → c.explicit_integer_bit ≡ false → left ≡ x % 2 ^ (c.bits - 1)
+    → right ≡ y % 2 ^ (c.bits - 1) → (b ≡ true → right ≤ left) → (b ≡ false → left ≤ right) → high ≡ cond b left right
+    → low ≡ cond b right left → above ≡ (fields_of (format_with c) (layout_with c) high).biased_exponent
+    → below ≡ (fields_of (format_with c) (layout_with c) low).biased_exponent → above < 2 ^ 22 → 0 < below
+    → above + 1 < 2 ^ c.exp_bits → 1 ≤ above
 some_above c x y left right high low above below true law implied left_is right_is ordered other high_is low_is
     above_is below_is near some few =
     (in_order c x y high low above below law implied (high_is ∙ left_is) (low_is ∙ right_is)
@@ -281,8 +276,7 @@ swapped_terms c mode answer x y given =
 
 -- the sum of two numbers in order is that of the numbers themselves
 pub ordered_sum : (c : Constants) (mode : Round) (answer : Option Encoded) (x y high low : Number)
-    → ((high ≡ x) × (low ≡ y)) ⊎ ((high ≡ y) × (low ≡ x)) → IsSumOf c mode answer high low
-    → IsSumOf c mode answer x y
+    → ((high ≡ x) × (low ≡ y)) ⊎ ((high ≡ y) × (low ≡ x)) → IsSumOf c mode answer high low → IsSumOf c mode answer x y
 ordered_sum c mode answer x y high low (inl same) given =
     subst₂ (λ (a : Number) (b : Number). IsSumOf c mode answer a b) same.0 same.1 given
 ordered_sum c mode answer x y high low (inr same) given =

@@ -61,9 +61,7 @@ span_is c are = omega (arith, ints, are)
 few_biased : (c : Constants) → IsLawful c → c.precision < c.bits → 2 ^ c.exp_bits < 2 ^ 22
 few_biased c lawful wide =
     let are = lawful.parameters in
-    let span = span_is c are in
-    let all = (lawful_interchange c lawful wide).span in
-    omega (arith, ints, are, span, all)
+    omega (arith, ints, are, span_is c are, (lawful_interchange c lawful wide).span)
 
 pub few_bits : (c : Constants) → IsLawful c → c.precision < c.bits → c.exp_bits < 22
 few_bits c lawful wide =

@@ -40,8 +40,7 @@ root_fits precision places m whole loss short fits is =
     let split : 2 ^ precision ≡ m + (2 ^ precision - m) = omega (arith, fits) in
     let whole_square : 2 ^ precision * 2 ^ precision ≡ (m + (2 ^ precision - m)) * 2 ^ precision =
     ap (λ (x : ℕ). x * 2 ^ precision) split in
-    let square = whole_low whole loss (m * 2 ^ places) is in
-    root_lt whole (2 ^ precision) (omega (arith, low, gap, whole_square, square))
+    root_lt whole (2 ^ precision) (omega (arith, low, gap, whole_square, whole_low whole loss (m * 2 ^ places) is))
 
 -- the number is below the square after that of the integral root
 square_above : (whole : ℕ) (loss : Loss) (square : ℕ) → RootStandsFor whole loss square
@@ -57,9 +56,8 @@ pub root_full : (precision places m whole : ℕ) (loss : Loss) → 0 < precision
     → RootStandsFor whole loss (m * 2 ^ places) → 2 ^ (precision - 1) ≤ whole
 root_full precision places m whole loss some long short fits full is =
     let radicand = radicand_full precision places m some long short fits full in
-    let above = square_above whole loss (m * 2 ^ places) is in
     let less : 2 ^ (precision - 1) < whole + 1 =
-    root_lt (2 ^ (precision - 1)) (whole + 1) (omega (arith, radicand, above)) in
+    root_lt (2 ^ (precision - 1)) (whole + 1) (omega (arith, radicand, square_above whole loss (m * 2 ^ places) is)) in
     omega (arith, less)
 
 -- ---- guesses
@@ -68,10 +66,6 @@ root_full precision places m whole loss some long short fits full is =
 pub root_top : (precision m odd : ℕ) → 0 < precision → precision ≤ 59 → odd ≤ 1
     → 2 ^ (precision - 1) ≤ m → m < 2 ^ precision → 2 ^ 62 ≤ m * 2 ^ (63 - precision + odd) % 2 ^ 64
 root_top precision m odd some short few full fits =
-    let low : 2 ^ (precision - 1) * 2 ^ (63 - precision + odd) ≤ m * 2 ^ (63 - precision + odd) =
-    mul-le-mul_right (2 ^ (63 - precision + odd)) full in
-    let high : m * 2 ^ (63 - precision + odd) < 2 ^ precision * 2 ^ (63 - precision + odd) =
-    mul-lt-mul_of_pos_right fits (pow_pos (63 - precision + odd)) in
     let low_is = pow-add 2 (precision - 1) (63 - precision + odd) in
     let high_is = pow-add 2 precision (63 - precision + odd) in
     let from : 62 ≤ precision - 1 + (63 - precision + odd) = omega (arith, some, short) in
@@ -79,8 +73,8 @@ root_top precision m odd some short few full fits =
     let least : 2 ^ 62 ≤ 2 ^ (precision - 1 + (63 - precision + odd)) = pow-le-pow_right two_pos from in
     let most : 2 ^ (precision + (63 - precision + odd)) ≤ 2 ^ 64 = pow-le-pow_right two_pos to in
     let word : m * 2 ^ (63 - precision + odd) % 2 ^ 64 ≡ m * 2 ^ (63 - precision + odd) =
-    mod-eq_of_lt (omega (arith, high, high_is, most)) in
-    rw word (omega (arith, low, low_is, least))
+    mod-eq_of_lt (omega (arith, mul-lt-mul_of_pos_right fits (pow_pos (63 - precision + odd)), high_is, most)) in
+    rw word (omega (arith, mul-le-mul_right (2 ^ (63 - precision + odd)) full, low_is, least))
 
 -- a word without at least two of its digits
 pub short_guess : (guess places : ℕ) → guess < 2 ^ 64 → 2 ≤ places → guess / 2 ^ places < 2 ^ 62
@@ -119,8 +113,7 @@ root_answered c mode square radicand over whole loss answer some same is encoded
     let g = agreeing square 4 (omega arith) in
     let halves : AgreesWithRoot square (2 * 1) g.amount g.parts =
     coarser square (2 * 1) 2 g.amount g.parts (omega arith) g.agrees in
-    let there : StandsFor whole loss (g.amount * 1) (g.parts * over) =
-    stands square radicand over 1 g.amount g.parts some same halves whole loss is in
+    let there = stands square radicand over 1 g.amount g.parts some same halves whole loss is in
     let amount : g.amount * 1 ≡ g.amount = omega arith in
     let unit : g.parts * over ≡ over * g.parts = omega arith in
     let placed : StandsFor whole loss g.amount (over * g.parts) =

@@ -27,11 +27,7 @@ pub record IsNumberOf (c : Constants) (bits : ℕ) (x : Number) : Type 0 where
 -- the number, with the opposite sign if it is asked for
 abbrev pub opposite_if : Bool → Number → Number
 opposite_if changed x =
-    record {
-      negative = if changed then not x.negative else x.negative;
-      place = x.place;
-      significand = x.significand;
-    }
+    record { negative = if changed then not x.negative else x.negative; place = x.place; significand = x.significand }
 
 -- the first of two numbers does not have the smaller magnitude
 pub record IsOrdered (o : Ordered) : Type 0 where

@@ -55,8 +55,7 @@ log_b_of_zero f mode (finite b n) value status e h k =
     (record { value_is = h ∙ negated_infinity f.nonfinite (nan_base f); status_is = k })
 
 of_number : (f : Format) (mode : Round) (n : ℕ) (exponent : ℤ) (value : Datum) (status : ℕ) (P : Type 0) (test : Bool)
-    → (if test then Zero else Normal) ≡ Normal
-    → MatchBool test (exponent ≡ zero_exponent) (IsLogarithm f n exponent)
+    → (if test then Zero else Normal) ≡ Normal → MatchBool test (exponent ≡ zero_exponent) (IsLogarithm f n exponent)
     → IsFromSigned f mode exponent value status → MatchBool test P (IsLogBOfNumber f mode n value status)
 of_number f mode n exponent value status P true e h k = cc
 of_number f mode n exponent value status P false e h k =

@@ -260,8 +260,7 @@ same_data f (infinite b) (nan c t) k =
     absurd (false≢true (sym (nan_apart c (is_signaling f t)) ∙ ap is_middle (sym k.regions) ∙ infinity_within b))
 same_data f (infinite b) (infinite c) k =
     ap infinite (sym (infinity_side b) ∙ ap (λ n. ltb n 3) k.regions ∙ infinity_side c)
-same_data f (infinite b) (finite c n) k =
-    absurd (false≢true (sym (infinity_apart b) ∙ ap (λ n. eqb n 3) k.regions))
+same_data f (infinite b) (finite c n) k = absurd (false≢true (sym (infinity_apart b) ∙ ap (λ n. eqb n 3) k.regions))
 same_data f (finite b m) (nan c t) k =
     absurd (false≢true (sym (nan_apart c (is_signaling f t)) ∙ ap is_middle (sym k.regions)))
 same_data f (finite b m) (infinite c) k =
@@ -301,8 +300,7 @@ less_is (Some Equal) h = cc
 less_is (Some Greater) h = cc
 
 -- the order of two numbers, one of which is less
-below_numbers : (x y : Datum) → is_below x y ≡ true
-    → (numbers_in_order x y ≡ true) × (numbers_in_order y x ≡ false)
+below_numbers : (x y : Datum) → is_below x y ≡ true → (numbers_in_order x y ≡ true) × (numbers_in_order y x ≡ false)
 below_numbers x y h =
     let less : compared x y ≡ Some Less = less_is (compared x y) h in
     let greater : compared y x ≡ Some Greater =
@@ -311,8 +309,7 @@ below_numbers x y h =
       ap (λ o. is_some_and is_lt o || (is_some_and is_eq o && (is_negative y || not (is_negative x)))) greater,
     )
 
-below : (f : Format) (x y : Datum) → is_below x y ≡ true
-    → (total_order f x y ≡ true) × (total_order f y x ≡ false)
+below : (f : Format) (x y : Datum) → is_below x y ≡ true → (total_order f x y ≡ true) × (total_order f y x ≡ false)
 below f (nan b s) y h = cc
 below f (finite b m) (nan c t) h = cc
 below f (infinite b) (nan c t) h = cc

@@ -68,8 +68,7 @@ stays_less : (order : Ordering) (is_cut negative : Bool) → order ≡ Less → 
 stays_less order true b e = rw e refl
 stays_less order false b e = e
 
-stays_greater : (order : Ordering) (is_cut negative : Bool) → order ≡ Greater
-    → settled order is_cut negative ≡ Greater
+stays_greater : (order : Ordering) (is_cut negative : Bool) → order ≡ Greater → settled order is_cut negative ≡ Greater
 stays_greater order true b e = rw e refl
 stays_greater order false b e = e
 
@@ -78,8 +77,7 @@ level_positive : (amount parts q m : ℕ) (is_cut : Bool) → IsGreatest amount 
     → (order : Ordering) → order ≡ Equal → settled order is_cut false ≡ int_cmp (pos amount) (pos (m * parts))
 level_positive amount parts q m true t h order d =
     let l = some_lost (q * parts) amount t.not_above t.cut in
-    let k = ap (λ j. j * parts) h in
-    rw d (int_cmp_is (pos amount) (pos (m * parts)) Greater (omega (arith, ints, l, k)))
+    rw d (int_cmp_is (pos amount) (pos (m * parts)) Greater (omega (arith, ints, l, ap (λ j. j * parts) h)))
 level_positive amount parts q m false t h order d =
     d ∙ int_cmp_is (pos amount) (pos (m * parts)) Equal
     (ap pos (all_kept (q * parts) amount t.cut ∙ ap (λ j. j * parts) h))
@@ -99,9 +97,7 @@ level_negative amount parts q m false t h order d =
 level_zero : (amount parts q m : ℕ) (is_cut : Bool) → IsGreatest amount parts q m is_cut → q ≡ 0 → is_cut ≡ true
 level_zero amount parts q m true t h = refl
 level_zero amount parts q m false t h =
-    let k = all_kept (q * parts) amount t.cut in
-    let l = ap (λ j. j * parts) h in
-    absurd (omega (arith, k, l, t.some))
+    absurd (omega (arith, all_kept (q * parts) amount t.cut, ap (λ j. j * parts) h, t.some))
 
 -- the order of the truncated number and m quanta, settled, is that of the number
 pub settles : (b c : Bool) (amount parts q m : ℕ) (is_cut : Bool) → IsGreatest amount parts q m is_cut
@@ -262,8 +258,7 @@ pub record IsTruncation (f g : Format) (x r : Datum) (is_cut : Bool) : Type 0 wh
 
 -- a nonzero number, converted toward zero
 truncated_number : (f g : Format) (b : Bool) (n : ℕ) (r : Datum) (status : ℕ) (is_cut : Bool)
-    → IsConvertedNumber f g TowardZero b n r status is_cut
-    → IsTruncated g b (n * 2 ^ g.scale) (2 ^ f.scale) r is_cut
+    → IsConvertedNumber f g TowardZero b n r status is_cut → IsTruncated g b (n * 2 ^ g.scale) (2 ^ f.scale) r is_cut
 truncated_number f g b n r status is_cut d =
     truncated g b (n * 2 ^ g.scale) (2 ^ f.scale) r status is_cut (pow_pos f.scale) d.is_delivered d.loses_is
 

@@ -8,8 +8,7 @@ use Rattle.ieee_operations.specs.declared.predicates.Relations.{Relations}
 
 -- less, equal, greater, unordered
 abbrev pub set : Bool → Bool → Bool → Bool → Relations
-set less equal greater unordered =
-    record { less = less; equal = equal; greater = greater; unordered = unordered }
+set less equal greater unordered = record { less = less; equal = equal; greater = greater; unordered = unordered }
 
 abbrev pub relations_of : Predicate → Relations
 relations_of Equal = set false true false false

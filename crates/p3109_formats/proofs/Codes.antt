@@ -23,8 +23,7 @@ four_codes c law =
     let e : c.bits - sign_bits c ≡ c.bits - sign_bits c - 2 + 2 = omega (arith, two) in
     let product : 2 ^ (c.bits - sign_bits c) ≡ 2 ^ (c.bits - sign_bits c - 2) * 4 =
     ap (λ (n : ℕ). 2 ^ n) e ∙ pow-add 2 (c.bits - sign_bits c - 2) 2 in
-    let some = pow_pos (c.bits - sign_bits c - 2) in
-    omega (arith, product, some)
+    omega (arith, product, pow_pos (c.bits - sign_bits c - 2))
   where
     width : (signed : Bool) → 3 ≤ c.bits → cond signed 1 0 + 2 ≤ c.bits
     width true l = omega (arith, l)
@@ -36,8 +35,7 @@ pub record AreApart (codes last most bad : ℕ) : Type 0 where
   pub last_not_nan : last < bad
   pub most_to : most ≤ last
 
-are_apart : (codes last most bad : ℕ) → last < codes → last < bad → most ≤ last
-    → AreApart codes last most bad
+are_apart : (codes last most bad : ℕ) → last < codes → last < bad → most ≤ last → AreApart codes last most bad
 are_apart codes last most bad below other to = record { last_below = below; last_not_nan = other; most_to = to }
 
 pub apart : (c : Descriptor) → IsProjection c
@@ -60,8 +58,7 @@ pub record IsCodedBy (c : Descriptor) (negative : Bool) (index code : ℕ) : Typ
   pub rest : magnitude_of c code ≡ index
   pub no_nan : eqb code (nan_code c) ≡ false
 
-pub plain_code : (c : Descriptor) (index : ℕ) → IsProjection c → index ≤ last_index c
-    → IsCodedBy c false index index
+pub plain_code : (c : Descriptor) (index : ℕ) → IsProjection c → index ≤ last_index c → IsCodedBy c false index index
 plain_code c index law l =
     let a = apart c law in
     let below : index < unsigned_codes c = omega (arith, l, a.last_below) in
@@ -71,18 +68,15 @@ plain_code c index law l =
       no_nan = ne_eqb index (nan_code c) (λ e. omega (arith, e, l, a.last_not_nan));
     }
   where
-    unsigned : (signed : Bool) → leb (unsigned_codes c) index ≡ false
-        → (signed && leb (unsigned_codes c) index) ≡ false
+    unsigned : (signed : Bool) → leb (unsigned_codes c) index ≡ false → (signed && leb (unsigned_codes c) index) ≡ false
     unsigned true e = e
     unsigned false e = refl
 
-pub minus_code : (c : Descriptor) (index : ℕ) → IsProjection c → c.signed ≡ true → 0 < index
-    → index ≤ last_index c
+pub minus_code : (c : Descriptor) (index : ℕ) → IsProjection c → c.signed ≡ true → 0 < index → index ≤ last_index c
     → IsCodedBy c true index (unsigned_codes c + index)
 minus_code c index law signed some l =
-    let a = apart c law in
     let codes : ℕ = unsigned_codes c in
-    let below : index < codes = omega (arith, l, a.last_below) in
+    let below : index < codes = omega (arith, l, (apart c law).last_below) in
     let swapped : codes + index ≡ index + 1 * codes = omega arith in
     let bad : nan_code c ≡ codes = ap (λ (s : Bool). cond s codes (codes - 1)) signed in
     record {
@@ -114,8 +108,7 @@ pub coded_number : (c : Descriptor) (negative : Bool) (index : ℕ) → IsProjec
     → (negative ≡ true → c.signed ≡ true) → index ≤ largest_index c
     → projected_datum c (coded c negative index) ≡ signed_quanta NanNegativeZero negative (point c.precision index)
 coded_number c false index law sign l =
-    let a = apart c law in
-    number_of_code c false index index (plain_code c index law (omega (arith, l, a.most_to))) l
+    number_of_code c false index index (plain_code c index law (omega (arith, l, (apart c law).most_to))) l
     ∙ unsigned (eqb (point c.precision index) 0) (λ e. eqb-true (point c.precision index) 0 e)
   where
     unsigned : (none : Bool) → (none ≡ true → point c.precision index ≡ 0)
@@ -124,23 +117,20 @@ coded_number c false index law sign l =
     unsigned false z = refl
 coded_number c true zero law sign l =
     let a = apart c law in
-    let z = zero_point c.precision in
     number_of_code c false 0 0 (plain_code c 0 law (omega arith)) (omega arith)
-    ∙ rw z refl
+    ∙ rw (zero_point c.precision) refl
 coded_number c true (suc index) law sign l =
-    let a = apart c law in
     let some : eqb (suc index) 0 ≡ false = ne_eqb (suc index) 0 (λ e. omega (arith, e)) in
     let least = not_below_number c.precision (suc index) law.precision_low in
     let off : eqb (point c.precision (suc index)) 0 ≡ false =
     ne_eqb (point c.precision (suc index)) 0 (λ e. omega (arith, e, least)) in
-    let code = minus_code c (suc index) law (sign refl) (omega arith) (omega (arith, l, a.most_to)) in
+    let code = minus_code c (suc index) law (sign refl) (omega arith) (omega (arith, l, (apart c law).most_to)) in
     rw (some, off) (number_of_code c true (suc index) (unsigned_codes c + suc index) code l)
 
 pub coded_infinity : (c : Descriptor) (negative : Bool) → IsProjection c → (negative ≡ true → c.signed ≡ true)
     → c.extended ≡ true → projected_datum c (coded c negative (last_index c)) ≡ past_value c negative
 coded_infinity c negative law sign extended =
-    let past : last_index c ≡ largest_index c + 1 =
-    ap (λ (e : Bool). largest_index c + cond e 1 0) extended in
+    let past : last_index c ≡ largest_index c + 1 = ap (λ (e : Bool). largest_index c + cond e 1 0) extended in
     by_sign negative sign past ∙ sym (ap (λ (e : Bool). cond e (infinite negative) (nan false 0)) extended)
   where
     by_sign : (b : Bool) → (b ≡ true → c.signed ≡ true) → last_index c ≡ largest_index c + 1
@@ -154,8 +144,7 @@ coded_infinity c negative law sign extended =
         (minus_code c (last_index c) law (s refl) (omega (arith, past)) (omega arith)) (omega (arith, past)))
 
 -- a code that is neither the NaN nor past the largest number
-pub number_at : (c : Descriptor) (code : ℕ) {test negative : Bool} → test ≡ eqb code (nan_code c)
-    → test ≡ false
+pub number_at : (c : Descriptor) (code : ℕ) {test negative : Bool} → test ≡ eqb code (nan_code c) → test ≡ false
     → negative ≡ is_negative_code c code → magnitude_of c code ≤ largest_index c
     → projected_datum c code ≡ finite negative (point c.precision (magnitude_of c code))
 number_at c code is isnt sign l =
@@ -166,8 +155,7 @@ pub nan_at : (c : Descriptor) (code : ℕ) {test : Bool} → test ≡ eqb code (
     → projected_datum c code ≡ nan false 0
 nan_at c code is known = let same : eqb code (nan_code c) ≡ true = sym is ∙ known in rw same refl
 
-pub infinity_at : (c : Descriptor) (code : ℕ) {test negative : Bool} → test ≡ eqb code (nan_code c)
-    → test ≡ false
+pub infinity_at : (c : Descriptor) (code : ℕ) {test negative : Bool} → test ≡ eqb code (nan_code c) → test ≡ false
     → negative ≡ is_negative_code c code → largest_index c < magnitude_of c code
     → projected_datum c code ≡ infinite negative
 infinity_at c code is isnt sign l =
@@ -190,8 +178,7 @@ split_code true codes code some l none other =
 split_code false codes code some l none other = sym (mod-eq_of_lt l) ∙ none
 
 -- how many codes there are, with a sign twice as many
-pub all_codes : (c : Descriptor) → IsProjection c
-    → 2 ^ c.bits ≡ cond c.signed (2 * unsigned_codes c) (unsigned_codes c)
+pub all_codes : (c : Descriptor) → IsProjection c → 2 ^ c.bits ≡ cond c.signed (2 * unsigned_codes c) (unsigned_codes c)
 all_codes c law = by_sign c.signed
   where
     by_sign : (signed : Bool)
@@ -207,22 +194,19 @@ below_all false codes i l = l
 
 pub plain_fits : (c : Descriptor) (index : ℕ) → IsProjection c → index ≤ last_index c → index < 2 ^ c.bits
 plain_fits c index law l =
-    let a = apart c law in
-    rw (all_codes c law) (below_all c.signed (unsigned_codes c) index (omega (arith, l, a.last_below)))
+    rw (all_codes c law) (below_all c.signed (unsigned_codes c) index (omega (arith, l, (apart c law).last_below)))
 
 pub minus_fits : (c : Descriptor) (index : ℕ) → IsProjection c → c.signed ≡ true → index ≤ last_index c
     → unsigned_codes c + index < 2 ^ c.bits
 minus_fits c index law signed l =
-    let a = apart c law in
     let all : 2 ^ c.bits ≡ 2 * unsigned_codes c =
     all_codes c law ∙ ap (λ (b : Bool). cond b (2 * unsigned_codes c) (unsigned_codes c)) signed in
-    omega (arith, all, l, a.last_below)
+    omega (arith, all, l, (apart c law).last_below)
 
 no_sign : (c : Descriptor) (code : ℕ) → IsProjection c → code < 2 ^ c.bits → eqb code (nan_code c) ≡ false
     → magnitude_of c code ≡ 0 → code ≡ 0
 no_sign c code law l other none =
-    let some = four_codes c law in
-    split_code c.signed (unsigned_codes c) code (omega (arith, some)) (rw (all_codes c law) at l) none other
+    split_code c.signed (unsigned_codes c) code (omega (arith, four_codes c law)) (rw (all_codes c law) at l) none other
 
 -- The magnitude 0 with a sign is the NaN, so the zero has none.
 pub zero_at : (c : Descriptor) (code : ℕ) {test : Bool} → IsProjection c → code < 2 ^ c.bits

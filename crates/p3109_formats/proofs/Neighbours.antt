@@ -72,8 +72,7 @@ record IsAtRank (c : Descriptor) (code : ℕ) (rank : ℤ) : Type 0 where
   known : eqb code (nan_code c) ≡ false
   at : rank_of c code ≡ rank
 
-less : (c : Descriptor) (x y : ℕ) (i j : ℤ) → IsProjection c → IsAtRank c x i → IsAtRank c y j → i <ℤ j
-    → IsLess c x y
+less : (c : Descriptor) (x y : ℕ) (i j : ℤ) → IsProjection c → IsAtRank c x i → IsAtRank c y j → i <ℤ j → IsLess c x y
 less c x y i j law a b l =
     by_ranks c x y law a.bound b.bound a.known b.known
     ∙ ap (λ (r : Ordering). Some r) (rw (a.at, b.at) (sym (int_cmp_is i j Less l)))
@@ -82,8 +81,7 @@ itself : (c : Descriptor) (code : ℕ) → code < 2 ^ c.bits → eqb code (nan_c
     → IsAtRank c code (rank_of c code)
 itself c code l isnt = record { bound = l; known = isnt; at = refl }
 
-at_rank : (c : Descriptor) (negative : Bool) (index code : ℕ) → code < 2 ^ c.bits
-    → IsCodedBy c negative index code
+at_rank : (c : Descriptor) (negative : Bool) (index code : ℕ) → code < 2 ^ c.bits → IsCodedBy c negative index code
     → IsAtRank c code (signed negative index)
 at_rank c negative index code l x = record {
   bound = l;
@@ -91,26 +89,22 @@ at_rank c negative index code l x = record {
   at = ap (λ (b : Bool). signed b (magnitude_of c code)) x.sign ∙ ap (λ (n : ℕ). signed negative n) x.rest;
 }
 
-plain_rank : (c : Descriptor) (index : ℕ) → IsProjection c → index ≤ last_index c
-    → IsAtRank c index (pos index)
+plain_rank : (c : Descriptor) (index : ℕ) → IsProjection c → index ≤ last_index c → IsAtRank c index (pos index)
 plain_rank c index law l =
-    let a = apart c law in
     at_rank c false index index
-    (rw (all_codes c law) (below_all c.signed (unsigned_codes c) index (omega (arith, l, a.last_below))))
+    (rw (all_codes c law) (below_all c.signed (unsigned_codes c) index (omega (arith, l, (apart c law).last_below))))
     (plain_code c index law l)
   where
     below_all : (b : Bool) (codes i : ℕ) → i < codes → i < cond b (2 * codes) codes
     below_all true codes i l = omega (arith, l)
     below_all false codes i l = l
 
-minus_rank : (c : Descriptor) (index : ℕ) → IsProjection c → c.signed ≡ true → 0 < index
-    → index ≤ last_index c
+minus_rank : (c : Descriptor) (index : ℕ) → IsProjection c → c.signed ≡ true → 0 < index → index ≤ last_index c
     → IsAtRank c (unsigned_codes c + index) (neg_ℤ (pos index))
 minus_rank c index law signed some l =
-    let a = apart c law in
     let all : 2 ^ c.bits ≡ 2 * unsigned_codes c =
     all_codes c law ∙ ap (λ (b : Bool). cond b (2 * unsigned_codes c) (unsigned_codes c)) signed in
-    at_rank c true index (unsigned_codes c + index) (omega (arith, all, l, a.last_below))
+    at_rank c true index (unsigned_codes c + index) (omega (arith, all, l, (apart c law).last_below))
     (minus_code c index law signed some l)
 
 -- what is no NaN is not past the last index
@@ -132,8 +126,7 @@ last_at false false false codes code m four l is sign other =
     absurd (false≢true (sym other ∙ eq-eqb code (codes - 1) (omega (arith, k, l, is)))))
     (cases_lt m (codes - 1))
 
-pub at_most_last : (c : Descriptor) (code : ℕ) → IsProjection c → code < 2 ^ c.bits
-    → eqb code (nan_code c) ≡ false
+pub at_most_last : (c : Descriptor) (code : ℕ) → IsProjection c → code < 2 ^ c.bits → eqb code (nan_code c) ≡ false
     → magnitude_of c code ≤ last_index c
 at_most_last c code law l isnt =
     last_at c.signed c.extended (is_negative_code c code) (unsigned_codes c) code (magnitude_of c code)
@@ -156,8 +149,7 @@ pub record IsNegative (c : Descriptor) (code : ℕ) : Type 0 where
   pub some : 0 < magnitude_of c code
   pub at : rank_of c code ≡ neg_ℤ (pos (magnitude_of c code))
 
-pub negative_code : (c : Descriptor) (code : ℕ) → IsProjection c → code < 2 ^ c.bits
-    → eqb code (nan_code c) ≡ false
+pub negative_code : (c : Descriptor) (code : ℕ) → IsProjection c → code < 2 ^ c.bits → eqb code (nan_code c) ≡ false
     → is_negative_code c code ≡ true → IsNegative c code
 negative_code c code law l isnt e =
     let sign : c.signed ≡ true = (and_parts _ _ e).0 in
@@ -171,23 +163,16 @@ negative_code c code law l isnt e =
     absurd (false≢true (sym isnt ∙ eq-eqb code (nan_code c) (omega (arith, is, unknown, k)))))
     (λ (k : 1 ≤ magnitude_of c code). omega (arith, k))
     (cases_lt (magnitude_of c code) 1) in
-    record {
-      signed = sign;
-      is = is;
-      some = some;
-      at = ap (λ (b : Bool). signed b (magnitude_of c code)) e;
-    }
+    record { signed = sign; is = is; some = some; at = ap (λ (b : Bool). signed b (magnitude_of c code)) e }
 
-positive_code : (c : Descriptor) (code : ℕ) → IsProjection c → code < 2 ^ c.bits
-    → is_negative_code c code ≡ false
+positive_code : (c : Descriptor) (code : ℕ) → IsProjection c → code < 2 ^ c.bits → is_negative_code c code ≡ false
     → code ≡ magnitude_of c code
 positive_code c code law l e =
     parts_of_code c code law l
     ∙ ap (λ (b : Bool). cond b (unsigned_codes c) 0 + magnitude_of c code) e ∙ omega arith
 
 -- with a sign, the code past that of a number is one, if the number is not the last
-pub past_fits : (c : Descriptor) (code : ℕ) → IsProjection c → code < 2 ^ c.bits
-    → is_negative_code c code ≡ true
+pub past_fits : (c : Descriptor) (code : ℕ) → IsProjection c → code < 2 ^ c.bits → is_negative_code c code ≡ true
     → (magnitude_of c code ≡ last_index c → ⊥) → code + 1 < 2 ^ c.bits
 past_fits c code law l e other =
     let sign : c.signed ≡ true = (and_parts _ _ e).0 in
@@ -195,10 +180,9 @@ past_fits c code law l e other =
     parts_of_code c code law l ∙ ap (λ (b : Bool). cond b (unsigned_codes c) 0 + magnitude_of c code) e in
     let all : 2 ^ c.bits ≡ 2 * unsigned_codes c =
     all_codes c law ∙ ap (λ (b : Bool). cond b (2 * unsigned_codes c) (unsigned_codes c)) sign in
-    let rest = mod_below code (unsigned_codes c) (pow_pos (c.bits - sign_bits c)) in
     let four = four_codes c law in
     let last : last_index c ≡ unsigned_codes c - 1 = signed_last c.extended (unsigned_codes c) four sign in
-    omega (arith, is, all, rest, four, last, other)
+    omega (arith, is, all, mod_below code (unsigned_codes c) (pow_pos (c.bits - sign_bits c)), four, last, other)
   where
     last_by : (extended : Bool) (codes : ℕ) → 4 ≤ codes
         → codes - 1 - cond true 0 1 - cond extended 1 0 + cond extended 1 0 ≡ codes - 1
@@ -215,13 +199,11 @@ past_fits c code law l e other =
 
 -- the code above that of a negative number has the next rank
 
-above_negative : (c : Descriptor) (code : ℕ) → IsProjection c → code < 2 ^ c.bits
-    → eqb code (nan_code c) ≡ false
+above_negative : (c : Descriptor) (code : ℕ) → IsProjection c → code < 2 ^ c.bits → eqb code (nan_code c) ≡ false
     → is_negative_code c code ≡ true → IsAtRank c (code_above c code) (rank_of c code +ℤ pos 1)
 above_negative c code law l isnt e =
     let n = negative_code c code law l isnt e in
-    let last = at_most_last c code law l isnt in
-    by_index (magnitude_of c code - 1) (omega (arith, n.some)) n.at (omega (arith, last))
+    by_index (magnitude_of c code - 1) (omega (arith, n.some)) n.at (omega (arith, at_most_last c code law l isnt))
   where
     by_zero : (i : ℕ) → i ≤ last_index c → c.signed ≡ true → IsAtRank c (coded c true i) (neg_ℤ (pos i))
     by_zero zero k sign = plain_rank c 0 law k
@@ -234,9 +216,8 @@ above_negative c code law l isnt e =
     by_index i m at k =
         let index : magnitude_of c code - 1 ≡ i = omega (arith, m) in
         let next : neg_ℤ (pos i) ≡ rank_of c code +ℤ pos 1 = omega (arith, ints, at, m) in
-        let n = negative_code c code law l isnt e in
         subst (λ (z : ℤ). IsAtRank c (code_above c code) z) next
-        (rw (isnt, e, index) (by_zero i k n.signed))
+        (rw (isnt, e, index) (by_zero i k (negative_code c code law l isnt e).signed))
 
 above_positive : (c : Descriptor) (code other : ℕ) → IsProjection c → code < 2 ^ c.bits → other < 2 ^ c.bits
     → eqb code (nan_code c) ≡ false → eqb other (nan_code c) ≡ false → rank_of c code <ℤ rank_of c other
@@ -279,8 +260,7 @@ below_negative c code other law l k isnt none lesser e =
     let room : m < last_index c = omega (arith, ints, lesser, at, last) in
     let off : eqb m (last_index c) ≡ false = ne_eqb m (last_index c) (λ q. omega (arith, q, room)) in
     let next : neg_ℤ (pos (m + 1)) ≡ rank_of c code -ℤ pos 1 = omega (arith, ints, at) in
-    let is = n.is in
-    let code_is : unsigned_codes c + (m + 1) ≡ code + 1 = omega (arith, is) in
+    let code_is : unsigned_codes c + (m + 1) ≡ code + 1 = omega (arith, n.is) in
     subst (λ (z : ℤ). IsAtRank c (code_below c code) z) next
     (rw (isnt, e, off) (subst (λ (x : ℕ). IsAtRank c x (neg_ℤ (pos (m + 1)))) code_is
     (minus_rank c (m + 1) law n.signed (omega arith) (omega (arith, room)))))
@@ -298,24 +278,20 @@ below_positive c code other law l isnt lesser e =
     let last = at_most_last c code law l isnt in
     ⊎_elim
     (λ (z : code ≡ 0).
-    let nought = eq-eqb code 0 z in
     let next : neg_ℤ (pos 1) ≡ rank_of c code -ℤ pos 1 = omega (arith, ints, at, m, z) in
     subst (λ (r : ℤ). IsAtRank c (code_below c code) r) next
-    (rw (isnt, e, nought) (has_sign c.signed refl (omega (arith, ints, lesser, at, m, z)))))
+    (rw (isnt, e, eq-eqb code 0 z) (has_sign c.signed refl (omega (arith, ints, lesser, at, m, z)))))
     (λ (n : code ≡ 0 → ⊥).
-    let off = ne_eqb code 0 n in
     let next : pos (code - 1) ≡ rank_of c code -ℤ pos 1 = omega (arith, ints, at, m, n) in
     subst (λ (r : ℤ). IsAtRank c (code_below c code) r) next
-    (rw (isnt, e, off) (plain_rank c (code - 1) law (omega (arith, last, m)))))
+    (rw (isnt, e, ne_eqb code 0 n) (plain_rank c (code - 1) law (omega (arith, last, m)))))
     (cases_eq code 0)
   where
     has_sign : (b : Bool) → c.signed ≡ b → rank_of c other <ℤ pos 0
         → IsAtRank c (cond c.signed (unsigned_codes c + 1) (nan_code c)) (neg_ℤ (pos 1))
     has_sign true s h =
-        let a = apart c law in
-        let some = largest_some c law in
         subst (λ (b : Bool). IsAtRank c (cond b (unsigned_codes c + 1) (nan_code c)) (neg_ℤ (pos 1))) (sym s)
-        (minus_rank c 1 law s (omega arith) (omega (arith, some, a.most_to)))
+        (minus_rank c 1 law s (omega arith) (omega (arith, largest_some c law, (apart c law).most_to)))
     has_sign false s h =
         let r : rank_of c other ≡ pos (magnitude_of c other) =
         ap (λ (b : Bool). signed b (magnitude_of c other)) (sign_of c other s) in
@@ -335,26 +311,22 @@ below_it c code other law l k isnt none lesser = by_sign (is_negative_code c cod
 pub next_values : AreNextValues
 next_values c code other law l k = (up, down)
   where
-    up : IsLess c code other
-        → IsLess c code (code_above c code) × (IsLess c other (code_above c code) → ⊥)
+    up : IsLess c code other → IsLess c code (code_above c code) × (IsLess c other (code_above c code) → ⊥)
     up h =
         let isnt = left_known c code other h in
-        let none = right_known c code other h in
         let rank = lower c code other law l k h in
-        let a = above c code other law l k isnt none rank in
+        let a = above c code other law l k isnt (right_known c code other h) rank in
         let at = a.at in (
           less c code (code_above c code) (rank_of c code) (rank_of c code +ℤ pos 1) law (itself c code l isnt) a
               (omega (arith, ints)),
           λ x. let q = lower c other (code_above c code) law k a.bound x in omega (arith, ints, q, at, rank),
         )
 
-    down : IsLess c other code
-        → IsLess c (code_below c code) code × (IsLess c (code_below c code) other → ⊥)
+    down : IsLess c other code → IsLess c (code_below c code) code × (IsLess c (code_below c code) other → ⊥)
     down h =
-        let none = left_known c other code h in
         let isnt = right_known c other code h in
         let rank = lower c other code law k l h in
-        let a = below_it c code other law l k isnt none rank in
+        let a = below_it c code other law l k isnt (left_known c other code h) rank in
         let at = a.at in (
           less c (code_below c code) code (rank_of c code -ℤ pos 1) (rank_of c code) law a (itself c code l isnt)
               (omega (arith, ints)),

@@ -47,8 +47,7 @@ point_pick_once p mode negative amount parts i j some = by_digits (eqb p 1)
         index_pick_once (takes_next mode negative) (point p) amount parts i j
         (λ a b less. points_in_order p a b some less)
         x y
-    by_digits false x y =
-        one_number p i j some (pick_by_once p mode negative amount parts (point p i) (point p j) x y)
+    by_digits false x y = one_number p i j some (pick_by_once p mode negative amount parts (point p i) (point p j) x y)
 
 pub random_pick_once : (p : ℕ) (mode : Round) (bits : RandomDigits) (amount parts i j : ℕ) → 0 < p
     → IsRandomPick p mode bits amount parts i → IsRandomPick p mode bits amount parts j → i ≡ j
@@ -108,8 +107,7 @@ parts_of_code c code law l = by_sign c.signed refl
         ∙ ap (λ (s : Bool). cond (s && leb (unsigned_codes c) code) (unsigned_codes c) 0 + magnitude_of c code) (sym e)
 
 -- a code that is no NaN and past the largest number is the infinity
-pub infinity_index : (c : Descriptor) (code : ℕ) → IsProjection c → code < 2 ^ c.bits
-    → eqb code (nan_code c) ≡ false
+pub infinity_index : (c : Descriptor) (code : ℕ) → IsProjection c → code < 2 ^ c.bits → eqb code (nan_code c) ≡ false
     → largest_index c < magnitude_of c code → magnitude_of c code ≡ largest_index c + 1
 infinity_index c code law l other past =
     let below = mod_below code (unsigned_codes c) (pow_pos (c.bits - sign_bits c)) in
@@ -137,8 +135,7 @@ infinity_index c code law l other past =
         absurd (false≢true (sym other ∙ eq-eqb code (codes - 1) e))
 
 -- no two codes mean one datum
-pub projected_code_once : (c : Descriptor) (code other : ℕ) → IsProjection c → code < 2 ^ c.bits
-    → other < 2 ^ c.bits
+pub projected_code_once : (c : Descriptor) (code other : ℕ) → IsProjection c → code < 2 ^ c.bits → other < 2 ^ c.bits
     → projected_datum c code ≡ projected_datum c other → code ≡ other
 projected_code_once c code other law l k e =
     let m : ℕ = magnitude_of c code in

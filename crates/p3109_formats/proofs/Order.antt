@@ -18,8 +18,7 @@ pub record IsAt (most index : ℕ) (past : Bool) : Type 0 where
   pub number : past ≡ false → index ≤ most
   pub infinity : past ≡ true → index ≡ most + 1
 
-pub at_most_past : (c : Descriptor) (code : ℕ) → IsProjection c → code < 2 ^ c.bits
-    → eqb code (nan_code c) ≡ false
+pub at_most_past : (c : Descriptor) (code : ℕ) → IsProjection c → code < 2 ^ c.bits → eqb code (nan_code c) ≡ false
     → IsAt (largest_index c) (magnitude_of c code) (ltb (largest_index c) (magnitude_of c code))
 at_most_past c code law l other = record {
   number = λ e.
@@ -81,8 +80,7 @@ known_order p most i j false true b d some x y =
     let l = x.number refl in
     let e = y.infinity refl in
     number_infinity b d i j (point p i) (omega (arith, e, l))
-known_order p most i j false false b d some x y =
-    ap (λ (r : Ordering). Some r) (sym (compared_points p i j b d some))
+known_order p most i j false false b d some x y = ap (λ (r : Ordering). Some r) (sym (compared_points p i j b d some))
 
 -- a NaN is unordered, on either side
 pub left_nan : (y : Datum) → compared (nan false 0) y ≡ None

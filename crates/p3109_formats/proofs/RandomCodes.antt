@@ -34,21 +34,19 @@ random_pick p bits negative amount parts index one some = by_digits (eqb p 1)
         → MatchBool single (IsCodePickBy p (Stochastic bits) negative amount parts index)
         (IsPickBy p (Stochastic bits) negative amount parts (point p index))
         → IsPickBy p (Stochastic bits) negative amount parts (point p index)
-    by_digits true x =
-        code_pick_by p (Stochastic bits) negative amount parts index one some (λ m c by to. refl) x
+    by_digits true x = code_pick_by p (Stochastic bits) negative amount parts index one some (λ m c by to. refl) x
     by_digits false x = x
 
 pub random_codes_counted : AreRandomCodesCounted
 random_codes_counted p digits low amount parts negative bits index one some from to all picks =
     let f = form_of p low one in
     let at = form_point p low one f in
-    let next = form_next p low one f in
     let i = form_encloses p low amount parts one f (omega (arith, from)) to in
     let at_parts : point p low * parts ≡ f.m * 2 ^ f.c * parts = ap (λ (n : ℕ). n * parts) at in
     let below : IsBelow p (point p low) amount parts =
     subst (λ (n : ℕ). IsBelow p n amount parts) (sym at) (below_is p (2 ^ (p - 1)) f.m f.c amount parts i) in
     let above : IsAbove p (point p (low + 1)) amount parts =
-    subst (λ (n : ℕ). IsAbove p n amount parts) (sym next)
+    subst (λ (n : ℕ). IsAbove p n amount parts) (sym (form_next p low one f))
     (above_is_next p (2 ^ (p - 1)) f.m f.c amount parts i (omega (arith, from, at_parts))) in
     same_count (λ (k : ℕ). ltb low (index k)) (λ (k : ℕ). ltb (point p low) (point p (index k))) (2 ^ digits)
     (λ k h. order_kept p low (index k) one)
@@ -86,8 +84,7 @@ rounded_parts_counted p digits low amount parts mode bits index one from to all 
     let takes : ℕ → ℕ → Bool → Bool = λ below above odd. reaches_next mode (bits k) below above in
     let here : IsRandomPick p mode (bits k) amount parts (index_between takes (point p) amount parts low) =
     record { low = low; from = omega (arith, from); to = to; is = refl } in
-    let same : index k ≡ index_between takes (point p) amount parts low =
-    random_pick_once p mode (bits k) amount parts (index k) _ one (picks k h) here in
+    let same = random_pick_once p mode (bits k) amount parts (index k) _ one (picks k h) here in
     ap (λ (n : ℕ). ltb low n) same
     ∙ ap (λ (b : Bool). ltb low (cond b low (cond (reaches_next mode (bits k) by rest) (low + 1) low))) off
     ∙ next_index (reaches_next mode (bits k) by rest) low

@@ -22,15 +22,9 @@ use Rattle.p3109_formats.proofs.OneAnswer.{point_pick_once}
 rest_stands : (q a u b s r : ℕ) (loss : Loss) → s ≡ q * u + b → r ≡ a * u + b → StandsFor q loss s u
     → StandsFor a loss r u
 rest_stands q a u b s r ExactlyZero e f h = omega (arith, e, f, h)
-rest_stands q a u b s r LessThanHalf e f h =
-    let l = h.0 in
-    let m = h.1 in
-    (omega (arith, e, f, l), omega (arith, e, f, m))
+rest_stands q a u b s r LessThanHalf e f h = (omega (arith, e, f, h.0), omega (arith, e, f, h.1))
 rest_stands q a u b s r ExactlyHalf e f h = omega (arith, e, f, h)
-rest_stands q a u b s r MoreThanHalf e f h =
-    let l = h.0 in
-    let m = h.1 in
-    (omega (arith, e, f, l), omega (arith, e, f, m))
+rest_stands q a u b s r MoreThanHalf e f h = (omega (arith, e, f, h.0), omega (arith, e, f, h.1))
 
 -- the parts of a rest, which has at least as many digits as they
 pub parts_kept : (number places digits high share amount parts : ℕ) (mode : Round) (loss : Loss) → digits ≤ places
@@ -101,8 +95,7 @@ away_is p number k c amount parts u d mode bits away one some low high covers re
     eq_of_mul-eq-mul_right (2 ^ d) (pow_pos d) (by * 2 ^ k * w) (r * (by + to_next) * w)
     (let x : by * 2 ^ d * (2 ^ k * w) ≡ r * w * ((by + to_next) * 2 ^ d) =
     ap (λ (n : ℕ). n * (2 ^ k * w)) by_is ∙ ap (λ (n : ℕ). r * w * n) (sym both) in omega (arith, x)) in
-    let same : by * 2 ^ k ≡ r * (by + to_next) =
-    eq_of_mul-eq-mul_right w positive (by * 2 ^ k) (r * (by + to_next)) cross in
+    let same = eq_of_mul-eq-mul_right w positive (by * 2 ^ k) (r * (by + to_next)) cross in
     let times : 2 ^ bits.digits * by * 2 ^ k ≡ 2 ^ bits.digits * r * (by + to_next) =
     let x : 2 ^ bits.digits * (by * 2 ^ k) ≡ 2 ^ bits.digits * (r * (by + to_next)) =
     ap (λ (n : ℕ). 2 ^ bits.digits * n) same in omega (arith, x) in
@@ -118,9 +111,8 @@ takes_direction true odd x y = refl
 takes_direction false odd x y = refl
 
 -- the pick of the mode that rounds to that neighbour
-pub chosen : (p : ℕ) (mode : Round) (bits : RandomDigits) (amount parts index : ℕ) (away : Bool) → 0 < p
-    → 0 < parts → IsAway p mode bits amount parts away
-    → IsPointPickBy p (Ieee (direction away false)) false amount parts index
+pub chosen : (p : ℕ) (mode : Round) (bits : RandomDigits) (amount parts index : ℕ) (away : Bool) → 0 < p → 0 < parts
+    → IsAway p mode bits amount parts away → IsPointPickBy p (Ieee (direction away false)) false amount parts index
     → IsRandomPick p mode bits amount parts index
 chosen p mode bits amount parts index away one some a x =
     let round = Ieee (direction away false) in
@@ -129,13 +121,11 @@ chosen p mode bits amount parts index away one some a x =
     let y = code_pick_by p round false amount parts j one some
     (λ m c v w. takes_direction away (eqb (m % 2) 1) v w
     ∙ sym (takes_direction away (eqb (index_of p m c % 2) 1) v w)) z in
-    let same : index ≡ j =
-    point_pick_once p round false amount parts index j one x (match_both (eqb p 1) _ _ z y) in
     record {
       low = a.low;
       from = a.from;
       to = a.to;
-      is = same
+      is = point_pick_once p round false amount parts index j one x (match_both (eqb p 1) _ _ z y)
           ∙ ap (λ (b : Bool). cond (eqb (point p a.low * parts) amount) a.low (cond b (a.low + 1) a.low))
           (takes_direction away (eqb (a.low % 2) 1) (amount - point p a.low * parts)
           (point p (a.low + 1) * parts - amount) ∙ a.is);

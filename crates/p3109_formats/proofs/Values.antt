@@ -107,9 +107,8 @@ largest_some c law = by_cases c.signed c.extended (four_codes c law)
 
 -- what each category becomes in a projection: a NaN becomes the NaN
 pub nan_into : (c : Descriptor) (f : Format) (rule : ProjectionRule) (x : Datum) (code status : ℕ) (loses : Bool)
-    → category_of x ≡ NaN → projected_datum c code ≡ nan false 0
-    → status ≡ invalid_if (is_signaling_nan f x) → loses ≡ not (eqb (payload_mask f) 0)
-    → IsIntoProjectionBy c f rule x code status loses
+    → category_of x ≡ NaN → projected_datum c code ≡ nan false 0 → status ≡ invalid_if (is_signaling_nan f x)
+    → loses ≡ not (eqb (payload_mask f) 0) → IsIntoProjectionBy c f rule x code status loses
 nan_into c f rule (nan b s) code status loses is value flags lost =
     record { value_is = value; status_is = flags; loses_is = lost }
 nan_into c f rule (finite b n) code status loses is value flags lost = absurd (no_nan (eqb n 0) is)
@@ -150,8 +149,7 @@ positive_quanta kind (infinite b) is = cc
 positive_quanta kind (nan b s) is = cc
 
 -- what has a code has a sign only if the format has one
-pub signed_if : (negative signed : Bool) → (negative && not signed) ≡ false → negative ≡ true
-    → signed ≡ true
+pub signed_if : (negative signed : Bool) → (negative && not signed) ≡ false → negative ≡ true → signed ≡ true
 signed_if true true e h = refl
 signed_if true false e h = absurd (false≢true (sym e))
 signed_if false signed e h = absurd (false≢true h)
@@ -207,8 +205,7 @@ pub number_converted : (c : Descriptor) (g : Format) (mode : Round) (code index 
     → IsConversion (projected_format c) g mode (projected_datum c code) value status loses
 number_converted c g mode code index negative value status loses some p is h l =
     let n : ℕ = point c.precision index in
-    let least = not_below_number c.precision index some in
-    let off : eqb n 0 ≡ false = ne_eqb n 0 (λ e. omega (arith, e, least, p)) in
+    let off : eqb n 0 ≡ false = ne_eqb n 0 (λ e. omega (arith, e, not_below_number c.precision index some, p)) in
     subst (λ (x : Datum). IsConversion (projected_format c) g mode x value status loses) (sym is)
     (subst (λ (t : Bool). MatchBool t
     (IsKept (finite (zero_sign g.nonfinite negative) 0) (loses_zero_sign g negative) value status loses)

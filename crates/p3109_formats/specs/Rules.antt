@@ -30,8 +30,7 @@ IsRandomPick precision mode bits amount parts index =
 
 -- the index of the point that is picked
 abbrev pub IsRulePick : ℕ → ProjectionRound → Bool → ℕ → ℕ → ℕ → Type 0
-IsRulePick precision (By mode) negative amount parts index =
-    IsPointPickBy precision mode negative amount parts index
+IsRulePick precision (By mode) negative amount parts index = IsPointPickBy precision mode negative amount parts index
 IsRulePick precision (StochasticB bits) negative amount parts index =
     IsRandomPick precision NearestTiesToAway bits amount parts index
 IsRulePick precision (StochasticC bits) negative amount parts index =

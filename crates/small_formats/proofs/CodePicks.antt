@@ -48,7 +48,6 @@ pub code_pick_by : (p : ℕ) (mode : ConversionRound) (negative : Bool) (amount 
     → IsPickBy p mode negative amount parts (point p index)
 code_pick_by p mode negative amount parts index one some alike x =
     let f = form_of p x.low one in
-    let at = form_point p x.low one f in
     let next = form_next p x.low one f in
     let by : ℕ = amount - f.m * 2 ^ f.c * parts in
     let to : ℕ = (f.m + 1) * 2 ^ f.c * parts - amount in
@@ -59,19 +58,17 @@ code_pick_by p mode negative amount parts index one some alike x =
     ≡ moves mode negative (amount - point p x.low * parts) (point p (x.low + 1) * parts - amount) odd =
     ap (λ (b : Bool). cond (eqb by 0) false b) (alike f.m f.c by to)
     ∙ ap (λ (n : ℕ). moves mode negative by to (eqb (n % 2) 1)) (sym f.is)
-    ∙ ap (λ (n : ℕ). moves mode negative (amount - n * parts) to odd) (sym at)
+    ∙ ap (λ (n : ℕ). moves mode negative (amount - n * parts) to odd) (sym (form_point p x.low one f))
     ∙ ap (λ (n : ℕ). moves mode negative (amount - point p x.low * parts) (n * parts - amount) odd) (sym next) in
-    let is : index ≡ cond moved (x.low + 1) x.low =
-    x.is ∙ sym (index_is p mode negative amount parts x.low moved x.from same) in
+    let is = x.is ∙ sym (index_is p mode negative amount parts x.low moved x.from same) in
     let point_is : point p index ≡ cond moved (f.m + 1) f.m * 2 ^ f.c =
     ap (λ (n : ℕ). point p n) is ∙ ap (λ (n : ℕ). point p (cond moved (n + 1) n)) f.is
     ∙ moved_point p f.m f.c one f.fits f.full moved in
     subst (λ (n : ℕ). IsPickBy p mode negative amount parts n) (sym point_is)
     (picked_between p mode negative (2 ^ (p - 1)) f.m f.c amount parts moved some enclosed refl)
 
-pub code_picks_by : (p : ℕ) (mode : ConversionRound) (negative : Bool) (amount parts index : ℕ) → 2 ≤ p
-    → 0 < parts → IsCodePickBy p mode negative amount parts index
-    → IsPickBy p mode negative amount parts (point p index)
+pub code_picks_by : (p : ℕ) (mode : ConversionRound) (negative : Bool) (amount parts index : ℕ) → 2 ≤ p → 0 < parts
+    → IsCodePickBy p mode negative amount parts index → IsPickBy p mode negative amount parts (point p index)
 code_picks_by p mode negative amount parts index two some x =
     code_pick_by p mode negative amount parts index (omega (arith, two)) some
     (λ m c by to. ap (λ (n : ℕ). takes_next mode negative by to (eqb n 1)) (sym (last_digit p m c two))) x

@@ -26,11 +26,9 @@ zero_point p = low_point p 0 (pow_pos (p - 1))
 pub not_below_number : (p i : ℕ) → 0 < p → i ≤ point p i
 not_below_number p zero some = omega arith
 not_below_number p (suc i) some =
-    let before = not_below_number p i some in
-    let step = increasing p i some in
     let e : i + 1 ≡ suc i = omega arith in
     let next : point p (i + 1) ≡ point p (suc i) = ap (λ (n : ℕ). point p n) e in
-    omega (arith, before, step, next)
+    omega (arith, not_below_number p i some, increasing p i some, next)
 
 -- only the first point is 0
 pub zero_code : (p i : ℕ) → 0 < p → eqb i 0 ≡ eqb (point p i) 0

@@ -48,8 +48,7 @@ pub scale_converted : (g : Format) (mode : Round) (code : ℕ) (value : Datum) (
 scale_converted g mode code value status loses n h l =
     let number : scale_of code ≡ finite false (2 ^ code) =
     let off : eqb code 255 ≡ false = ne_eqb code 255 n in rw off refl in
-    let some = pow_pos code in
-    let off : eqb (2 ^ code) 0 ≡ false = ne_eqb (2 ^ code) 0 (λ e. omega (arith, e, some)) in
+    let off : eqb (2 ^ code) 0 ≡ false = ne_eqb (2 ^ code) 0 (λ e. omega (arith, e, pow_pos code)) in
     subst (λ (x : Datum). IsConversion scale_format g mode x value status loses) (sym number)
     (subst (λ (t : Bool). MatchBool t
     (IsKept (finite (zero_sign g.nonfinite false) 0) (loses_zero_sign g false) value status loses)

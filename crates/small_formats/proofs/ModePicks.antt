@@ -16,8 +16,7 @@ use Rattle.small_formats.proofs.MovesScaled.{moves_alike}
 -- ---- the neighbours of an enclosed magnitude
 
 -- a magnitude that is a point does not move, and any other moves as the mode takes
-pub stays : (mode : ConversionRound) (negative odd : Bool) (x y : ℕ) → x ≡ 0
-    → moves mode negative x y odd ≡ false
+pub stays : (mode : ConversionRound) (negative odd : Bool) (x y : ℕ) → x ≡ 0 → moves mode negative x y odd ≡ false
 stays mode negative odd x y e = ap (λ (b : Bool). cond b false (takes_next mode negative x y odd)) (eq-eqb x 0 e)
 
 takes : (mode : ConversionRound) (negative odd : Bool) (x y : ℕ) → 0 < x
@@ -46,8 +45,7 @@ picked_between precision mode negative half m c amount parts moved p i e =
           ∙ ap (λ (b : Bool). cond b ((m + 1) * 2 ^ c) (m * 2 ^ c)) (sym test);
     })
     (λ (l : amount ≤ m * 2 ^ c * parts).
-    let from = i.from in
-    let same : amount ≡ m * 2 ^ c * parts = omega (arith, l, from) in
+    let same : amount ≡ m * 2 ^ c * parts = omega (arith, l, i.from) in
     let stayed : moved ≡ false = e ∙ stays mode negative (eqb (m % 2) 1) by to (omega (arith, same)) in
     record {
       below = m * 2 ^ c;
@@ -93,11 +91,10 @@ rest_is s q r k c amount parts u d sum rest e a =
     let unit : 2 ^ k * w ≡ 2 ^ c * parts * 2 ^ d = same_unit parts k u d c e in
     let times : (n : ℕ) → n * 2 ^ c * parts * 2 ^ d ≡ n * 2 ^ k * w = λ n.
     let x : n * (2 ^ k * w) ≡ n * (2 ^ c * parts * 2 ^ d) = ap (λ (y : ℕ). n * y) unit in omega (arith, x) in
-    let low = times q in
     let high = times (q + 1) in
     let whole : s * w ≡ q * 2 ^ k * w + r * w = sym (ap (λ (y : ℕ). y * w) sum) ∙ omega arith in
     record {
-      below_by = difference_low amount (q * 2 ^ c * parts) (2 ^ d) (q * 2 ^ k * w) (r * w) (a ∙ whole) low;
+      below_by = difference_low amount (q * 2 ^ c * parts) (2 ^ d) (q * 2 ^ k * w) (r * w) (a ∙ whole) (times q);
       above_by = difference_low ((q + 1) * 2 ^ c * parts) amount (2 ^ d) (q * 2 ^ k * w + r * w)
           ((2 ^ k - r) * w) (high ∙ next_unit q (2 ^ k) r w rest) (a ∙ whole);
     }
@@ -140,8 +137,7 @@ code_between mode negative amount at next low moved from e =
 
 pub index_is : (p : ℕ) (mode : ConversionRound) (negative : Bool) (amount parts low : ℕ) (moved : Bool)
     → point p low * parts ≤ amount
-    → moved
-    ≡ moves mode negative (amount - point p low * parts) (point p (low + 1) * parts - amount) (eqb (low % 2) 1)
+    → moved ≡ moves mode negative (amount - point p low * parts) (point p (low + 1) * parts - amount) (eqb (low % 2) 1)
     → cond moved (low + 1) low ≡ index_between (takes_next mode negative) (point p) amount parts low
 index_is p mode negative amount parts low moved from e =
     code_between mode negative amount (point p low * parts) (point p (low + 1) * parts) low moved from e
@@ -154,8 +150,7 @@ pub saturated_by : (c : StorageConstants) (mode : ConversionRound) (negative : B
     → IsPointDelivered c (ieee_mode mode) negative amount parts index code status
     → IsSaturatedBy c mode negative amount parts code status
 saturated_by c mode negative amount parts index code status exact law x d =
-    let low = law.precision_low in
-    let more : eqb c.precision 1 ≡ false = ne_eqb c.precision 1 (λ e. omega (arith, e, low)) in
+    let more : eqb c.precision 1 ≡ false = ne_eqb c.precision 1 (λ e. omega (arith, e, law.precision_low)) in
     record {
       pick = point c.precision index;
       is_pick = MatchBool-at_false _ (IsPickBy c.precision mode negative amount parts (point c.precision index)) more

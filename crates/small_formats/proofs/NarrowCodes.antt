@@ -51,14 +51,12 @@ same_datum : (b : Bool) (e t : ℕ) → e < 8
 same_datum b e t l =
     ⊎_elim
     (λ (low : e < 7).
-    let test = lt-ltb e 7 low in
     let narrow : eqb e 7 ≡ false = ne_eqb e 7 (λ q. omega (arith, q, low)) in
     let wide : eqb e 15 ≡ false = ne_eqb e 15 (λ q. omega (arith, q, low)) in
-    rw (test, narrow, wide) refl)
+    rw (lt-ltb e 7 low, narrow, wide) refl)
     (λ (high : 7 ≤ e).
-    let test = le-ltb e 7 high in
     let seven : e ≡ 7 = omega (arith, high, l) in
-    rw (test, seven) refl)
+    rw (le-ltb e 7 high, seven) refl)
     (cases_lt e 7)
 
 -- a code by its fields
@@ -69,23 +67,20 @@ widened_fields b e t l m k =
     ⊎_elim
     (λ (low : e < 7).
     let test : ltb (e * 16 + t) 112 ≡ true = lt-ltb (e * 16 + t) 112 (omega (arith, low, k)) in
-    let same = lt-ltb e 7 low in
-    rw (whole, rest, test, same) (omega arith))
+    rw (whole, rest, test, lt-ltb e 7 low) (omega arith))
     (λ (high : 7 ≤ e).
     let test : ltb (e * 16 + t) 112 ≡ false = le-ltb (e * 16 + t) 112 (omega (arith, high)) in
-    let same = le-ltb e 7 high in
-    rw (whole, rest, test, same) (omega (arith, high, m)))
+    rw (whole, rest, test, le-ltb e 7 high) (omega (arith, high, m)))
     (cases_lt e 7)
 
 pub widened_datum : (code : ℕ) → code < 256 → wide_datum (widened code) ≡ e3m4_datum code
 widened_datum code l =
     let x = fields_of e3m4_format e3m4_layout code in
     let w = fields_within e3m4_format e3m4_layout e3m4_interchange code in
-    let back = bits_back e3m4_format e3m4_layout e3m4_interchange code l in
     let wide : AreWithin wide_format wide_layout (wide_fields x) =
     record { biased_exponent = field_fits x.biased_exponent w.biased_exponent; trailing = w.trailing } in
     let written : widened code ≡ bits_of_fields wide_format wide_layout (wide_fields x) =
-    ap widened (sym back)
+    ap widened (sym (bits_back e3m4_format e3m4_layout e3m4_interchange code l))
     ∙ widened_fields (cond x.negative 1 0) x.biased_exponent x.trailing (digit_low x.negative) w.biased_exponent
     w.trailing in
     ap (λ (n : ℕ). datum_of_fields wide_format wide_layout (fields_of wide_format wide_layout n)) written
@@ -165,12 +160,7 @@ pub narrow_delivered : (mode : Round) (b : Bool) (amount parts : ℕ) (value : D
     → IsDelivered e3m4_format mode b amount parts value status
 narrow_delivered mode b amount parts value status d l =
     let same = within_both mode b amount parts d.pick l in
-    record {
-      pick = d.pick;
-      is_pick = d.is_pick;
-      value_is = d.value_is ∙ same.0;
-      status_is = d.status_is ∙ same.1;
-    }
+    record { pick = d.pick; is_pick = d.is_pick; value_is = d.value_is ∙ same.0; status_is = d.status_is ∙ same.1 }
 
 pub past_narrow : (mode : Round) (b : Bool) (amount parts : ℕ) (given value : Datum) (flags status : ℕ)
     → (d : IsDelivered wide_format mode b amount parts given flags) → 992 < d.pick
@@ -186,11 +176,10 @@ low_number b e t l k =
     ⊎_elim
     (λ (z : e ≡ 0). let test = eq-eqb e 0 z in rw test (omega (arith, k)))
     (λ (n : e ≡ 0 → ⊥).
-    let test = ne_eqb e 0 n in
     let exponent : e - 1 ≤ 5 = omega (arith, l) in
     let power : 2 ^ (e - 1) ≤ 2 ^ 5 = pow-le-pow_right two_pos exponent in
     let most : (16 + t) * 2 ^ (e - 1) ≤ (16 + t) * 2 ^ 5 = mul-le-mul_left (16 + t) power in
-    rw test (omega (arith, most, k)))
+    rw (ne_eqb e 0 n) (omega (arith, most, k)))
     (cases_eq e 0)
 
 high_number : (b : Bool) (e t : ℕ) → 7 ≤ e → 992 < quanta_of (implied_number wide_format (fields_with b e t))
@@ -217,8 +206,7 @@ wide_number b e t l = let other : eqb e 15 ≡ false = ne_eqb e 15 (λ q. omega 
 implied_finite : (b : Bool) (e t : ℕ) → is_finite (implied_number wide_format (fields_with b e t)) ≡ true
 implied_finite b e t = either (eqb e 0)
   where
-    either : (least : Bool)
-        → is_finite (cond least (finite b t) (finite b ((2 ^ (5 - 1) + t) * 2 ^ (e - 1)))) ≡ true
+    either : (least : Bool) → is_finite (cond least (finite b t) (finite b ((2 ^ (5 - 1) + t) * 2 ^ (e - 1)))) ≡ true
     either true = refl
     either false = refl
 
@@ -253,10 +241,9 @@ pub sided : (code : ℕ) → code < 512 → IsSided code (wide_datum code)
 sided code l =
     let x = fields_of wide_format wide_layout code in
     let w = fields_within wide_format wide_layout wide_interchange code in
-    let back = bits_back wide_format wide_layout wide_interchange code l in
     let digit = digit_low x.negative in
     let rest : code % 256 ≡ x.biased_exponent * 16 + x.trailing =
-    omega (arith, back, w.biased_exponent, w.trailing, digit) in
+    omega (arith, bits_back wide_format wide_layout wide_interchange code l, w.biased_exponent, w.trailing, digit) in
     let both = sided_fields x.negative x.biased_exponent x.trailing (code % 256) w.biased_exponent w.trailing rest in
     record { low = both.0; high = both.1 }
 
@@ -265,10 +252,9 @@ pub special_code : (code : ℕ) → code < 512 → is_finite (wide_datum code) �
 special_code code l other =
     let x = fields_of wide_format wide_layout code in
     let w = fields_within wide_format wide_layout wide_interchange code in
-    let back = bits_back wide_format wide_layout wide_interchange code l in
     let digit = digit_low x.negative in
     let rest : code % 256 ≡ x.biased_exponent * 16 + x.trailing =
-    omega (arith, back, w.biased_exponent, w.trailing, digit) in
+    omega (arith, bits_back wide_format wide_layout wide_interchange code l, w.biased_exponent, w.trailing, digit) in
     ⊎_elim
     (λ (o : x.biased_exponent < 15).
     let number : is_finite (wide_datum code) ≡ true =
@@ -342,11 +328,8 @@ past_pick mode b amount parts given flags d more =
     (λ (l : 253952 < d.pick). omega (arith, l))
     (λ (l : d.pick ≤ 253952).
     let within : ltb 253952 d.pick ≡ false = le-ltb 253952 d.pick l in
-    let number : is_finite given ≡ true =
-    ap is_finite d.value_is ∙ rw within (quanta_finite (eqb d.pick 0) b d.pick) in
-    let at = more number in
-    let most = (delivered_quanta mode b amount parts given flags d number).0 in
-    omega (arith, at, most))
+    let number : is_finite given ≡ true = ap is_finite d.value_is ∙ rw within (quanta_finite (eqb d.pick 0) b d.pick) in
+    omega (arith, more number, (delivered_quanta mode b amount parts given flags d number).0))
     (cases_lt 253952 d.pick)
 
 -- an infinity or a NaN does not become a number
@@ -372,11 +355,9 @@ low_narrow code below low = record { below = below; is = inl low }
 pub past_converted : (f : Format) (mode : Round) (x given value : Datum) (flags status code : ℕ) (lost : Bool)
     → is_finite x ≡ true → IsSided code given → 112 ≤ code % 256 → IsConversion f wide_format mode x given flags lost
     → value ≡ cond (leads_out mode (is_negative x)) (infinite (is_negative x)) (finite (is_negative x) 992)
-    → status ≡ cond (leads_out mode (is_negative x)) 20 16
-    → IsConversion f e3m4_format mode x value status true
+    → status ≡ cond (leads_out mode (is_negative x)) 20 16 → IsConversion f e3m4_format mode x value status true
 past_converted f mode (finite b zero) given value flags status code lost number side high h v s =
-    let some = side.high high (ap is_finite h.value_is) in
-    absurd (let none = ap quanta_of h.value_is in omega (arith, some, none))
+    absurd (let none = ap quanta_of h.value_is in omega (arith, side.high high (ap is_finite h.value_is), none))
 past_converted f mode (finite b (suc n)) given value flags status code lost number side high h v s =
     let off : eqb (suc n) 0 ≡ false = ne_eqb (suc n) 0 (λ e. omega (arith, e)) in
     let k = MatchBool-at_false _ (IsConvertedNumber f wide_format mode b (suc n) given flags lost) off h in
@@ -388,16 +369,14 @@ past_converted f mode (finite b (suc n)) given value flags status code lost numb
     })
 past_converted f mode (infinite b) given value flags status code lost number side high h v s =
     absurd (false≢true number)
-past_converted f mode (nan b t) given value flags status code lost number side high h v s =
-    absurd (false≢true number)
+past_converted f mode (nan b t) given value flags status code lost number side high h v s = absurd (false≢true number)
 
 -- ---- one answer
 
 pub e3m4_encoded : (code : ℕ) → code < 256 → IsEncodedBy e3m4_format e3m4_layout code (e3m4_datum code)
 e3m4_encoded code l = record { below = l; canonical = refl; is = refl }
 
-pub e3m4_code_once : (code other : ℕ) → code < 256 → other < 256 → e3m4_datum code ≡ e3m4_datum other
-    → code ≡ other
+pub e3m4_code_once : (code other : ℕ) → code < 256 → other < 256 → e3m4_datum code ≡ e3m4_datum other → code ≡ other
 e3m4_code_once code other l k e =
     encoded_once e3m4_format e3m4_layout (e3m4_datum other) code other e3m4_interchange
     (subst (λ (d : Datum). IsEncodedBy e3m4_format e3m4_layout code d) e (e3m4_encoded code l)) (e3m4_encoded other k)

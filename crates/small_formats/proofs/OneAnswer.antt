@@ -43,14 +43,12 @@ code_is half code l =
 -- no two codes mean one number
 pub code_once : IsCodeOnce
 code_once c code other x law l k e f =
-    let low = law.precision_low in
-    let above = law.exponent in
     let half : ℕ = 2 ^ (c.bits - 1) in
-    let double : 2 * half ≡ 2 ^ c.bits = twice_half c.bits (omega (arith, above)) in
+    let double : 2 * half ≡ 2 ^ c.bits = twice_half c.bits (omega (arith, law.exponent)) in
     let same : datum_of c code ≡ datum_of c other = e ∙ sym f in
     let sign : leb half code ≡ leb half other = ap is_negative same in
     let rest : code % half ≡ other % half =
-    one_number c.precision (code % half) (other % half) (omega (arith, low)) (ap quanta_of same) in
+    one_number c.precision (code % half) (other % half) (omega (arith, law.precision_low)) (ap quanta_of same) in
     code_is half code (omega (arith, l, double))
     ∙ ap (λ (b : Bool). cond b half 0 + code % half) sign
     ∙ ap (λ (n : ℕ). cond (leb half other) half 0 + n) rest
@@ -124,8 +122,7 @@ pub unsigned_encoded : (code : ℕ) → code < 128 → IsEncodedBy signed_format
     (unsigned_datum code)
 unsigned_encoded code l = record { below = omega (arith, l); canonical = refl; is = refl }
 
-pub unsigned_code_once : (code other : ℕ) → code < 128 → other < 128
-    → unsigned_datum code ≡ unsigned_datum other
+pub unsigned_code_once : (code other : ℕ) → code < 128 → other < 128 → unsigned_datum code ≡ unsigned_datum other
     → code ≡ other
 unsigned_code_once code other l k e =
     encoded_once signed_format signed_layout (unsigned_datum other) code other signed_interchange
@@ -134,8 +131,7 @@ unsigned_code_once code other l k e =
 
 unsigned_number_once : (f : Format) (mode : Round) (x : Datum) (code other status flags : ℕ) (loses lost : Bool)
     → code < 128 → other < 128 → IsConversion f signed_format mode x (unsigned_datum code) status loses
-    → IsConversion f signed_format mode x (unsigned_datum other) flags lost
-    → AreSame code status loses other flags lost
+    → IsConversion f signed_format mode x (unsigned_datum other) flags lost → AreSame code status loses other flags lost
 unsigned_number_once f mode x code other status flags loses lost l k h j =
     let same = conversion_once f signed_format mode x (unsigned_datum code) (unsigned_datum other) status flags loses
     lost h j in

@@ -34,15 +34,13 @@ exact_by p m c amount parts index loss moved exact some q i h still is when unle
     ap (λ (n : ℕ). n * parts)
     (ap (λ (n : ℕ). point p n) is ∙ moved_point p m c some i.fits i.full moved) in
     let same : loss ≡ ExactlyZero → cond moved (m + 1) m * 2 ^ c * parts ≡ amount = λ z.
-    let exactly : amount ≡ m * (2 ^ c * parts) =
-    subst (λ (x : Loss). StandsFor m x amount (2 ^ c * parts)) z h in
+    let exactly : amount ≡ m * (2 ^ c * parts) = subst (λ (x : Loss). StandsFor m x amount (2 ^ c * parts)) z h in
     let none : amount - m * 2 ^ c * parts ≡ 0 = omega (arith, exactly) in
     ap (λ (b : Bool). cond b (m + 1) m * 2 ^ c * parts) (still none) ∙ omega (arith, exactly) in
     let v : 0 < 2 ^ c * parts = mul-pos (pow_pos c) q in
     let off : (loss ≡ ExactlyZero → ⊥) → cond moved (m + 1) m * 2 ^ c * parts ≡ amount → ⊥ = λ n y.
-    let past = stands_past m loss amount (2 ^ c * parts) v n h in
     let top = stands_to m loss amount (2 ^ c * parts) v h in
-    off_both moved m amount (2 ^ c * parts) past top (omega (arith, y)) in
+    off_both moved m amount (2 ^ c * parts) (stands_past m loss amount (2 ^ c * parts) v n h) top (omega (arith, y)) in
     exact_cases exact (point p index * parts) amount (λ z. times ∙ same (when z))
     (λ z y. off (unless z) (sym times ∙ y))
 
@@ -63,9 +61,7 @@ point_at p mode negative number k m c amount parts u d index loss moved exact so
     let at : point p low * parts ≡ m * 2 ^ c * parts = ap (λ (n : ℕ). n * parts) here in
     let next : point p (low + 1) * parts ≡ (m + 1) * 2 ^ c * parts = ap (λ (n : ℕ). n * parts) after in
     let from = i.from in
-    let before = i.to in
-    let kept : moved ≡ moves mode negative by to odd =
-    test ∙ sym (moves_kept mode negative odd number k m c amount parts u d q e of a) in
+    let kept = test ∙ sym (moves_kept mode negative odd number k m c amount parts u d q e of a) in
     let moved_is : moved
     ≡ moves mode negative (amount - point p low * parts) (point p (low + 1) * parts - amount) odd =
     kept ∙ ap (λ (n : ℕ). moves mode negative (amount - n) to odd) (sym at)
@@ -75,7 +71,7 @@ point_at p mode negative number k m c amount parts u d index loss moved exact so
       is_pick = point_picked p mode negative amount parts index some q (record {
         low = low;
         from = start;
-        to = omega (arith, before, next);
+        to = omega (arith, i.to, next);
         is = is ∙ index_is p mode negative amount parts low moved start moved_is;
       });
       exact_is = exact_by p m c amount parts index loss moved exact some q i h

@@ -67,8 +67,7 @@ at_next p m c some fits full =
     let top : m + 1 ≡ 2 * h = omega (arith, l, fits, double) in
     let e : m + c * h + 1 ≡ h + (c + 1) * h = omega (arith, top) in
     let short : h < 2 ^ p = let q = pow_pos (p - 1) in omega (arith, double, q) in
-    let reflexive : h ≤ h = omega arith in
-    ap (λ (x : ℕ). point p x) e ∙ at_index p h (c + 1) some short (inr reflexive) ∙ sym (carried h c)
+    ap (λ (x : ℕ). point p x) e ∙ at_index p h (c + 1) some short (inr (omega arith)) ∙ sym (carried h c)
     ∙ sym (ap (λ (x : ℕ). x * 2 ^ c) top))
     (cases_lt (m + 1) (2 ^ p))
 
@@ -86,13 +85,7 @@ form_of p i some =
     let positive : 0 < h = pow_pos (p - 1) in
     let double : 2 * h ≡ 2 ^ p = twice_half p some in
     ⊎_elim
-    (λ (l : i < h). record {
-      m = i;
-      c = 0;
-      fits = omega (arith, l, double);
-      full = inl refl;
-      is = omega arith;
-    })
+    (λ (l : i < h). record { m = i; c = 0; fits = omega (arith, l, double); full = inl refl; is = omega arith })
     (λ (l : h ≤ i).
     let k : ℕ = i / h in
     let t : ℕ = i % h in
@@ -133,10 +126,9 @@ rises p i zero some =
     let e : i + (0 + 1) ≡ i + 1 = omega arith in
     subst (λ (x : ℕ). point p i < point p x) (sym e) (increasing p i some)
 rises p i (suc d) some =
-    let before = rises p i d some in
     let step = increasing p (i + (d + 1)) some in
     let e : i + (suc d + 1) ≡ i + (d + 1) + 1 = omega arith in
-    subst (λ (x : ℕ). point p i < point p x) (sym e) (omega (arith, before, step))
+    subst (λ (x : ℕ). point p i < point p x) (sym e) (omega (arith, rises p i d some, step))
 
 pub points_in_order : (p i j : ℕ) → 0 < p → i < j → point p i < point p j
 points_in_order p i j some l =

@@ -29,9 +29,8 @@ stands_across q loss a b amount parts d u p p' e h =
 -- the quotient of x and y, of formats of the scales s and t, in quanta of the scale `into`
 pub quotient_stands : (q : ℕ) (loss : Loss) (sx sy m n s t into : ℕ) (e f unit : ℤ) (amount parts : ℕ) → 0 < n
     → 0 < parts → m * 2 ^ down (e +ℤ pos s) ≡ sx * 2 ^ up (e +ℤ pos s)
-    → n * 2 ^ down (f +ℤ pos t) ≡ sy * 2 ^ up (f +ℤ pos t)
-    → unit ≡ ((e -ℤ f) -ℤ pos 126) +ℤ pos into → StandsFor q loss (sx * 2 ^ 126) sy
-    → amount * (n * 2 ^ s) ≡ parts * (m * 2 ^ (t + into))
+    → n * 2 ^ down (f +ℤ pos t) ≡ sy * 2 ^ up (f +ℤ pos t) → unit ≡ ((e -ℤ f) -ℤ pos 126) +ℤ pos into
+    → StandsFor q loss (sx * 2 ^ 126) sy → amount * (n * 2 ^ s) ≡ parts * (m * 2 ^ (t + into))
     → StandsFor q loss (amount * 2 ^ down unit) (parts * 2 ^ up unit)
 quotient_stands q loss sx sy m n s t into e f unit amount parts p p' hx hy is h same =
     let x : ℤ = e +ℤ pos s in

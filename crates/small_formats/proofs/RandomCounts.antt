@@ -11,8 +11,7 @@ use Rattle.small_formats.specs.ModeLaws.{AreRandomNumbersCounted, ArePicksOfMode
 use Rattle.small_formats.specs.Modes.{next_between, parts_above}
 
 -- of the numbers below n, those that reach `top` together with `share`
-pub reaching : (top share n : ℕ) → share ≤ top
-    → count_below (λ random. leb top (share + random)) n ≡ share + n - top
+pub reaching : (top share n : ℕ) → share ≤ top → count_below (λ random. leb top (share + random)) n ≡ share + n - top
 reaching top share zero l = let z : 0 ≡ share + 0 - top = omega (arith, l) in z
 reaching top share (suc n) l =
     let before = reaching top share n l in

@@ -39,9 +39,8 @@ pub loss_moves : (mode : Round) (negative odd : Bool) (q s u r : ℕ) (loss : Lo
 loss_moves mode negative odd q s u r ExactlyZero p e l h =
     sym (ap (λ (b : Bool). cond b false (takes_above mode negative r (u - r) odd)) (eq-eqb r 0 (no_rest q s u r e h)))
 loss_moves mode negative odd q s u r LessThanHalf p e l h =
-    let b = h.1 in
     moved mode negative odd r (u - r) _ (let a = h.0 in omega (arith, a, e))
-    (takes_less mode negative odd r (u - r) (omega (arith, b, e, l)))
+    (takes_less mode negative odd r (u - r) (omega (arith, h.1, e, l)))
 loss_moves mode negative odd q s u r ExactlyHalf p e l h =
     moved mode negative odd r (u - r) _ (omega (arith, h, e, p))
     (takes_half mode negative odd r (u - r) (omega (arith, h, e, l)))
@@ -69,8 +68,7 @@ pub random_moves : (bits : RandomDigits) (negative odd : Bool) (u r share : ℕ)
     → leb (2 ^ bits.digits) (share + bits.random) ≡ moves (Stochastic bits) negative r (u - r) odd
 random_moves bits negative odd u r share l fits is =
     let whole : r + (u - r) ≡ u = omega (arith, l) in
-    let same : share ≡ parts_above bits.digits r (u - r) =
-    is ∙ sym (ap (λ (n : ℕ). 2 ^ bits.digits * r / n) whole) in
+    let same : share ≡ parts_above bits.digits r (u - r) = is ∙ sym (ap (λ (n : ℕ). 2 ^ bits.digits * r / n) whole) in
     ⊎_elim
     (λ (z : r < 1).
     let none : r ≡ 0 = omega (arith, z) in
@@ -87,8 +85,7 @@ random_moves bits negative odd u r share l fits is =
     no_parts : (digits y : ℕ) → 0 < y → parts_above digits 0 y ≡ 0
     no_parts digits y p =
         let some : 0 < 0 + y = omega (arith, p) in
-        let none : 2 ^ digits * 0 < 1 * (0 + y) = omega (arith, p) in
-        let less : parts_above digits 0 y < 1 = (div-lt_iff_lt-mul some).1 none in
+        let less : parts_above digits 0 y < 1 = (div-lt_iff_lt-mul some).1 (omega (arith, p)) in
         omega (arith, less)
 
 -- ---- random digits: the parts of the rest
@@ -105,8 +102,7 @@ few_parts s places digits l =
     ap (λ (n : ℕ). n / 2 ^ places) top ∙ mul-div_cancel (r * 2 ^ (digits - places)) (pow_pos places)
 
 -- the rest of more digits, of which k are cut off
-pub many_parts : (s k digits : ℕ)
-    → 2 ^ digits * (s % 2 ^ (digits + k)) / 2 ^ (digits + k) ≡ s / 2 ^ k % 2 ^ digits
+pub many_parts : (s k digits : ℕ) → 2 ^ digits * (s % 2 ^ (digits + k)) / 2 ^ (digits + k) ≡ s / 2 ^ k % 2 ^ digits
 many_parts s k digits =
     let a : ℕ = s / 2 ^ k % 2 ^ digits in
     let b : ℕ = s % 2 ^ k in
@@ -133,16 +129,13 @@ few_fit s places digits l =
     let e : digits ≡ places + (digits - places) = omega (arith, l) in
     let split : 2 ^ digits ≡ 2 ^ places * 2 ^ (digits - places) =
     ap (λ (n : ℕ). 2 ^ n) e ∙ pow-add 2 places (digits - places) in
-    let less : s % 2 ^ places * 2 ^ (digits - places) < 2 ^ places * 2 ^ (digits - places) =
-    mul-lt-mul_of_pos_right r (pow_pos (digits - places)) in
-    omega (arith, less, split)
+    omega (arith, mul-lt-mul_of_pos_right r (pow_pos (digits - places)), split)
 
 pub few_below : (s places digits rest : ℕ) → digits ≤ 32 → places ≤ digits → rest ≡ s % 2 ^ places
     → rest * 2 ^ (digits - places) % 2 ^ 64 ≡ s % 2 ^ places * 2 ^ (digits - places)
 few_below s places digits rest few l is =
-    let fits = few_fit s places digits l in
     let short : digits ≤ 64 = omega (arith, few) in
     let top : 2 ^ digits ≤ 2 ^ 64 = pow-le-pow_right two_pos short in
     let same : rest * 2 ^ (digits - places) ≡ s % 2 ^ places * 2 ^ (digits - places) =
     ap (λ (n : ℕ). n * 2 ^ (digits - places)) is in
-    ap (λ (n : ℕ). n % 2 ^ 64) same ∙ mod-eq_of_lt (omega (arith, fits, top))
+    ap (λ (n : ℕ). n % 2 ^ 64) same ∙ mod-eq_of_lt (omega (arith, few_fit s places digits l, top))

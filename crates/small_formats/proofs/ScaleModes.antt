@@ -20,8 +20,7 @@ least_or_not amount parts low l from =
     let least : 1 * parts ≤ 2 ^ low * parts = mul-le-mul_right parts one in
     omega (arith, l, from, least)
 
-picked_once : (takes : ℕ → ℕ → Bool → Bool) (amount parts code other : ℕ)
-    → IsPickedScale takes amount parts code
+picked_once : (takes : ℕ → ℕ → Bool → Bool) (amount parts code other : ℕ) → IsPickedScale takes amount parts code
     → IsPickedScale takes amount parts other → code ≡ other
 picked_once takes amount parts code other (inl x) (inl y) = x.1 ∙ sym y.1
 picked_once takes amount parts code other (inl x) (inr y) = absurd (least_or_not amount parts y.low x.0 y.from)

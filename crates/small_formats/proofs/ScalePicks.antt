@@ -36,9 +36,8 @@ first_digit : (digits : ℕ) → 2 ^ 124 ≤ digits → digits < 2 ^ 125 → dig
 first_digit digits least most = one_digit digits (2 ^ 124) (pow_pos 124) least (omega (arith, most))
 
 -- of 125 digits all but the first one are cut off, where the first one has the place `low`
-pub cut_stands : (digits s amount parts low : ℕ) (loss : Loss) (z : ℤ) → pos low ≡ z +ℤ pos 124
-    → 2 ^ 124 ≤ digits → digits < 2 ^ 125 → s ≡ digits / 2 ^ 124
-    → StandsFor s loss (amount * 2 ^ down z) (2 ^ 124 * (parts * 2 ^ up z))
+pub cut_stands : (digits s amount parts low : ℕ) (loss : Loss) (z : ℤ) → pos low ≡ z +ℤ pos 124 → 2 ^ 124 ≤ digits
+    → digits < 2 ^ 125 → s ≡ digits / 2 ^ 124 → StandsFor s loss (amount * 2 ^ down z) (2 ^ 124 * (parts * 2 ^ up z))
     → StandsFor 1 loss amount (2 ^ low * parts)
 cut_stands digits s amount parts low loss z at least most is h =
     let one : s ≡ 1 = is ∙ first_digit digits least most in
@@ -84,12 +83,11 @@ picked_code_is mode amount parts low picked loss moved some h is at =
     let u : 0 < 2 ^ low * parts = mul-pos (pow_pos low) some in
     let from = stands_from 1 loss amount (2 ^ low * parts) h in
     let to = stands_to 1 loss amount (2 ^ low * parts) u h in
-    let t = twice low parts in
     let start : 2 ^ low * parts ≤ amount = omega (arith, from) in
     record {
       low = low;
       from = start;
-      to = omega (arith, to, t);
+      to = omega (arith, to, twice low parts);
       is = at ∙ code_between mode false amount (2 ^ low * parts) (2 ^ (low + 1) * parts) low moved start is;
     }
 
@@ -115,43 +113,31 @@ exact_scale mode amount parts low picked loss moved false some h is at when unle
   where
     off : (test : Bool) → 1 * (2 ^ low * parts) < amount → amount < (1 + 1) * (2 ^ low * parts)
         → eqb (2 ^ cond test (low + 1) low * parts) amount ≡ false
-    off true past to =
-        let t = twice low parts in
-        ne_eqb (2 ^ (low + 1) * parts) amount (λ e. omega (arith, e, to, t))
+    off true past to = ne_eqb (2 ^ (low + 1) * parts) amount (λ e. omega (arith, e, to, twice low parts))
     off false past to = ne_eqb (2 ^ low * parts) amount (λ e. omega (arith, e, past))
 
 -- ---- what is delivered
 
-pub least_delivered : (mode : ConversionRound) (amount parts code status : ℕ) → amount < parts
-    → code ≡ 0 → status ≡ 24
+pub least_delivered : (mode : ConversionRound) (amount parts code status : ℕ) → amount < parts → code ≡ 0 → status ≡ 24
     → IsDeliveredScaleBy mode amount parts code status
 least_delivered mode amount parts code status l at flags =
     let off : eqb (2 ^ 0 * parts) amount ≡ false = ne_eqb (2 ^ 0 * parts) amount (λ e. omega (arith, e, l)) in
     let less : ltb amount parts ≡ true = lt-ltb amount parts l in
     record { picked = 0; is_picked = inl (l, refl); code_is = at; status_is = rw (off, less) flags }
 
-pub scale_past : (mode : ConversionRound) (amount parts picked code status : ℕ)
-    → IsPickedCode mode amount parts picked → 254 < picked
-    → code ≡ cond (leads_out (ieee_mode mode) false) 255 254
-    → status ≡ cond (leads_out (ieee_mode mode) false) 20 16
-    → IsDeliveredScaleBy mode amount parts code status
+pub scale_past : (mode : ConversionRound) (amount parts picked code status : ℕ) → IsPickedCode mode amount parts picked
+    → 254 < picked → code ≡ cond (leads_out (ieee_mode mode) false) 255 254
+    → status ≡ cond (leads_out (ieee_mode mode) false) 20 16 → IsDeliveredScaleBy mode amount parts code status
 scale_past mode amount parts picked code status x l at flags =
     let past : ltb 254 picked ≡ true = lt-ltb 254 picked l in
     record { picked = picked; is_picked = inr x; code_is = rw past at; status_is = rw past flags }
 
 pub scale_within : (mode : ConversionRound) (amount parts picked code status : ℕ) (exact : Bool)
-    → IsPickedCode mode amount parts picked → eqb (2 ^ picked * parts) amount ≡ exact → picked ≤ 254
-    → code ≡ picked
+    → IsPickedCode mode amount parts picked → eqb (2 ^ picked * parts) amount ≡ exact → picked ≤ 254 → code ≡ picked
     → status ≡ cond exact 0 16 → IsDeliveredScaleBy mode amount parts code status
 scale_within mode amount parts picked code status exact x same l at flags =
     let within : ltb 254 picked ≡ false = le-ltb 254 picked l in
-    let from = x.from in
     let one : 1 ≤ 2 ^ x.low = pow_pos x.low in
     let least : 1 * parts ≤ 2 ^ x.low * parts = mul-le-mul_right parts one in
-    let normal : ltb amount parts ≡ false = le-ltb amount parts (omega (arith, least, from)) in
-    record {
-      picked = picked;
-      is_picked = inr x;
-      code_is = rw within at;
-      status_is = rw (within, same, normal) flags;
-    }
+    let normal : ltb amount parts ≡ false = le-ltb amount parts (omega (arith, least, x.from)) in
+    record { picked = picked; is_picked = inr x; code_is = rw within at; status_is = rw (within, same, normal) flags }

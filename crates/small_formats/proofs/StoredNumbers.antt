@@ -24,10 +24,7 @@ parts_of_code half magnitude code true l e =
     }
 parts_of_code half magnitude code false l e =
     let same : code ≡ magnitude = omega (arith, e) in
-    record {
-      sign = lt-leb half code (omega (arith, same, l));
-      rest = ap (λ (n : ℕ). n % half) same ∙ mod-eq_of_lt l;
-    }
+    record { sign = lt-leb half code (omega (arith, same, l)); rest = ap (λ (n : ℕ). n % half) same ∙ mod-eq_of_lt l }
 
 pub datum_is : (c : StorageConstants) (magnitude code : ℕ) (negative : Bool) → magnitude < 2 ^ (c.bits - 1)
     → code ≡ cond negative (2 ^ (c.bits - 1)) 0 + magnitude

@@ -21,8 +21,7 @@ pub moved_point : (p m c : ℕ) → 0 < p → m < 2 ^ p → (c ≡ 0) ⊎ (2 ^ (
 moved_point p m c some fits full true = at_next p m c some fits full
 moved_point p m c some fits full false = at_index p m c some fits full
 
-pub exact_cases : (exact : Bool) (a b : ℕ) → (exact ≡ true → a ≡ b) → (exact ≡ false → a ≡ b → ⊥)
-    → exact ≡ eqb a b
+pub exact_cases : (exact : Bool) (a b : ℕ) → (exact ≡ true → a ≡ b) → (exact ≡ false → a ≡ b → ⊥) → exact ≡ eqb a b
 exact_cases true a b when unless = sym (eq-eqb a b (when refl))
 exact_cases false a b when unless = sym (ne_eqb a b (unless refl))
 
@@ -96,24 +95,18 @@ tiny_is p index some =
     (λ (l : h ≤ index).
     let double : 2 * h ≡ 2 ^ p = twice_half p some in
     let one : 1 ≤ h = pow_pos (p - 1) in
-    let at₀ : point p (index_of p h 0) ≡ h * 2 ^ 0 =
-    at_index p h 0 some (omega (arith, double, one)) (inl refl) in
-    let at : point p h ≡ h =
-    ap (λ (n : ℕ). point p n) (let e : h ≡ h + 0 * h = omega arith in e) ∙ at₀ ∙ omega arith in
-    let more = not_greater p h index some l in
-    le-ltb index h l ∙ sym (le-ltb (point p index) h (omega (arith, at, more))))
+    let at₀ : point p (index_of p h 0) ≡ h * 2 ^ 0 = at_index p h 0 some (omega (arith, double, one)) (inl refl) in
+    let at : point p h ≡ h = ap (λ (n : ℕ). point p n) (let e : h ≡ h + 0 * h = omega arith in e) ∙ at₀ ∙ omega arith in
+    le-ltb index h l ∙ sym (le-ltb (point p index) h (omega (arith, at, not_greater p h index some l))))
     (cases_lt index h)
 
 pub past_delivered : (c : StorageConstants) (mode : Round) (negative : Bool) (amount parts index code status : ℕ)
     → IsLawfulStorage c → largest_index c < index → datum_of c code ≡ finite negative (largest (format_with c))
-    → status ≡ cond (leads_out mode negative) 20 16
-    → IsPointDelivered c mode negative amount parts index code status
+    → status ≡ cond (leads_out mode negative) 20 16 → IsPointDelivered c mode negative amount parts index code status
 past_delivered c mode negative amount parts index code status law l value flags =
-    let low = law.precision_low in
-    let at = largest_point c law in
-    let more = points_in_order c.precision (largest_index c) index (omega (arith, low)) l in
+    let more = points_in_order c.precision (largest_index c) index (omega (arith, law.precision_low)) l in
     let past : ltb (largest (format_with c)) (point c.precision index) ≡ true =
-    lt-ltb (largest (format_with c)) (point c.precision index) (omega (arith, at, more)) in
+    lt-ltb (largest (format_with c)) (point c.precision index) (omega (arith, largest_point c law, more)) in
     record { value_is = rw past value; status_is = rw past flags }
 
 pub within_delivered : (c : StorageConstants) (mode : Round) (negative : Bool) (amount parts index code status : ℕ)
@@ -122,12 +115,10 @@ pub within_delivered : (c : StorageConstants) (mode : Round) (negative : Bool) (
     → status ≡ cond exact 0 (cond (ltb index (2 ^ (c.precision - 1))) 24 16)
     → IsPointDelivered c mode negative amount parts index code status
 within_delivered c mode negative amount parts index code status exact law same l value flags =
-    let low = law.precision_low in
-    let some : 0 < c.precision = omega (arith, low) in
-    let at = largest_point c law in
+    let some : 0 < c.precision = omega (arith, law.precision_low) in
     let most = not_greater c.precision index (largest_index c) some l in
     let within : ltb (largest (format_with c)) (point c.precision index) ≡ false =
-    le-ltb (largest (format_with c)) (point c.precision index) (omega (arith, at, most)) in
+    le-ltb (largest (format_with c)) (point c.precision index) (omega (arith, largest_point c law, most)) in
     let told : status ≡ cond (eqb (point c.precision index * parts) amount) 0
     (cond (ltb (point c.precision index) (2 ^ (c.precision - 1))) 24 16) =
     flags ∙ ap (λ (b : Bool). cond b 0 (cond (ltb index (2 ^ (c.precision - 1))) 24 16)) same

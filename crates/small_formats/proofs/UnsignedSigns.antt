@@ -15,9 +15,8 @@ kept_sign true false none negative base most quanta = refl
 kept_sign false leads true negative base most quanta = refl
 kept_sign false leads false negative base most quanta = refl
 
-pub sign_converted : (f : Format) (mode : Round) (x value : Datum) (status : ℕ) (loses : Bool)
-    → is_finite x ≡ true → is_negative x ≡ false → IsConversion f signed_format mode x value status loses
-    → is_negative value ≡ false
+pub sign_converted : (f : Format) (mode : Round) (x value : Datum) (status : ℕ) (loses : Bool) → is_finite x ≡ true
+    → is_negative x ≡ false → IsConversion f signed_format mode x value status loses → is_negative value ≡ false
 sign_converted f mode (finite b zero) value status loses number positive h = ap is_negative h.value_is ∙ positive
 sign_converted f mode (finite b (suc n)) value status loses number positive h =
     let some : eqb (suc n) 0 ≡ false = ne_eqb (suc n) 0 (λ e. omega (arith, e)) in

@@ -70,8 +70,7 @@ largest_far c f times w =
     let d : 2 ^ (c.precision + g.span + f.scale) ≤ 2 ^ (p + f.span + g.scale) =
     pow-le-pow_right two_pos (omega (arith, digits, more)) in
     let u = pow-add 2 (c.precision + g.span) f.scale in
-    let v = pow-add 2 (p + f.span) g.scale ∙ ap (λ (n : ℕ). n * 2 ^ g.scale) (pow-add 2 p f.span) in
-    omega (arith, b, d, u, v)
+    omega (arith, b, d, u, pow-add 2 (p + f.span) g.scale ∙ ap (λ (n : ℕ). n * 2 ^ g.scale) (pow-add 2 p f.span))
 
 abbrev pub wide_format : Format
 wide_format =
@@ -148,9 +147,8 @@ past f below above amount parts some x y h =
     neither false l k h = omega (arith, k, h)
 
 -- a number that is delivered toward zero has the sign of the magnitude
-truncated_sign : (f : Format) (negative : Bool) (amount parts : ℕ) (value : Datum) (status : ℕ)
-    → f.nonfinite ≡ IEEE754 → IsDelivered f TowardZero negative amount parts value status
-    → is_negative value ≡ negative
+truncated_sign : (f : Format) (negative : Bool) (amount parts : ℕ) (value : Datum) (status : ℕ) → f.nonfinite ≡ IEEE754
+    → IsDelivered f TowardZero negative amount parts value status → is_negative value ≡ negative
 truncated_sign f negative amount parts value status kind d =
     ap is_negative d.value_is ∙ either (ltb (largest f) d.pick) (eqb d.pick 0)
   where
@@ -187,8 +185,7 @@ IsProjection f c mode of_zero x own code status =
 
 module _ (f : Format) (c : StorageConstants) (mode : Round) (of_zero : Bool) where
   pub zero_projected : (x : Datum) (own code status : ℕ) → is_zero_category (category_of x) ≡ true
-      → datum_of c code ≡ finite of_zero 0 → status ≡ ok_bits
-      → IsProjection f c mode of_zero x own code status
+      → datum_of c code ≡ finite of_zero 0 → status ≡ ok_bits → IsProjection f c mode of_zero x own code status
   zero_projected (nan b s) own code status e v h = absurd (false≢true e)
   zero_projected (infinite b) own code status e v h = absurd (false≢true e)
   zero_projected (finite b zero) own code status e v h = record { value_is = v; status_is = h }
@@ -201,8 +198,7 @@ module _ (f : Format) (c : StorageConstants) (mode : Round) (of_zero : Bool) whe
       → status ≡ (if is_finite_category (category_of x) then flags else own)
       → IsProjection f c mode of_zero x own code status
   value_projected (nan b s) own flags code status loses some h e = record { value_is = h.value_is; status_is = e }
-  value_projected (infinite b) own flags code status loses some h e =
-      record { value_is = h.value_is; status_is = e }
+  value_projected (infinite b) own flags code status loses some h e = record { value_is = h.value_is; status_is = e }
   value_projected (finite b zero) own flags code status loses some h e = absurd (false≢true (sym some))
   value_projected (finite b (suc n)) own flags code status loses some h e =
       let off = not_zero (suc n) (omega arith) in
@@ -225,9 +221,8 @@ module _ (c : StorageConstants) (f : Format) (times : ℕ) (w : IsWider c f time
       → IsDelivered (format_with c) mode negative x y value status)
       → IsStored c mode (rounded negative x y) code status
   stored negative n x y p e same =
-      let h = into (finite negative n) e in
       let s : IsSaturated c mode negative (n * 2 ^ (format_with c).scale) (2 ^ f.scale) code status =
-      rw (not_zero n p) at h in
+      rw (not_zero n p) at (into (finite negative n) e) in
       record {
         value = delivered_value (format_with c) mode negative s.pick;
         yields = same (delivered_value (format_with c) mode negative s.pick)
@@ -263,10 +258,8 @@ module _ (c : StorageConstants) (f : Format) (times : ℕ) (w : IsWider c f time
       let far = largest_far c f times w in
       let most = past f odd.below odd.above amount parts some odd.is_below odd.is_above h in
       let far_too : 2 ^ (c.precision + (format_with c).span) * (parts * fs) ≤ amount * gs =
-      let k : 2 ^ (c.precision + (format_with c).span) * fs * parts ≤ largest f * gs * parts =
-      mul-le-mul_right parts far in
       let l : largest f * parts * gs ≤ amount * gs = mul-le-mul_right gs most in
-      omega (arith, k, l) in
+      omega (arith, mul-le-mul_right parts far, l) in
       stored negative (largest f) x y (largest_some f (omega (arith, digits, low)))
       (odd.value_is ∙ rw (lt-ltb (largest f) o h) refl)
       (λ value z. across value
@@ -298,8 +291,7 @@ module _ (c : StorageConstants) (f : Format) (times : ℕ) (w : IsWider c f time
   -- any number; `sign` is the sign of the exact result, also where that is zero
   number : (negative sign : Bool) (amount parts x y : ℕ) → 0 < parts → 0 < y
       → x * (parts * 2 ^ f.scale) ≡ amount * 2 ^ (format_with c).scale * y → (0 < amount → negative ≡ sign)
-      → (amount ≡ 0 → of_zero ≡ sign)
-      → Gives (IsDelivered f TowardZero negative amount parts) truncated
+      → (amount ≡ 0 → of_zero ≡ sign) → Gives (IsDelivered f TowardZero negative amount parts) truncated
       → IsStored c mode (rounded sign x y) code status
   number negative sign amount parts x y some apart e alike as_zero d =
       ⊎_elim
@@ -314,9 +306,8 @@ module _ (c : StorageConstants) (f : Format) (times : ℕ) (w : IsWider c f time
       let k : x * (parts * 2 ^ f.scale) ≡ 0 * (parts * 2 ^ f.scale) =
       e ∙ ap (λ (n : ℕ). n * 2 ^ (format_with c).scale * y) none ∙ omega arith in
       let nothing : x ≡ 0 = eq_of_mul-eq-mul_right (parts * 2 ^ f.scale) pieces x 0 k in
-      let flag = ap (λ (n : ℕ). has_flag n inexact_bit) of_none.1 in
       let r = zero_stored sign (zero_sign f.nonfinite negative) (as_zero none)
-      (MatchBool-at_false _ _ flag is_odd.value_is ∙ of_none.0) in
+      (MatchBool-at_false _ _ (ap (λ (n : ℕ). has_flag n inexact_bit) of_none.1) is_odd.value_is ∙ of_none.0) in
       record {
         value = finite sign 0;
         yields = subst (IsDelivered (format_with c) mode sign x y (finite sign 0)) (sym r.yields.status_is)
@@ -350,8 +341,7 @@ module _ (c : StorageConstants) (f : Format) (times : ℕ) (w : IsWider c f time
   pub sum : (b d : Bool) (m n : ℕ) → of_zero ≡ zero_sum_sign mode b d
       → Gives (IsSum f TowardZero (finite b (m * times)) (finite d (n * times))) truncated
       → IsStored c mode (sum_of (format_with c) (finite b m) (finite d n)) code status
-  sum b d m n z h =
-      total b d m n times 1 1 w.some (lit< tt) (lit< tt) (let e = w.scale in omega (arith, e)) z h
+  sum b d m n z h = total b d m n times 1 1 w.some (lit< tt) (lit< tt) (let e = w.scale in omega (arith, e)) z h
 
   pub difference : (b d : Bool) (m n : ℕ) → of_zero ≡ zero_sum_sign mode b (not d)
       → Gives (IsDifference f TowardZero (finite b (m * times)) (finite d (n * times))) truncated
@@ -392,9 +382,7 @@ module _ (c : StorageConstants) (f : Format) (times : ℕ) (w : IsWider c f time
   not_a_number : truncated.value ≡ qnan f 0 → bits_of truncated.status ≡ 1
       → IsStored c mode (invalid (format_with c)) code status
   not_a_number v s =
-      let flag = ap (λ (n : ℕ). has_flag n inexact_bit) s in
-      let r : IsAnswer (finite false 0) (bits_of made.status) (datum_of c code) status =
-      into (qnan f 0) (MatchBool-at_false _ _ flag is_odd.value_is ∙ v) in
+      let r = into (qnan f 0) (MatchBool-at_false _ _ (ap (λ (n : ℕ). has_flag n inexact_bit) s) is_odd.value_is ∙ v) in
       record {
         value = qnan (format_with c) 0;
         yields = record { value_is = refl; status_is = r.status_is ∙ is_odd.status_is ∙ s };
@@ -422,8 +410,7 @@ module _ (c : StorageConstants) (f : Format) (times : ℕ) (w : IsWider c f time
       let y = rw (none n e, not_zero (m * times) (more m p)) at h in
       let v = y.value_is ∙ ap (λ (k : NonfiniteBehavior). past_largest k (nan_base f) s) w.kind in
       let flag = ap (λ (n : ℕ). has_flag n inexact_bit) y.status_is in
-      let r : IsAnswer (finite s (largest (format_with c))) (bits_of made.status) (datum_of c code) status =
-      into (infinite s) (MatchBool-at_false _ _ flag is_odd.value_is ∙ v) in
+      let r = into (infinite s) (MatchBool-at_false _ _ flag is_odd.value_is ∙ v) in
       rw (eq-eqb n 0 e, ne_eqb m 0 p)
       (record {
         value = infinite s;
@@ -439,8 +426,7 @@ module _ (c : StorageConstants) (f : Format) (times : ℕ) (w : IsWider c f time
       (cases_eq n 0)
 
   -- the root of a positive number
-  root_once : (square : ℕ) → 0 < square
-      → Gives (IsDeliveredRoot f TowardZero (square * (times * times)) 1) truncated
+  root_once : (square : ℕ) → 0 < square → Gives (IsDeliveredRoot f TowardZero (square * (times * times)) 1) truncated
       → IsStored c mode (rooted square 1) code status
   root_once square positive root =
       let digits = w.digits in let r = agreeing square (4 * times) (mul-pos (lit< tt) w.some) in
@@ -449,8 +435,7 @@ module _ (c : StorageConstants) (f : Format) (times : ℕ) (w : IsWider c f time
       let d = fraction_delivered f TowardZero (square * (times * times)) 1 (r.amount * times) r.parts truncated.value
       (bits_of truncated.status) (omega (arith, digits)) (lit< tt)
       (moved_agrees square 4 times r.amount r.parts r.agrees) root in
-      let above : 0 < r.amount * times =
-      mul-pos (root_some square 4 r.amount r.parts positive (lit< tt) own) w.some in
+      let above : 0 < r.amount * times = mul-pos (root_some square 4 r.amount r.parts positive (lit< tt) own) w.some in
       let s = rounded_once false (r.amount * times) (r.parts * 1) r.amount (r.parts * 1) above some some
       (ap (λ (i : ℕ). r.amount * (r.parts * 1 * i)) w.scale ∙ omega arith) d in
       record {
@@ -459,8 +444,7 @@ module _ (c : StorageConstants) (f : Format) (times : ℕ) (w : IsWider c f time
         value_is = s.value_is;
       }
 
-  pub root : (b : Bool) (n : ℕ) → of_zero ≡ b
-      → Gives (IsRoot f TowardZero (finite b (n * times))) truncated
+  pub root : (b : Bool) (n : ℕ) → of_zero ≡ b → Gives (IsRoot f TowardZero (finite b (n * times))) truncated
       → IsStored c mode (root_of (format_with c) (finite b n)) code status
   root b n z h =
       ⊎_elim
@@ -487,8 +471,7 @@ module _ (c : StorageConstants) (f : Format) (times : ℕ) (w : IsWider c f time
 -- ---- conversions
 
 -- equal fractions are stored alike
-saturated_across : (c : StorageConstants) (mode : Round) (b : Bool) (m n x y code status : ℕ) → 0 < c.precision
-    → 0 < n
+saturated_across : (c : StorageConstants) (mode : Round) (b : Bool) (m n x y code status : ℕ) → 0 < c.precision → 0 < n
     → 0 < y → m * y ≡ x * n → IsSaturated c mode b x y code status → IsSaturated c mode b m n code status
 saturated_across c mode b m n x y code status some p q e s =
     let g : Format = format_with c in

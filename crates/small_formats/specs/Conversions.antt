@@ -8,8 +8,7 @@ use Rattle.small_formats.specs.{Codes.datum_of, Storage.StorageConstants, Storag
 
 -- past the largest number there is nothing but that number
 abbrev pub saturated_value : Format → Bool → ℕ → Datum
-saturated_value f negative pick =
-    if ltb (largest f) pick then finite negative (largest f) else finite negative pick
+saturated_value f negative pick = if ltb (largest f) pick then finite negative (largest f) else finite negative pick
 
 -- The magnitude amount / parts quanta with that sign, rounded once. The flags are those of the same rounding in a
 -- format with infinities.
@@ -34,8 +33,7 @@ pub record IsGiven (c : StorageConstants) (given : Datum) (flags : ℕ) (loses :
 -- A value of the format f becomes this code. As for integers, an infinity becomes the largest number of its sign, and a
 -- NaN zero; both are invalid.
 abbrev pub IsInto : StorageConstants → Format → Round → Datum → ℕ → ℕ → Bool → Type 0
-IsInto c f mode (nan b s) code status loses_info =
-    IsGiven c (finite false 0) invalid_bit true code status loses_info
+IsInto c f mode (nan b s) code status loses_info = IsGiven c (finite false 0) invalid_bit true code status loses_info
 IsInto c f mode (infinite b) code status loses_info =
     IsGiven c (finite b (largest (format_with c))) invalid_bit true code status loses_info
 IsInto c f mode (finite b n) code status loses_info =

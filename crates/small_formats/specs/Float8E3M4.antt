@@ -39,13 +39,11 @@ wide_datum code = datum_of wide_format wide_layout code
 
 -- a code with one bit of exponent more: that of an infinity or a NaN has its greatest exponent
 abbrev pub widened : ℕ → ℕ
-widened code =
-    code / 128 * 256 + (if ltb (code % 128) 112 then code % 128 else code % 128 + 128)
+widened code = code / 128 * 256 + (if ltb (code % 128) 112 then code % 128 else code % 128 + 128)
 
 -- the code of a wide value that is an infinity, a NaN, or at most 15.5
 abbrev pub narrowed : ℕ → ℕ
-narrowed code =
-    code / 256 * 128 + (if ltb (code % 256) 112 then code % 256 else code % 256 - 128)
+narrowed code = code / 256 * 128 + (if ltb (code % 256) 112 then code % 256 else code % 256 - 128)
 
 -- a code of nine bits that has one of eight
 pub record IsNarrow (code : ℕ) : Type 0 where

@@ -71,8 +71,7 @@ pub record IsCode (given flags : ℕ) (loses : Bool) (code status : ℕ) (loses_
 
 -- A value of the format f becomes this code. A zero becomes the least scale, and infinity the NaN; what is below zero
 -- has no scale, and becomes the NaN, which is invalid. A NaN loses its payload.
-abbrev pub IsScaleIn : Format → Round → (ℕ → ℕ → Bool → Bool) → Datum → ℕ → ℕ → Bool
-    → Type 0
+abbrev pub IsScaleIn : Format → Round → (ℕ → ℕ → Bool → Bool) → Datum → ℕ → ℕ → Bool → Type 0
 IsScaleIn f mode takes (nan b s) code status loses_info =
     IsCode nan_code (invalid_if (is_signaling f s)) (not (eqb (payload_mask f) 0)) code status loses_info
 IsScaleIn f mode takes (infinite b) code status loses_info =

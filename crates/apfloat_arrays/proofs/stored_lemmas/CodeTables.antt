@@ -55,8 +55,7 @@ pub entry_copied : (overflow : Overflow) (format : StoredFormat) (d : Constants)
 entry_copied overflow format d mode codes place table entry codes_are past within long wide copied so_far =
     let Answers : ℕ → ℕ → Outcome → Type 0 = IsLoaded overflow format d mode in
     let some : 0 < 2 ^ bits_in format = pow_pos (bits_in format) in
-    let earlier : place - codes < place = omega (arith, codes_are, past, some) in
-    let from = found Answers outcome_tally (place - codes) place table earlier so_far in
+    let from = found Answers outcome_tally (place - codes) place table (omega (arith, codes_are, past, some)) so_far in
     let like : datum_in format (place - codes) ≡ datum_in format place =
     ap (λ (n : ℕ). datum_in format (place - n)) codes_are
     ∙ like_byte format place (subst (λ (n : ℕ). n ≤ place) codes_are past) within in

@@ -6,7 +6,7 @@ use Rattle.std.proofs.Math.Nat.{mod-eq_of_lt, mul-le-mul_right, mul-lt-mul_of_po
 use Rattle.std.proofs.lemmas.{Bool.eqb-false, Bool.ne_eqb, Nat.div-add-mod', Nat.mod_below, Nat.pow-add, Nat.pow_pos}
 use Rattle.std.proofs.lemmas.Bool.{cases_eq, cases_lt, cond-false, eq-eqb, eqb-true, le-leb, le-ltb, lt-leb, lt-ltb}
 use Rattle.std.specs.{Bool.MatchBool, Int.RustNames.bit_and}
-use Rattle.apfloat_model.specs.bits.Layout.{datum_of, datum_of_fields, trailing_bits}
+use Rattle.apfloat_model.specs.bits.Layout.{datum_of, datum_of_fields}
 use Rattle.apfloat_model.specs.declared.kinds.{NonfiniteBehavior.TheVariants.IEEE754, Round.Round}
 use Rattle.apfloat_model.specs.formats.{Datum.Datum, Datum.finite, Format.Format, Format.largest}
 use Rattle.apfloat_model.specs.formats.Lawful.{Constants, format_with as constants_format, layout_with}
@@ -61,8 +61,7 @@ none_stands low w m amount unit none nothing =
     let less : m * 2 ^ w < 2 ^ low = omega (arith, zero, some) in
     let quotient : m * 2 ^ w / 2 ^ low ≡ 0 = div-eq_of_lt less in
     let remainder : m * 2 ^ w % 2 ^ low ≡ 0 = mod-eq_of_lt less ∙ zero in
-    let here : amount ≡ 0 * unit = omega (arith, nothing) in
-    rw (quotient, remainder) here
+    rw (quotient, remainder) (omega (arith, nothing))
 
 -- P digits of which p are kept, with 32 places of room
 module _ (p P low first e m to from : ℕ) (some : 0 < p) (more : p ≤ P) (few : p ≤ 16) (fits : m < 2 ^ P)
@@ -170,8 +169,7 @@ record HasParts (half magnitude code : ℕ) (negative : Bool) : Type 0 where
   sign : leb half code ≡ negative
   rest : code % half ≡ magnitude
 
-parts_of_code : (half magnitude code : ℕ) (negative : Bool) → magnitude < half
-    → code ≡ cond negative half 0 + magnitude
+parts_of_code : (half magnitude code : ℕ) (negative : Bool) → magnitude < half → code ≡ cond negative half 0 + magnitude
     → HasParts half magnitude code negative
 parts_of_code half magnitude code true l e =
     let swapped : code ≡ magnitude + 1 * half = omega (arith, e) in
@@ -181,10 +179,7 @@ parts_of_code half magnitude code true l e =
     }
 parts_of_code half magnitude code false l e =
     let same : code ≡ magnitude = omega (arith, e) in
-    record {
-      sign = lt-leb half code (omega (arith, same, l));
-      rest = ap (λ n. n % half) same ∙ mod-eq_of_lt l;
-    }
+    record { sign = lt-leb half code (omega (arith, same, l)); rest = ap (λ n. n % half) same ∙ mod-eq_of_lt l }
 
 datum_is : (c : StorageConstants) (magnitude code : ℕ) (negative : Bool) → magnitude < 2 ^ (c.bits - 1)
     → code ≡ cond negative (2 ^ (c.bits - 1)) 0 + magnitude
@@ -245,8 +240,6 @@ saturated_by g datum s mode negative exact amount parts most index code status h
     let least : min index most ≡ index = min-eq_left within in
     let whole : code ≡ cond negative (2 ^ (s.bits - 1)) 0 + index =
     is ∙ ap (λ (n : ℕ). cond negative (2 ^ (s.bits - 1)) 0 + n) least in
-    let value : datum code ≡ finite negative (point s.precision index) =
-    ap datum whole ∙ has.numbers negative index within in
     let below = not_greater s.precision index most has.some within in
     let test : ltb (largest g) pick ≡ false = le-ltb (largest g) pick (omega (arith, top, below)) in
     let raised : status ≡ cond (eqb (point s.precision index * parts) amount) 0
@@ -258,7 +251,7 @@ saturated_by g datum s mode negative exact amount parts most index code status h
     record {
       pick = pick;
       is_pick = picked;
-      value_is = rw test value;
+      value_is = rw test (ap datum whole ∙ has.numbers negative index within);
       status_is = rw (test, has.tiny, has.flags, has.precision) raised;
     })
     (cases_lt most index)
@@ -267,10 +260,9 @@ saturated_by g datum s mode negative exact amount parts most index code status h
 pub stored_codes : (c : StorageConstants) → IsLawfulStorage c
     → HasCodes (format_with c) (number_of_code c) c (largest_index c)
 stored_codes c law =
-    let two = law.precision_low in
     let half : 0 < 2 ^ (c.bits - 1) = pow_pos (c.bits - 1) in
     record {
-      some = omega (arith, two);
+      some = omega (arith, law.precision_low);
       precision = refl;
       tiny = refl;
       flags = refl;
@@ -358,8 +350,7 @@ pub number_read : (c : Constants) (x : ℕ) → c.nonfinite ≡ IEEE754 → c.ex
     → (biased_of c x ≡ 2 ^ c.exp_bits - 1 → ⊥) → datum_of (constants_format c) (layout_with c) x
     ≡ finite (is_minus c x) (significand_of c x * 2 ^ (biased_of c x - 1))
 number_read c x kind implied some =
-    let width : trailing_bits (constants_format c) ≡ c.precision - 1 =
-    cond-false c.explicit_integer_bit _ _ implied in
+    let width = cond-false c.explicit_integer_bit _ _ implied in
     (λ i. datum_of_fields (constants_format c) (layout_with c)
     (fields_with (is_minus c x) (x / 2 ^ width i % 2 ^ c.exp_bits) (x % 2 ^ width i)))
     ∙ fields_number (constants_format c) (layout_with c) (is_minus c x) (biased_of c x)
@@ -367,8 +358,7 @@ number_read c x kind implied some =
     implied (ne_eqb (biased_of c x) (2 ^ c.exp_bits - 1) some)
 
 -- only denormal numbers lack the integer bit
-pub normal_full : (c : Constants) (x : ℕ)
-    → (biased_of c x - 1 ≡ 0) ⊎ (2 ^ (c.precision - 1) ≤ significand_of c x)
+pub normal_full : (c : Constants) (x : ℕ) → (biased_of c x - 1 ≡ 0) ⊎ (2 ^ (c.precision - 1) ≤ significand_of c x)
 normal_full c x =
     ⊎_elim {C = (biased_of c x - 1 ≡ 0) ⊎ (2 ^ (c.precision - 1) ≤ significand_of c x)}
     (λ (z : biased_of c x < 1). inl (omega (arith, z)))

@@ -31,9 +31,7 @@ pub last_length : (count n : ℕ) → length (last_digits count n) ≡ count
 unfolding last_digits
 last_length zero n = omega arith
 last_length (suc count) n =
-    let shorter = last_length count (n / 10) in
-    let more = length_more (last_digits count (n / 10)) (48 + n % 10) in
-    omega (arith, shorter, more)
+    omega (arith, last_length count (n / 10), length_more (last_digits count (n / 10)) (48 + n % 10))
 
 -- the decimal digits of a number are those before its last ones, and those
 pub decimal_split : (count n : ℕ) → 10 ^ count ≤ n → n < 2 ^ 128
@@ -45,10 +43,9 @@ decimal_split zero n some few =
 decimal_split (suc count) n some few =
     let ten : 10 ^ suc count ≡ 10 * 10 ^ count = ten_suc count in
     let one : 1 ≤ 10 ^ count = power_pos 10 count (lit< tt) in
-    let more : 10 ≤ n = omega (arith, ten, one, some) in
     let least : 10 ^ count ≤ n / 10 = omega (arith, ten, some) in
     let less : n / 10 < 2 ^ 128 = omega (arith, few) in
-    decimal_step_wide n more (omega (arith, few))
+    decimal_step_wide n (omega (arith, ten, one, some)) (omega (arith, few))
     ∙ ap (λ (x : List ℕ). x ++ ((48 + n % 10) ∷ [])) (decimal_split count (n / 10) least less)
     ∙ append_assoc (decimal (n / 10 / 10 ^ count)) (last_digits count (n / 10)) ((48 + n % 10) ∷ [])
     ∙ ap (λ (k : ℕ). decimal k ++ (last_digits count (n / 10) ++ ((48 + n % 10) ∷ []))) (div_suc n count)
@@ -84,12 +81,10 @@ last_within (suc count) n =
     parts : (n count : ℕ) → n % 10 ^ suc count ≡ 10 * (n / 10 % 10 ^ count) + n % 10
     parts n count =
         let ten : 10 ^ suc count ≡ 10 * 10 ^ count = ten_suc count in
-        let upper : 10 ^ count * (n / 10 / 10 ^ count) + n / 10 % 10 ^ count ≡ n / 10 =
-        div-add-mod (n / 10) (10 ^ count) in
         let rest : n / 10 % 10 ^ count < 10 ^ count = mod-lt (n / 10) (power_pos 10 count (lit< tt)) in
         let less : 10 * (n / 10 % 10 ^ count) + n % 10 < 10 * 10 ^ count = omega (arith, rest) in
         let all : n ≡ n / 10 / 10 ^ count * (10 * 10 ^ count) + (10 * (n / 10 % 10 ^ count) + n % 10) =
-        omega (arith, upper) in
+        omega (arith, div-add-mod (n / 10) (10 ^ count)) in
         ap (λ (k : ℕ). n % k) ten ∙ ap (λ (k : ℕ). k % (10 * 10 ^ count)) all
         ∙ mod-mul-add (n / 10 / 10 ^ count) (10 * 10 ^ count) (10 * (n / 10 % 10 ^ count) + n % 10) less
 
@@ -105,9 +100,8 @@ last_within (suc count) n =
 pub counted_split : (count n : ℕ) → 10 ^ count ≤ n → n < 2 ^ 128
     → length (decimal n) ≡ length (decimal (n / 10 ^ count)) + count
 counted_split count n some few =
-    let last = last_length count n in
     let both = length-append (decimal (n / 10 ^ count)) (last_digits count n) in
-    ap (λ (x : List ℕ). length x) (decimal_split count n some few) ∙ omega (arith, both, last)
+    ap (λ (x : List ℕ). length x) (decimal_split count n some few) ∙ omega (arith, both, last_length count n)
 
 -- the digits of a number between two powers of ten
 pub counted_between : (count n : ℕ) → 10 ^ count ≤ n → n < 10 * 10 ^ count → n < 2 ^ 128
@@ -115,8 +109,7 @@ pub counted_between : (count n : ℕ) → 10 ^ count ≤ n → n < 10 * 10 ^ cou
 counted_between count n some less few =
     let ten : 0 < 10 ^ count = power_pos 10 count (lit< tt) in
     let below : n / 10 ^ count < 10 = (div-lt_iff_lt-mul ten).1 (omega (arith, less)) in
-    let one = single (n / 10 ^ count) below in
-    counted_split count n some few ∙ omega (arith, one)
+    counted_split count n some few ∙ omega (arith, single (n / 10 ^ count) below)
 
 -- ---- appended to a text
 
@@ -147,10 +140,9 @@ stored_both first second n at old mid new x y =
 pub stored_put : (count n at : ℕ) (old new : List ℕ) → AreZerosFrom at old
     → IsStored old at (last_digits count n) new (at + count) → IsPut old at (last_digits count n) new (at + count)
 stored_put count n at old new zeros x =
-    let long = last_length count n in
     record {
       taken = x.taken;
-      moved = omega (arith, long);
+      moved = omega (arith, last_length count n);
       zeros = λ i l. x.same i l ∙ zeros i (omega (arith, l));
     }
 
@@ -165,8 +157,7 @@ digits_put second count n within x y =
     ∙ sym (last_split (count - second) second n) ∙ ap (λ (k : ℕ). last_digits k n) all) (put_then x y)
 
 -- the upper digits are those of a lesser number
-pub upper_few : (second count n : ℕ) → second ≤ count → n < 10 ^ count
-    → n / 10 ^ second < 10 ^ (count - second)
+pub upper_few : (second count n : ℕ) → second ≤ count → n < 10 ^ count → n / 10 ^ second < 10 ^ (count - second)
 upper_few second count n within few =
     let all : count - second + second ≡ count = omega (arith, within) in
     let split : 10 ^ count ≡ 10 ^ (count - second) * 10 ^ second =
@@ -225,8 +216,7 @@ moved_few all count n within few =
 
 -- the last digits of a number that is moved up are its own, and zeros
 pub moved_last : (all count n : ℕ) (text : List ℕ) → count ≤ all
-    → text ++ last_digits all (n * 10 ^ (all - count))
-    ≡ (text ++ last_digits count n) ++ replicate (all - count) 48
+    → text ++ last_digits all (n * 10 ^ (all - count)) ≡ (text ++ last_digits count n) ++ replicate (all - count) 48
 moved_last all count n text within =
     let more : ℕ = all - count in
     let sum : count + more ≡ all = omega (arith, within) in
@@ -247,9 +237,8 @@ pub moved_taken : (all count n power at : ℕ) (old new : List ℕ) → count �
 moved_taken all count n power at old new most within is taken =
     let text : List ℕ = take at old ++ last_digits count n in
     let start : length (take at old) ≡ at = length-take-le at old within in
-    let last = last_length count n in
     let both = length-append (take at old) (last_digits count n) in
-    let long : length text ≡ at + count = omega (arith, start, last, both) in
+    let long : length text ≡ at + count = omega (arith, start, last_length count n, both) in
     let written : take (at + all) new ≡ text ++ replicate (all - count) 48 =
     taken ∙ ap (λ (k : ℕ). take at old ++ last_digits all (n * k)) is
     ∙ moved_last all count n (take at old) most in
@@ -258,8 +247,7 @@ moved_taken all count n power at old new most within is taken =
     ∙ take_at text (replicate (all - count) 48) (at + count) long
 
 -- leading zeros and the digits of a number are its last digits
-pub padded_last : (places n : ℕ) → length (decimal n) ≤ places → n < 2 ^ 128
-    → last_digits places n ≡ padded places n
+pub padded_last : (places n : ℕ) → length (decimal n) ≤ places → n < 2 ^ 128 → last_digits places n ≡ padded places n
 padded_last places n within few =
     let digits = length (decimal n) in
     let none : n / 10 ^ digits ≡ 0 = div-eq_of_lt (below_power n few) in
@@ -287,8 +275,7 @@ are_pairs first (a ∷ []) = false
 are_pairs first (a ∷ b ∷ pairs) = eqb a (48 + first / 10) && (eqb b (48 + first % 10) && are_pairs (first + 1) pairs)
 
 -- the two characters of a number, as they stand in the table
-pub pair_from : (first : ℕ) (pairs : List ℕ) (i : ℕ) → are_pairs first pairs ≡ true
-    → 2 * i + 1 < length pairs
+pub pair_from : (first : ℕ) (pairs : List ℕ) (i : ℕ) → are_pairs first pairs ≡ true → 2 * i + 1 < length pairs
     → take 2 (drop (2 * i) pairs) ≡ (48 + (first + i) / 10) ∷ (48 + (first + i) % 10) ∷ []
 unfolding are_pairs
 pair_from first [] i e l = absurd (omega (arith, l))
@@ -296,15 +283,12 @@ pair_from first (a ∷ []) i e l = absurd (omega (arith, l))
 pair_from first (a ∷ b ∷ pairs) zero e l =
     let same : first + 0 ≡ first = omega arith in
     let p = and_parts _ _ e in
-    let q = and_parts _ _ p.1 in
     rw same (ap (λ (k : ℕ). k ∷ b ∷ []) (eqb-true a (48 + first / 10) p.0)
-    ∙ ap (λ (k : ℕ). (48 + first / 10) ∷ k ∷ []) (eqb-true b (48 + first % 10) q.0))
+    ∙ ap (λ (k : ℕ). (48 + first / 10) ∷ k ∷ []) (eqb-true b (48 + first % 10) (and_parts _ _ p.1).0))
 pair_from first (a ∷ b ∷ pairs) (suc i) e l =
     let same : first + suc i ≡ first + 1 + i = omega arith in
     let two : 2 * suc i ≡ suc (suc (2 * i)) = omega arith in
-    let q = and_parts _ _ ((and_parts _ _ e).1) in
-    let within : 2 * i + 1 < length pairs = omega (arith, l) in
-    rw (same, two) (pair_from (first + 1) pairs i q.1 within)
+    rw (same, two) (pair_from (first + 1) pairs i (and_parts _ _ ((and_parts _ _ e).1)).1 (omega (arith, l)))
 
 -- the two characters after a text
 pub pair_after : (n : ℕ) (text : List ℕ) → n < 100

@@ -29,10 +29,7 @@ last_digit text n some few =
 -- the text has room for the last digit
 pub room_for_last : (text : List ℕ) (n : ℕ) → 10 ≤ n → n < 2 ^ 128 → length text + length (decimal n) ≤ 64
     → length (text ++ decimal (n / 10)) < 64
-room_for_last text n some few room =
-    let less = shorter n some few in
-    let both = length-append text (decimal (n / 10)) in
-    omega (arith, less, both, room)
+room_for_last text n some few room = omega (arith, shorter n some few, length-append text (decimal (n / 10)), room)
 
 pub only_digit : (text : List ℕ) (n : ℕ) → n < 10 → text ++ ((48 + n % 10) ∷ []) ≡ text ++ decimal n
 only_digit text n few =
@@ -42,8 +39,7 @@ only_digit text n few =
 -- ---- lengths of texts
 
 -- the length of the integral part of a number in units of 10 ^ places
-pub whole_length : (n places : ℕ) → n < 2 ^ 128 → places ≤ 39
-    → length (decimal (n / 10 ^ places)) ≤ 40 - places
+pub whole_length : (n places : ℕ) → n < 2 ^ 128 → places ≤ 39 → length (decimal (n / 10 ^ places)) ≤ 40 - places
 whole_length n places few within =
     let split : 10 ^ (40 - places + places) ≡ 10 ^ (40 - places) * 10 ^ places = pow-add 10 (40 - places) places in
     let all : 10 ^ (40 - places + places) ≡ 10 ^ 40 =
@@ -55,23 +51,20 @@ whole_length n places few within =
     length-decimal-le_wide (40 - places) (n / 10 ^ places) (omega arith) below (omega (arith, below, most))
 
 -- the length of the fraction in units of 10 ^ places, with zeros
-pub padded_length : (n places : ℕ) → n < 2 ^ 128 → 0 < places
-    → length (padded places (n % 10 ^ places)) ≡ places
+pub padded_length : (n places : ℕ) → n < 2 ^ 128 → 0 < places → length (padded places (n % 10 ^ places)) ≡ places
 padded_length n places few some =
     let below : n % 10 ^ places < 10 ^ places = mod-lt n (power_pos 10 places (lit< tt)) in
     let rest : n % 10 ^ places ≤ n = mod-le n (10 ^ places) in
     let digits = length-decimal-le_wide places (n % 10 ^ places) some below (omega arith) in
-    let zeros_are = length-replicate {A = ℕ} (places - length (decimal (n % 10 ^ places))) 48 in
     length-append (replicate (places - length (decimal (n % 10 ^ places))) 48) (decimal (n % 10 ^ places))
-    ∙ omega (arith, zeros_are, digits)
+    ∙ omega (arith, length-replicate {A = ℕ} (places - length (decimal (n % 10 ^ places))) 48, digits)
 
 -- a number below 1 is its digits after zeros
 pub below_one : (n places : ℕ) → n < 2 ^ 128 → length (decimal n) ≤ places
     → pointed n places ≡ (48 ∷ []) ++ (codes "." ++ (replicate (places - length (decimal n)) 48 ++ decimal n))
 below_one n places few within =
     let most : 10 ^ length (decimal n) ≤ 10 ^ places = pow-le-pow_right (lit< tt) within in
-    let digits = below_power n few in
-    let below : n < 10 ^ places = omega (arith, most, digits) in
+    let below : n < 10 ^ places = omega (arith, most, below_power n few) in
     let none : n / 10 ^ places ≡ 0 = div-eq_of_lt below in
     let same : n % 10 ^ places ≡ n = mod-eq_of_lt below in
     ap (λ (k : ℕ). decimal k ++ (codes "." ++ padded places (n % 10 ^ places))) none
@@ -95,8 +88,7 @@ below_one_counted n count places few is within =
     ∙ sym (below_one n places few (omega (arith, is, within)))
 
 -- the length of a number with a dot
-pub pointed_length : (n places : ℕ) → n < 2 ^ 128 → 0 < places → places ≤ 44
-    → length (pointed n places) ≤ 46
+pub pointed_length : (n places : ℕ) → n < 2 ^ 128 → 0 < places → places ≤ 44 → length (pointed n places) ≤ 46
 pointed_length n places few some within =
     let rest = padded_length n places few some in
     let dotted = length-append (codes ".") (padded places (n % 10 ^ places)) in
@@ -107,8 +99,7 @@ pointed_length n places few some within =
     omega (arith, rest, dotted, both, whole))
     (λ (great : 39 ≤ places).
     let less = ten_great n places few (omega arith) in
-    let zero_is = div-eq_of_lt less in
-    let none = single (n / 10 ^ places) (omega (arith, zero_is)) in
+    let none = single (n / 10 ^ places) (omega (arith, div-eq_of_lt less)) in
     omega (arith, rest, dotted, both, none))
     (cases_lt places 39)
 
@@ -142,20 +133,16 @@ scientific_length n e few fits =
     mag_below first (2 ^ 33) (omega (arith, ints, fits, digits)) (omega (arith, ints, fits, digits)) in
     let exponent : length (signed_decimal first) ≤ 11 =
     length_signed_le 10 first (omega (arith, small)) (omega (arith, small)) in
-    let tail = length-append (codes "e") (signed_decimal first) in
     let both = length-append (some_pointed n (length (decimal n) - 1)) (codes "e" ++ signed_decimal first) in
-    omega (arith, pointed_is, exponent, tail, both)
+    omega (arith, pointed_is, exponent, length-append (codes "e") (signed_decimal first), both)
 
 -- where all of such a text has room, its parts have
-pub scientific_room : (at n count : ℕ) (e : ℤ) → count ≡ length (decimal n)
-    → at + length (scientific_text n e) ≤ 64
+pub scientific_room : (at n count : ℕ) (e : ℤ) → count ≡ length (decimal n) → at + length (scientific_text n e) ≤ 64
     → at + (length (some_pointed n (count - 1)) + (1 + length (signed_decimal (e +ℤ pos (count - 1))))) ≤ 64
 scientific_room at n count e is room =
     let front : List ℕ = some_pointed n (length (decimal n) - 1) in
     let back : List ℕ = signed_decimal (e +ℤ pos (length (decimal n) - 1)) in
-    let both = length-append front (codes "e" ++ back) in
-    let tail = length-append (codes "e") back in
-    rw is (omega (arith, both, tail, room))
+    rw is (omega (arith, length-append front (codes "e" ++ back), length-append (codes "e") back, room))
 
 -- the exponent of the first digit fits in 64 binary digits
 pub first_fits : (e : ℤ) (count : ℕ) → FitsSigned w32 e → count ≤ 39 → FitsSigned w64 (e +ℤ pos (count - 1))
@@ -178,15 +165,12 @@ plain_parts n e plain =
 plain_from : (n : ℕ) (e : ℤ) (whole : Bool) → n < 2 ^ 128 → is_plain n e ≡ true → eqb (down e) 0 ≡ whole
     → length (if whole then pointed (n * 10 ^ (up e + 1)) 1 else pointed n (down e)) ≤ 46
 plain_from n e true few plain is_whole =
-    let above = (plain_parts n e plain).1 in
     let whole = eqb-true (down e) 0 is_whole in
-    let below : up e + length (decimal n) ≤ 21 = omega (arith, whole, above) in
+    let below : up e + length (decimal n) ≤ 21 = omega (arith, whole, (plain_parts n e plain).1) in
     pointed_length (n * 10 ^ (up e + 1)) 1 (times_ten_small n (up e) few below) (lit< tt) (lit≤ tt)
 plain_from n (pos k) false few plain is_whole = absurd (false≢true (sym is_whole))
 plain_from n (negsuc k) false few plain is_whole =
-    let digits = few_digits n few in
-    let below = (plain_parts n (negsuc k) plain).0 in
-    pointed_length n (suc k) few (omega arith) (omega (arith, below, digits))
+    pointed_length n (suc k) few (omega arith) (omega (arith, (plain_parts n (negsuc k) plain).0, few_digits n few))
 
 pub plain_length : (n : ℕ) (e : ℤ) → n < 2 ^ 128 → is_plain n e ≡ true → length (plain_text n e) ≤ 46
 plain_length n e few plain = plain_from n e (eqb (down e) 0) few plain refl
@@ -225,9 +209,8 @@ pub text_and_zeros : (bytes text : List ℕ) (end all : ℕ) → take end bytes 
 text_and_zeros bytes text end all is zero within long =
     let count : length text ≡ end =
     ap (λ (xs : List ℕ). length xs) (sym is) ∙ length-take-le end bytes (omega (arith, within, long)) in
-    let left = length-drop end bytes in
     let rest : drop end bytes ≡ replicate (length (drop end bytes)) 0 =
     all_zeros (drop end bytes) (λ i. get_or-drop end bytes i 0 ∙ zero (end + i) (omega arith)) in
-    let same : length (drop end bytes) ≡ all - length text = omega (arith, left, count, long) in
+    let same : length (drop end bytes) ≡ all - length text = omega (arith, length-drop end bytes, count, long) in
     sym (take-append-drop end bytes) ∙ ap (λ (xs : List ℕ). xs ++ drop end bytes) is
     ∙ ap (λ (xs : List ℕ). text ++ xs) (rest ∙ ap (λ (k : ℕ). replicate k 0) same)

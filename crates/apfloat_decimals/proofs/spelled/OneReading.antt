@@ -84,10 +84,8 @@ decimal_refusal_once text said other x y =
 pub decimal_read_once : IsReadOnce
 decimal_read_once f mode text (Ok r) (Ok s) x y =
     gives_once (IsDecimalReading f mode text) (decimal_reading_once f mode text) r s x y
-decimal_read_once f mode text (Ok r) (Err e) x y =
-    reading_or_refusal f mode text e.0.now r.value (bits_of r.status) x y
-decimal_read_once f mode text (Err e) (Ok r) x y =
-    reading_or_refusal f mode text e.0.now r.value (bits_of r.status) y x
+decimal_read_once f mode text (Ok r) (Err e) x y = reading_or_refusal f mode text e.0.now r.value (bits_of r.status) x y
+decimal_read_once f mode text (Err e) (Ok r) x y = reading_or_refusal f mode text e.0.now r.value (bits_of r.status) y x
 decimal_read_once f mode text (Err e) (Err d) x y = decimal_refusal_once text e.0.now d.0.now x y
 
 -- ---- as a decimal
@@ -115,12 +113,6 @@ parsed_once text (Err ExponentOutOfRange) (Err (NoDecimal d)) _ _ x y =
 parsed_once text (Err TooManyDigits) (Err TooManyDigits) _ _ x y = tt
 parsed_once text (Err ExponentOutOfRange) (Err ExponentOutOfRange) _ _ x y = tt
 parsed_once text (Err TooManyDigits) (Err ExponentOutOfRange) _ _ x y =
-    let same = text_once (after_mark text) x.digits y.digits x.exponent y.exponent x.is_text y.is_text in
-    let many = x.many in
-    let few = y.few in
-    omega (arith, same.0)
+    omega (arith, (text_once (after_mark text) x.digits y.digits x.exponent y.exponent x.is_text y.is_text).0)
 parsed_once text (Err ExponentOutOfRange) (Err TooManyDigits) _ _ x y =
-    let same = text_once (after_mark text) x.digits y.digits x.exponent y.exponent x.is_text y.is_text in
-    let many = y.many in
-    let few = x.few in
-    omega (arith, same.0)
+    omega (arith, (text_once (after_mark text) x.digits y.digits x.exponent y.exponent x.is_text y.is_text).0)

@@ -28,8 +28,7 @@ digit_next digits i n h l =
 
 -- a number is at least the number that its first digits, with the next one, spell
 pub number_past : (digits : List ℕ) (i n all : ℕ) → every is_decimal digits ≡ true → i < length digits
-    → all ≡ number_from n (take i digits)
-    → all * 10 + (get_or digits i 0 - 48) ≤ number_from n digits
+    → all ≡ number_from n (take i digits) → all * 10 + (get_or digits i 0 - 48) ≤ number_from n digits
 number_past digits i n all h l e =
     let next = digit_next digits i n h l in
     let whole = number_upto digits (i + 1) n in

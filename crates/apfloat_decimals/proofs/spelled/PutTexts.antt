@@ -13,11 +13,8 @@ put_same {old = old} {new = new} {at = at} {end = end} same x = subst (λ (t : L
 pub put_then : {old mid new first second : List ℕ} {at between end : ℕ} → IsPut old at first mid between
     → IsPut mid between second new end → IsPut old at (first ++ second) new end
 put_then {old = old} {first = first} {second = second} {at = at} x y =
-    let long = length-append first second in
-    let one = x.moved in
-    let other = y.moved in
     record {
       taken = y.taken ∙ ap (λ (t : List ℕ). t ++ second) x.taken ∙ append_assoc (take at old) first second;
-      moved = omega (arith, long, one, other);
+      moved = omega (arith, length-append first second, x.moved, y.moved);
       zeros = y.zeros;
     }

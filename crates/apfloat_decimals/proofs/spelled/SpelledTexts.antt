@@ -40,19 +40,15 @@ split (c ∷ rest) = go (cases_Bool (is_dot c))
           is_point = inl refl;
           digits = rw e (run_passes is_decimal rest);
         }
-    go (inr e) =
-        record { point = []; spelled = rw e refl; is_point = inr (refl, rw e refl); digits = rw e refl }
+    go (inr e) = record { point = []; spelled = rw e refl; is_point = inr (refl, rw e refl); digits = rw e refl }
 
 -- the first digits of a text are digits
 pub first_digits : (body whole : List ℕ) → whole ≡ run is_decimal body → every is_decimal whole ≡ true
 first_digits body whole e = subst (λ (t : List ℕ). every is_decimal t ≡ true) (sym e) (run_passes is_decimal body)
 
 -- the digits after a dot are digits
-pub fraction_digits : (rest fraction : List ℕ) → fraction ≡ fraction_in rest
-    → every is_decimal fraction ≡ true
-fraction_digits rest fraction e =
-    let s = split rest in
-    subst (λ (t : List ℕ). every is_decimal t ≡ true) (sym e) s.digits
+pub fraction_digits : (rest fraction : List ℕ) → fraction ≡ fraction_in rest → every is_decimal fraction ≡ true
+fraction_digits rest fraction e = subst (λ (t : List ℕ). every is_decimal t ≡ true) (sym e) (split rest).digits
 
 -- an exponent without a fault is a written exponent
 written : (tail : List ℕ) → (not (is_empty tail) && not (begins is_e tail)) ≡ false
@@ -71,9 +67,8 @@ written (letter ∷ exponent) b d =
 
 -- a text without a fault spells its digits times a power of ten
 pub body_text : (body whole rest fraction tail : List ℕ) (some : Bool) → whole ≡ run is_decimal body
-    → rest ≡ after_run is_decimal body
-    → fraction ≡ fraction_in rest → tail ≡ after_fraction rest → some ≡ not (is_empty (whole ++ fraction))
-    → fault_after some tail ≡ None
+    → rest ≡ after_run is_decimal body → fraction ≡ fraction_in rest → tail ≡ after_fraction rest
+    → some ≡ not (is_empty (whole ++ fraction)) → fault_after some tail ≡ None
     → IsDecimalText body (number 10 (whole ++ fraction)) (exponent_number (drop 1 tail) -ℤ pos (length fraction))
 body_text body whole rest fraction tail some w r f t n h =
     let s = split rest in
@@ -124,11 +119,9 @@ body_spelled format mode negative body whole rest fraction tail some value statu
     }
 
 -- the first fault of a text, from its parts
-pub body_faulted : (body whole rest fraction tail : List ℕ) (some : Bool) (fault : Fault)
-    → whole ≡ run is_decimal body
+pub body_faulted : (body whole rest fraction tail : List ℕ) (some : Bool) (fault : Fault) → whole ≡ run is_decimal body
     → rest ≡ after_run is_decimal body → fraction ≡ fraction_in rest → tail ≡ after_fraction rest
-    → some ≡ not (is_empty (whole ++ fraction)) → fault_after some tail ≡ Some fault
-    → body_fault body ≡ Some fault
+    → some ≡ not (is_empty (whole ++ fraction)) → fault_after some tail ≡ Some fault → body_fault body ≡ Some fault
 body_faulted body whole rest fraction tail some fault w r f t n h =
     let h' : fault_after (not (is_empty (whole ++ fraction))) tail ≡ Some fault =
     subst (λ (b : Bool). fault_after b tail ≡ Some fault) n h in
@@ -151,8 +144,7 @@ pub some_second : (first second : List ℕ) (none : Bool) → true ≡ (length f
 some_second [] second none h e = ap not (e ∙ sym (empty_is second))
 some_second (c ∷ first) second none h e = absurd (false≢true (empty_is (c ∷ first) ∙ sym h))
 
-pub some_first : (first second : List ℕ) → false ≡ (length first == 0)
-    → true ≡ not (is_empty (first ++ second))
+pub some_first : (first second : List ℕ) → false ≡ (length first == 0) → true ≡ not (is_empty (first ++ second))
 some_first [] second h = absurd (false≢true (h ∙ sym (empty_is [])))
 some_first (c ∷ first) second h = refl
 
@@ -178,9 +170,8 @@ other_fault (c ∷ text) fault h first =
 
 -- for any other text that is refused, the fault is that of what follows the sign
 pub plain_fault : (text : List ℕ) (fault other : Fault)
-    → (not (is_empty (after_mark text)) && not (begins_literal (after_mark text))) ≡ true
-    → fault_of text ≡ Some other → body_fault (after_mark text) ≡ Some fault
-    → decimal_fault_of text ≡ Some fault
+    → (not (is_empty (after_mark text)) && not (begins_literal (after_mark text))) ≡ true → fault_of text ≡ Some other
+    → body_fault (after_mark text) ≡ Some fault → decimal_fault_of text ≡ Some fault
 plain_fault [] fault other h first body = absurd (false≢true h)
 plain_fault (c ∷ text) fault other h first body =
     go (is_empty (after_mark (c ∷ text))) (is_some (special_of (c ∷ text)))

@@ -36,13 +36,7 @@ letter_no_digit c h =
     (or_cases (eqb c 101) (eqb c 69) h)
 
 tail_of : (tail : List ℕ) (written : ℤ) → IsWrittenExponent tail written → IsTail tail written
-tail_of [] written h = record {
-  no_digit = refl;
-  no_dot = refl;
-  begins_e = refl;
-  faultless = refl;
-  number_is = h;
-}
+tail_of [] written h = record { no_digit = refl; no_dot = refl; begins_e = refl; faultless = refl; number_is = h }
 tail_of (letter ∷ exponent) written h =
     let kind = letter_no_digit letter h.0 in
     record {
@@ -60,8 +54,7 @@ record IsParted (body whole fraction tail : List ℕ) : Type 0 where
   fraction_is : fraction_in (after_run is_decimal body) ≡ fraction
   tail_is : after_fraction (after_run is_decimal body) ≡ tail
 
-parted_at_dot : (whole fraction tail : List ℕ) → every is_decimal whole ≡ true
-    → every is_decimal fraction ≡ true
+parted_at_dot : (whole fraction tail : List ℕ) → every is_decimal whole ≡ true → every is_decimal fraction ≡ true
     → begins is_decimal tail ≡ false → IsParted (whole ++ (46 ∷ (fraction ++ tail))) whole fraction tail
 parted_at_dot whole fraction tail w f t =
     let rest : after_run is_decimal (whole ++ (46 ∷ (fraction ++ tail))) ≡ 46 ∷ (fraction ++ tail) =
@@ -170,8 +163,7 @@ no_infinity Minus c rest l =
     (differs c 73 rest (codes "nf") l (omega arith)) (differs c 105 rest (codes "nf") l (omega arith)))
     (differs c 73 rest (codes "NFINITY") l (omega arith))
 
-no_named_nan : (negative : Bool) (c : ℕ) (rest : List ℕ) → c ≤ 57
-    → named_nan negative false (c ∷ rest) ≡ None
+no_named_nan : (negative : Bool) (c : ℕ) (rest : List ℕ) → c ≤ 57 → named_nan negative false (c ∷ rest) ≡ None
 no_named_nan negative c rest l =
     cond-false (is_nan_name (take 3 (c ∷ rest))) (with_payload negative false (payload_of (drop 3 (c ∷ rest)))) None
     (or_from (same (c ∷ take 2 rest) (codes "nan")) (same (c ∷ take 2 rest) (codes "NaN"))
@@ -198,10 +190,8 @@ no_special mark c rest l =
 
 -- a decimal text is not special: it begins with a dot or a digit
 no_special_text : (mark : Mark) (body whole point fraction tail : List ℕ)
-    → body ≡ whole ++ (point ++ (fraction ++ tail))
-    → (point ≡ codes ".") ⊎ ((point ≡ []) × (fraction ≡ []))
-    → every is_decimal (whole ++ fraction) ≡ true → 1 ≤ length (whole ++ fraction)
-    → special_meaning mark body ≡ None
+    → body ≡ whole ++ (point ++ (fraction ++ tail)) → (point ≡ codes ".") ⊎ ((point ≡ []) × (fraction ≡ []))
+    → every is_decimal (whole ++ fraction) ≡ true → 1 ≤ length (whole ++ fraction) → special_meaning mark body ≡ None
 no_special_text mark body (c ∷ whole) point fraction tail e p h l =
     let digit = (and_parts (is_decimal c) (every is_decimal (whole ++ fraction)) h).0 in
     rw e (no_special mark c (whole ++ (point ++ (fraction ++ tail)))
@@ -215,8 +205,7 @@ no_special_text mark body [] point fraction tail e (inr none) h l =
 -- a decimal text has no other meaning
 pub no_other_meaning : (text : List ℕ) (digits : ℕ) (exponent : ℤ)
     → IsDecimalText (after_mark text) digits exponent → fault_of text ≡ Some NoLiteral
-no_other_meaning [] digits exponent x =
-    absurd (false≢true (sym (only_text [] digits exponent x).some))
+no_other_meaning [] digits exponent x = absurd (false≢true (sym (only_text [] digits exponent x).some))
 no_other_meaning (c ∷ text) digits exponent x =
     let body = after_mark (c ∷ text) in
     let only = only_text body digits exponent x in
@@ -224,8 +213,7 @@ no_other_meaning (c ∷ text) digits exponent x =
     no_special_text (mark_of (c ∷ text)) body x.whole x.point x.fraction x.tail x.spelled x.is_point x.are_digits
     x.has_digits in
     let special : is_some (special_of (c ∷ text)) ≡ false = ap is_some none in
-    let literal = no_literal body only.faultless in
-    rw (only.some, special, literal) refl
+    rw (only.some, special, no_literal body only.faultless) refl
 
 -- a decimal text has no fault
 pub no_fault_of : (text : List ℕ) (digits : ℕ) (exponent : ℤ) → IsDecimalText (after_mark text) digits exponent

@@ -48,8 +48,7 @@ text_read format mode text (Err error) negative digits exponent x r =
 make : Bool → ℕ → ℤ → Decimal
 make negative digits exponent = record { negative = negative; digits = digits; exponent = exponent }
 
-same_decimal : (x y : Decimal) → x.negative ≡ y.negative → x.digits ≡ y.digits → x.exponent ≡ y.exponent
-    → x ≡ y
+same_decimal : (x y : Decimal) → x.negative ≡ y.negative → x.digits ≡ y.digits → x.exponent ≡ y.exponent → x ≡ y
 unfolding make
 same_decimal x y n d e =
     ap (λ (b : Bool). make b x.digits x.exponent) n ∙ ap (λ (k : ℕ). make y.negative k x.exponent) d
@@ -64,12 +63,8 @@ text_parsed text x (Err (NoDecimal error)) stored spells r =
     absurd (none-some r.fault (sym (no_plain_fault text x.digits x.exponent spells.is_text) ∙ r.is_first))
 text_parsed text x (Err TooManyDigits) stored spells r =
     let same = text_once (after_mark text) r.digits x.digits r.exponent x.exponent r.is_text spells.is_text in
-    let many = r.many in
-    let few = stored.digits in
     absurd (omega (arith, same.0))
 text_parsed text x (Err ExponentOutOfRange) stored spells r =
     let same = text_once (after_mark text) r.digits x.digits r.exponent x.exponent r.is_text spells.is_text in
-    let low = stored.exponent_low in
-    let high = stored.exponent_high in
     ⊎_elim (λ (l : pos (2 ^ 31) ≤ℤ r.exponent). absurd (omega (arith, ints, same.1, l)))
     (λ (l : r.exponent ≤ℤ neg_ℤ (pos (2 ^ 31 + 1))). absurd (omega (arith, ints, same.1, l))) r.far

@@ -50,11 +50,8 @@ ten_great number places few l =
 -- an integer of at most 21 digits, times 10, fits in 128 bits
 pub times_ten_small : (n e : ℕ) → n < 2 ^ 128 → e + length (decimal n) ≤ 21 → n * 10 ^ (e + 1) < 2 ^ 128
 times_ten_small n e few l =
-    let below = below_power n few in
-    let split : 10 ^ (length (decimal n) + (e + 1)) ≡ 10 ^ length (decimal n) * 10 ^ (e + 1) =
-    pow-add 10 (length (decimal n)) (e + 1) in
     let room : length (decimal n) + (e + 1) ≤ 22 = omega arith in
     let most : 10 ^ (length (decimal n) + (e + 1)) ≤ 10 ^ 22 = pow-le-pow_right (omega arith) room in
     let times : n * 10 ^ (e + 1) < 10 ^ length (decimal n) * 10 ^ (e + 1) =
-    mul-lt-mul_of_pos_right below (power_pos 10 (e + 1) (omega arith)) in
-    omega (arith, split, most, times)
+    mul-lt-mul_of_pos_right (below_power n few) (power_pos 10 (e + 1) (omega arith)) in
+    omega (arith, pow-add 10 (length (decimal n)) (e + 1), most, times)

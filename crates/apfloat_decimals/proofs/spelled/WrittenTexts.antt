@@ -59,8 +59,7 @@ more_digits n digits l x =
 
 -- the written digits of a number are digits of it
 pub number_of_decimal : (n : ℕ) → n < 10 ^ 64 → IsNumeral n (decimal n)
-number_of_decimal n few =
-    decimal_by_steps_wide (λ (m : ℕ) (ds : List ℕ). IsNumeral m ds) single_digit more_digits n few
+number_of_decimal n few = decimal_by_steps_wide (λ (m : ℕ) (ds : List ℕ). IsNumeral m ds) single_digit more_digits n few
 
 -- a number with digits appended is the number moved up, plus that of the digits
 after : (n : ℕ) (digits : List ℕ) → number_from n digits ≡ n * 10 ^ length digits + number_from 0 digits
@@ -76,8 +75,7 @@ after n (c ∷ digits) =
     grown : (n d p r s : ℕ) → s ≡ (0 * 10 + d) * p + r → (n * 10 + d) * p + r ≡ n * (p * 10) + s
     grown n d p r s e = omega arith
 
-zeros_number : (count : ℕ) (digits : List ℕ)
-    → number_from 0 (replicate count 48 ++ digits) ≡ number_from 0 digits
+zeros_number : (count : ℕ) (digits : List ℕ) → number_from 0 (replicate count 48 ++ digits) ≡ number_from 0 digits
 zeros_number zero digits = refl
 zeros_number (suc count) digits = zeros_number count digits
 
@@ -94,8 +92,7 @@ record IsPadded (places n : ℕ) (digits : List ℕ) : Type 0 where
   length_is : length digits ≡ places
   number_is : number 10 digits ≡ n
 
-padded_number : (places n : ℕ) → 0 < places → n < 10 ^ places → n < 10 ^ 64
-    → IsPadded places n (padded places n)
+padded_number : (places n : ℕ) → 0 < places → n < 10 ^ places → n < 10 ^ 64 → IsPadded places n (padded places n)
 padded_number places n some below few =
     let x = number_of_decimal n few in
     let zeros = places - length (decimal n) in
@@ -130,36 +127,31 @@ append_none (x ∷ xs) = ap (λ (t : List ℕ). x ∷ t) (append_none xs)
 exponent_written : (e : ℤ) → neg_ℤ (pos (2 ^ 32)) ≤ℤ e → e ≤ℤ pos (2 ^ 32)
     → IsWrittenExponent (101 ∷ signed_decimal e) e
 exponent_written (pos m) low high =
-    let few : m < 10 ^ 64 = omega (arith, ints, high) in
-    let x = number_of_decimal m few in
+    let x = number_of_decimal m (omega (arith, ints, high)) in
     let none = append_none (decimal m) in
     let mark = unmarked (decimal m) [] x.are_digits x.some in
     let plain : mark_of (decimal m) ≡ Unmarked = rw none at mark.0 in
     let unmarked : after_mark (decimal m) ≡ decimal m = rw none at mark.1 in
     (refl, rw unmarked x.are_digits, rw unmarked x.some, rw (plain, unmarked, x.number_is) refl)
 exponent_written (negsuc m) low high =
-    let few : suc m < 10 ^ 64 = omega (arith, ints, low) in
-    let x = number_of_decimal (suc m) few in
+    let x = number_of_decimal (suc m) (omega (arith, ints, low)) in
     (refl, x.are_digits, x.some, rw x.number_is refl)
 
 -- ---- numbers with a dot
 
 -- digits with a dot among them, and a tail, are a decimal text
-dotted : (n places : ℕ) (tail : List ℕ) (written : ℤ) → n < 2 ^ 128 → 0 < places
-    → IsWrittenExponent tail written
+dotted : (n places : ℕ) (tail : List ℕ) (written : ℤ) → n < 2 ^ 128 → 0 < places → IsWrittenExponent tail written
     → IsDecimalText (pointed n places ++ tail) n (written -ℤ pos places)
 dotted n places tail written few some exponent =
     let unit : 0 < 10 ^ places = power_pos 10 places (lit< tt) in
-    let rest : n % 10 ^ places < 10 ^ places = omega arith in
-    let same : n / 10 ^ places * 10 ^ places + n % 10 ^ places ≡ n = omega arith in
     let front : n / 10 ^ places ≤ n = omega arith in
     let whole = number_of_decimal (n / 10 ^ places) (omega arith) in
-    let fraction = padded_number places (n % 10 ^ places) some rest (omega arith) in
+    let fraction = padded_number places (n % 10 ^ places) some (omega arith) (omega arith) in
     let digits = padded places (n % 10 ^ places) in
     let spelled : number 10 (decimal (n / 10 ^ places) ++ digits) ≡ n =
     number_joined (decimal (n / 10 ^ places)) digits 0
     ∙ after (number_from 0 (decimal (n / 10 ^ places))) digits
-    ∙ rw (whole.number_is, fraction.length_is, fraction.number_is) same in
+    ∙ rw (whole.number_is, fraction.length_is, fraction.number_is) (omega arith) in
     record {
       whole = decimal (n / 10 ^ places);
       point = codes ".";
@@ -239,16 +231,14 @@ plain_whole n e few plain whole =
     (and_parts (leb (down e) (up e + length (decimal n) + 5)) (leb (up e + length (decimal n)) (down e + 21))
     plain).1 in
     let small : n * 10 ^ (up e + 1) < 2 ^ 128 = times_ten_small n (up e) few (omega arith) in
-    let text = pointed (n * 10 ^ (up e + 1)) 1 in
-    let none = append_none text in
+    let none = append_none (pointed (n * 10 ^ (up e + 1)) 1) in
     rw none at (begun_dotted (n * 10 ^ (up e + 1)) 1 [] (pos 0) (neg_ℤ (pos 1)) small (omega arith) refl refl)
 
 negative_is : (e : ℤ) → 0 < down e → pos 0 -ℤ pos (down e) ≡ e
 negative_is (pos m) h = absurd (omega (arith, h))
 negative_is (negsuc m) h = omega (arith, ints)
 
-plain_fraction : (n : ℕ) (e : ℤ) → n < 2 ^ 128 → eqb (down e) 0 ≡ false
-    → IsMagnitude (pointed n (down e)) n e
+plain_fraction : (n : ℕ) (e : ℤ) → n < 2 ^ 128 → eqb (down e) 0 ≡ false → IsMagnitude (pointed n (down e)) n e
 plain_fraction n e few some =
     let places : 0 < down e = below (down e) (eqb-false (down e) 0 some) in
     let none = append_none (pointed n (down e)) in
@@ -277,8 +267,7 @@ scientific n e few low high =
         rw none (begun n n e (101 ∷ signed_decimal first) (decimal n ++ (101 ∷ signed_decimal first)) few refl
         (rw (sym unit) (undotted n (101 ∷ signed_decimal first) first few written)))
     go (inr some) first written same =
-        let places : 0 < length (decimal n) - 1 =
-        below (length (decimal n) - 1) (eqb-false (length (decimal n) - 1) 0 some) in
+        let places = below (length (decimal n) - 1) (eqb-false (length (decimal n) - 1) 0 some) in
         rw some (begun_dotted n (length (decimal n) - 1) (101 ∷ signed_decimal first) first e few places written same)
       where
         below : (m : ℕ) → (m ≡ 0 → ⊥) → 0 < m
@@ -305,8 +294,7 @@ magnitude_spelled x stored =
     (cases_Bool (is_plain x.digits x.exponent)))
     (cases_Bool (eqb x.digits 0))
 
-signed_spelled : (negative : Bool) (text : List ℕ) (digits : ℕ) (exponent : ℤ)
-    → IsMagnitude text digits exponent
+signed_spelled : (negative : Bool) (text : List ℕ) (digits : ℕ) (exponent : ℤ) → IsMagnitude text digits exponent
     → Spells (sign_text negative ++ text) negative digits exponent
 signed_spelled true text digits exponent x = record { sign = refl; is_text = x.is_text }
 signed_spelled false text digits exponent x = record { sign = rw x.no_mark refl; is_text = rw x.no_sign x.is_text }

@@ -9,7 +9,7 @@ use Rattle.apfloat_model.specs.{formats.Format.Format, whole_numbers.WholeNumber
 use Rattle.apfloat_model.proofs.general.Choices.{eqb_self}
 use Rattle.apfloat_decimals.specs.ExactDecimals.{IsNumberOf}
 use Rattle.apfloat_decimals.specs.RoundedDecimals.{IsRoundedNumber, unit, units}
-use Rattle.apfloat_decimals.specs.ShortestSearch.{IsAtLeast, IsBetween, IsLess}
+use Rattle.apfloat_decimals.specs.ShortestSearch.{IsBetween, IsLess}
 use Rattle.apfloat_decimals.proofs.digits.OneRounded.{one_place}
 use Rattle.apfloat_decimals.proofs.shortest_decimals.DecimalPlaces.{ten_pos, lowered}
 use Rattle.apfloat_digits.specs.decimal.DigitCounts.{IsDigitCount}
@@ -34,8 +34,7 @@ not_above q d uf df up' dp s t x e =
     let c : d * 10 ^ (t + 1) < 10 = lt_of_mul-lt-mul_right (10 ^ uf * 2 ^ s * 10 ^ dp) b in
     let ten : 10 ^ (t + 1) ≡ 10 ^ t * 10 = pow-add 10 t 1 in
     let p : 1 ≤ 10 ^ t = ten_pos t in
-    let some = x.some in
-    let m : 1 * 10 ≤ d * 10 ^ (t + 1) = least_product d (10 ^ (t + 1)) some (omega arith) in
+    let m : 1 * 10 ≤ d * 10 ^ (t + 1) = least_product d (10 ^ (t + 1)) x.some (omega arith) in
     omega arith
   where
     least_product : (d k : ℕ) → 0 < d → 10 ≤ k → 1 * 10 ≤ d * k
@@ -116,9 +115,8 @@ exact_at f mode negative q count digits exponent exact x y =
     let unit_some : 0 < 10 ^ up x.exponent * 2 ^ f.scale = mul-pos (ten_pos (up x.exponent)) (pow_pos f.scale) in
     let high : x.digits * (10 ^ up x.exponent * 2 ^ f.scale) < 10 ^ count * (10 ^ up x.exponent * 2 ^ f.scale) =
     mul-lt-mul_of_pos_right fits unit_some in
-    let least : IsAtLeast f q (10 ^ (count - 1)) x.exponent = omega arith in
     let less : IsLess f q (10 ^ count) x.exponent = omega arith in
-    let same : y.place ≡ x.exponent = one_place f q count x.exponent y.place some least less y.least y.less in
+    let same : y.place ≡ x.exponent = one_place f q count x.exponent y.place some (omega arith) less y.least y.less in
     let told = subst (λ (z : ℤ).
     exact ≡ eqb (whole_pick mode negative (units q z) (unit f z) * unit f z) (units q z)) same y.exact_is in
     told ∙ whole_exact mode negative (units q x.exponent) (unit f x.exponent) x.digits unit_some (omega arith)

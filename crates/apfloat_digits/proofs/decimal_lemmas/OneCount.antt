@@ -35,8 +35,7 @@ count_some (suc n) digits full fits = omega arith
 -- that many digits are not fewer
 ten_times : (count digits : ℕ) → 10 ^ (count - 1) ≤ digits → digits < 10 ^ count → 10 ^ count ≤ 10 * digits
 ten_times count digits full fits =
-    let some = count_some count digits full fits in
-    let at : count ≡ (count - 1) + 1 = omega (arith, some) in
+    let at : count ≡ (count - 1) + 1 = omega (arith, count_some count digits full fits) in
     let ten : 10 ^ ((count - 1) + 1) ≡ 10 ^ (count - 1) * 10 = pow-add 10 (count - 1) 1 in
     let e : 10 ^ count ≡ 10 ^ (count - 1) * 10 = ap (λ (n : ℕ). 10 ^ n) at ∙ ten in
     omega (arith, e, full)
@@ -44,9 +43,8 @@ ten_times count digits full fits =
 same_digits_same_count : (count other n o : ℕ) → n ≡ o → 10 ^ (count - 1) ≤ n → n < 10 ^ count
     → 10 ^ (other - 1) ≤ o → o < 10 ^ other → count ≡ other
 same_digits_same_count count other n o e full fits other_full other_fits =
-    let a = ten_times count n full fits in
     let b = ten_times other o other_full other_fits in
-    same_count count other n o fits other_fits (omega (arith, a, e)) (omega (arith, b, e))
+    same_count count other n o fits other_fits (omega (arith, ten_times count n full fits, e)) (omega (arith, b, e))
 
 one_count : (f : Format) (quanta count other : ℕ) → IsDigitCount f quanta count → IsDigitCount f quanta other
     → count ≡ other

@@ -55,12 +55,10 @@ shortening_goes_on fraction places digits some none x =
 pub shortening_fits : (fraction places digits : ℕ) → fraction < 2 ^ 124 → IsShortening fraction places digits
     → digits < 16 ^ places
 shortening_fits fraction places digits below x =
-    let same = x.same in
     let e : places + (31 - places) ≡ 31 = omega (arith, x.few) in
     let all : 16 ^ places * 16 ^ (31 - places) ≡ 16 ^ 31 =
     sym (pow-add 16 places (31 - places)) ∙ ap (λ (n : ℕ). 16 ^ n) e in
-    let top : 16 ^ 31 ≡ 2 ^ 124 = refl in
-    lt_of_mul-lt-mul_right (16 ^ (31 - places)) (less fraction digits _ _ _ _ below same all top)
+    lt_of_mul-lt-mul_right (16 ^ (31 - places)) (less fraction digits _ _ _ _ below x.same all refl)
   where
     less : (n d p k a b : ℕ) → n < b → n ≡ d * k → p * k ≡ a → a ≡ b → d * k < p * k
     less n d p k a b l e g h = omega (arith, l, e, g, h)
@@ -73,13 +71,12 @@ shortest f q digits fraction places short first wide is few fits same last =
     let z = last_place f 31 first in
     let w = last_place f places first in
     let k = 4 * (31 - places) in
-    let low = wide.low in
     let power : 16 ^ places * 2 ^ k ≡ 2 ^ 124 =
     ap (λ (n : ℕ). n * 2 ^ k) (sixteens places) ∙ sym (pow-add 2 (4 * places) k)
     ∙ ap (λ (n : ℕ). 2 ^ n) (let e : 4 * places + k ≡ 124 = omega (arith, few) in e) in
     let zeros : 16 ^ (31 - places) ≡ 2 ^ k = sixteens (31 - places) in
     let whole : digits ≡ (16 ^ places + short) * 2 ^ k =
-    parts digits fraction (2 ^ 124) short (16 ^ (31 - places)) (2 ^ k) (16 ^ places) low is same zeros power in
+    parts digits fraction (2 ^ 124) short (16 ^ (31 - places)) (2 ^ k) (16 ^ places) wide.low is same zeros power in
     record {
       fits = fits;
       last = last;

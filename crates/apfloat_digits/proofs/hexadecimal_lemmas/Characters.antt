@@ -52,8 +52,7 @@ digits_number zero m n l = let e : m ≡ m * 16 ^ 0 + n = omega (arith, l) in e
 digits_number (suc p) m n l =
     let power : 16 ^ (p + 1) ≡ 16 ^ p * 16 = pow-add 16 p 1 in
     let power' : 16 ^ suc p ≡ 16 ^ p * 16 = rw add-one at power in
-    let digit : n % 16 < 16 = omega arith in
-    let value = (digit_of (n % 16) digit).value in
+    let value = (digit_of (n % 16) (omega arith)).value in
     let below : n / 16 < 16 ^ p = omega (arith, l, power') in
     joined m (digits_text p (n / 16)) (character (n % 16) ∷ [])
     ∙ ap (λ (x : ℕ). x * 16 + digit_value (character (n % 16))) (digits_number p m (n / 16) below)
@@ -65,16 +64,14 @@ digits_number (suc p) m n l =
 pub digits_length : (places n : ℕ) → length (digits_text places n) ≡ places
 digits_length zero n = refl
 digits_length (suc p) n =
-    let more = length_more (digits_text p (n / 16)) (character (n % 16)) in
     let before = digits_length p (n / 16) in
-    more ∙ ap (λ (x : ℕ). x + 1) before ∙ omega arith
+    (length_more (digits_text p (n / 16)) (character (n % 16))) ∙ ap (λ (x : ℕ). x + 1) before ∙ omega arith
 
 pub digits_hexadecimal : (places n : ℕ) → every is_hexadecimal (digits_text places n) ≡ true
 digits_hexadecimal zero n = refl
 digits_hexadecimal (suc p) n =
-    let digit : n % 16 < 16 = omega arith in
     append-every is_hexadecimal (digits_text p (n / 16)) (character (n % 16) ∷ []) (digits_hexadecimal p (n / 16))
-    (and_from (is_hexadecimal (character (n % 16))) true (digit_of (n % 16) digit).is refl)
+    (and_from (is_hexadecimal (character (n % 16))) true (digit_of (n % 16) (omega arith)).is refl)
 
 -- ---- digits one by one
 
@@ -94,9 +91,8 @@ last_digit text places n some =
 pub room_for_last : (text : List ℕ) (places n : ℕ) → 0 < places → length text + places ≤ 64
     → length (text ++ digits_text (places - 1) (n / 16)) < 64
 room_for_last text places n some room =
-    let digits = digits_length (places - 1) (n / 16) in
     let both = length-append text (digits_text (places - 1) (n / 16)) in
-    omega (arith, digits, both, room, some)
+    omega (arith, digits_length (places - 1) (n / 16), both, room, some)
 
 -- ---- exponents
 
@@ -119,11 +115,9 @@ unmarked (c ∷ digits) h l =
 
 pub exponent_written : (e : ℤ) → neg_ℤ (pos (2 ^ 32)) ≤ℤ e → e ≤ℤ pos (2 ^ 32) → IsExponentText (signed_decimal e) e
 exponent_written (pos m) low high =
-    let few : m < 10 ^ 64 = omega (arith, ints, high) in
-    let x = number_of_decimal m few in
+    let x = number_of_decimal m (omega (arith, ints, high)) in
     let mark = unmarked (decimal m) x.are_digits x.some in
     record { are_digits = rw mark.1 x.are_digits; some = rw mark.1 x.some; is = rw (mark.0, mark.1, x.number_is) refl }
 exponent_written (negsuc m) low high =
-    let few : suc m < 10 ^ 64 = omega (arith, ints, low) in
-    let x = number_of_decimal (suc m) few in
+    let x = number_of_decimal (suc m) (omega (arith, ints, low)) in
     record { are_digits = x.are_digits; some = x.some; is = rw x.number_is refl }

@@ -29,30 +29,22 @@ dotted_length (suc p) fraction =
 pub number_length : (negative : Bool) (first places fraction : ℕ) (e : ℤ) → places ≤ 31 → IsWithin (2 ^ 23) e
     → length (number_text negative first places fraction e) ≤ 45
 number_length negative first places fraction e few within =
-    let sign = sign_length negative in
-    let dot = dotted_length places fraction in
-    let exponent = exponent_length e within in
     let a = length-append (codes "p") (signed_decimal e) in
     let b = length-append (dotted places fraction) (codes "p" ++ signed_decimal e) in
     let c = length-append (codes "0x") (character first ∷ (dotted places fraction ++ (codes "p" ++ signed_decimal e)))
     in
     let d = length-append (sign_text negative) (magnitude_text first places fraction e) in
-    omega (arith, sign, dot, exponent, a, b, c, d, few)
+    omega (arith, sign_length negative, dotted_length places fraction, exponent_length e within, a, b, c, d, few)
 
 -- a number up to its exponent
 pub front_length : (line : List ℕ) (a b c places fraction : ℕ) → length line ≤ 1 → places ≤ 31
     → length ((((line ++ (a ∷ [])) ++ (b ∷ [])) ++ (c ∷ [])) ++ dotted places fraction) ≤ 36
 front_length line a b c places fraction start few =
-    let dot = dotted_length places fraction in
-    let first = length_more line a in
     let second = length_more (line ++ (a ∷ [])) b in
     let third = length_more ((line ++ (a ∷ [])) ++ (b ∷ [])) c in
     let all = length-append (((line ++ (a ∷ [])) ++ (b ∷ [])) ++ (c ∷ [])) (dotted places fraction) in
-    omega (arith, dot, first, second, third, all, start, few)
+    omega (arith, dotted_length places fraction, length_more line a, second, third, all, start, few)
 
 pub tail_room : (text : List ℕ) (c : ℕ) (e : ℤ) → length text ≤ 36 → IsWithin (2 ^ 23) e
     → length (text ++ (c ∷ [])) + length (signed_decimal e) ≤ 64
-tail_room text c e short within =
-    let more = length_more text c in
-    let exponent = exponent_length e within in
-    omega (arith, more, exponent, short)
+tail_room text c e short within = omega (arith, length_more text c, exponent_length e within, short)

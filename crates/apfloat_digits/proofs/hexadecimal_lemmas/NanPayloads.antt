@@ -89,9 +89,8 @@ lower_digits precision bits false some =
     ap (λ (k : ℕ). bits % 2 ^ k % 2 ^ (precision - 2)) e ∙ mod-mod-pow bits 1 (precision - 2)
 
 -- the payload of a NaN is at the end of its bits
-pub payload_at_end : (f : Format) (layout : Layout) (x : Datum) (bits : ℕ) → 3 ≤ f.precision
-    → f.nonfinite ≡ IEEE754 → category_of x ≡ NaN → datum_of f layout bits ≡ x
-    → bits % 2 ^ (f.precision - 2) ≡ payload_of f x
+pub payload_at_end : (f : Format) (layout : Layout) (x : Datum) (bits : ℕ) → 3 ≤ f.precision → f.nonfinite ≡ IEEE754
+    → category_of x ≡ NaN → datum_of f layout bits ≡ x → bits % 2 ^ (f.precision - 2) ≡ payload_of f x
 payload_at_end f layout (finite b n) bits some kind is e = absurd (finite_not b n (cases_Bool (eqb n 0)) is)
   where
     finite_not : (b : Bool) (n : ℕ) → (eqb n 0 ≡ true) ⊎ (eqb n 0 ≡ false) → category_of (finite b n) ≡ NaN → ⊥
@@ -117,33 +116,27 @@ payload_of_none = record { none = λ e. refl; some = λ p. absurd (omega (arith,
 
 -- as many digits as a number of `count` binary digits has
 pub payload_of_some : (payload count : ℕ) (text : List ℕ) → 0 < payload → 2 ^ (count - 1) ≤ payload
-    → payload < 2 ^ count → text ≡ codes "0x" ++ digits_text ((count - 1) / 4 + 1) payload
-    → IsPayloadText payload text
+    → payload < 2 ^ count → text ≡ codes "0x" ++ digits_text ((count - 1) / 4 + 1) payload → IsPayloadText payload text
 payload_of_some payload count text some low high e =
     let places = (count - 1) / 4 in
     let below : 4 * places ≤ count - 1 = omega arith in
     let above : count ≤ 4 * (places + 1) = omega arith in
     let a : 2 ^ (4 * places) ≤ 2 ^ (count - 1) = pow-le-pow_right two_pos below in
     let b : 2 ^ count ≤ 2 ^ (4 * (places + 1)) = pow-le-pow_right two_pos above in
-    let c = sixteens places in
-    let d = sixteens (places + 1) in
     record {
       none = λ z. absurd (omega (arith, z, some));
-      some = λ p. (places, omega (arith, a, c, low), omega (arith, b, d, high), e);
+      some = λ p. (places, omega (arith, a, sixteens places, low), omega (arith, b, sixteens (places + 1), high), e);
     }
 
 pub count_some : (payload count : ℕ) → 0 < payload → payload < 2 ^ count → 0 < count
 count_some payload zero some l = absurd (omega (arith, some, l))
 count_some payload (suc n) some l = omega arith
 
-pub prefixed : (text digits : List ℕ)
-    → ((text ++ (48 ∷ [])) ++ (120 ∷ [])) ++ digits ≡ text ++ (codes "0x" ++ digits)
-prefixed text digits =
-    append_assoc (text ++ (48 ∷ [])) (120 ∷ []) digits ∙ append_assoc text (48 ∷ []) (120 ∷ digits)
+pub prefixed : (text digits : List ℕ) → ((text ++ (48 ∷ [])) ++ (120 ∷ [])) ++ digits ≡ text ++ (codes "0x" ++ digits)
+prefixed text digits = append_assoc (text ++ (48 ∷ [])) (120 ∷ []) digits ∙ append_assoc text (48 ∷ []) (120 ∷ digits)
 
 -- a value without a payload
-pub full_of : (f : Format) (x : Datum) (text : List ℕ) → payload_of f x ≡ 0 → IsHexText f x text
-    → IsFullText f x text
+pub full_of : (f : Format) (x : Datum) (text : List ℕ) → payload_of f x ≡ 0 → IsHexText f x text → IsFullText f x text
 full_of f x text none is = record {
   front = text;
   rest = [];
@@ -156,11 +149,8 @@ full_of f x text none is = record {
 
 one_places : (n a b : ℕ) → 16 ^ a ≤ n → n < 16 ^ (b + 1) → a ≤ b
 one_places n a b low high =
-    let c = sixteens a in
-    let d = sixteens (b + 1) in
-    let l : 2 ^ (4 * a) < 2 ^ (4 * (b + 1)) = omega (arith, c, d, low, high) in
-    let e = exponent_below (4 * a) (4 * (b + 1)) l in
-    omega (arith, e)
+    let l : 2 ^ (4 * a) < 2 ^ (4 * (b + 1)) = omega (arith, sixteens a, sixteens (b + 1), low, high) in
+    omega (arith, exponent_below (4 * a) (4 * (b + 1)) l)
 
 one_payload : (payload : ℕ) (text other : List ℕ) → IsPayloadText payload text → IsPayloadText payload other
     → text ≡ other
@@ -169,9 +159,7 @@ one_payload payload text other x y =
     (λ (some : 0 < payload).
     let a = x.some some in
     let b = y.some some in
-    let low = one_places payload a.0 b.0 a.1 b.2 in
-    let high = one_places payload b.0 a.0 b.1 a.2 in
-    let same : a.0 ≡ b.0 = omega (arith, low, high) in
+    let same : a.0 ≡ b.0 = omega (arith, one_places payload a.0 b.0 a.1 b.2, one_places payload b.0 a.0 b.1 a.2) in
     a.3 ∙ ap (λ (p : ℕ). codes "0x" ++ digits_text (p + 1) payload) same ∙ sym b.3)
     (λ (none : payload ≤ 0).
     let zero_is : payload ≡ 0 = omega (arith, none) in
@@ -260,12 +248,7 @@ split s k l =
     let parts : s / 2 ^ k * 2 ^ k + s % 2 ^ k ≡ s = div-add-mod' s (2 ^ k) in
     let less : s / 2 ^ k < 2 = (div-lt_iff_lt-mul (pow_pos k)).1 (omega (arith, more, l)) in
     let same : s / 2 ^ k % 2 ≡ s / 2 ^ k = mod-eq_of_lt less in
-    record {
-      digit = s / 2 ^ k;
-      few = less;
-      is = sym parts;
-      tested = tested s k ∙ ap (λ (n : ℕ). n * 2 ^ k) same;
-    }
+    record { digit = s / 2 ^ k; few = less; is = sym parts; tested = tested s k ∙ ap (λ (n : ℕ). n * 2 ^ k) same }
 
 quiet_case : (d u s q : ℕ) → s ≡ d * u + q → d * u ≡ u → s ≡ u + q
 quiet_case d u s q e f = omega (arith, e, f)
@@ -279,8 +262,7 @@ signaling_case (suc (suc d)) u s q l e n = absurd (omega (arith, l))
 cleared_is : (q k : ℕ) → q < 2 ^ k → (2 ^ k + q) - bit_and (2 ^ k + q) (2 ^ k) ≡ q
 cleared_is q k l =
     let one : (2 ^ k + q) / 2 ^ k ≡ 1 = div-eq_of_lt-le (2 ^ k) (omega arith) (omega (arith, l)) in
-    let set : bit_and (2 ^ k + q) (2 ^ k) ≡ 1 * 2 ^ k =
-    tested (2 ^ k + q) k ∙ ap (λ (n : ℕ). (n % 2) * 2 ^ k) one in
+    let set : bit_and (2 ^ k + q) (2 ^ k) ≡ 1 * 2 ^ k = tested (2 ^ k + q) k ∙ ap (λ (n : ℕ). (n % 2) * 2 ^ k) one in
     ap (λ (n : ℕ). (2 ^ k + q) - n) set ∙ rest (2 ^ k) q
   where
     rest : (u q : ℕ) → (u + q) - 1 * u ≡ q
@@ -315,13 +297,11 @@ made_is s k some l =
     (λ (e : eqb (bit_and s (2 ^ k)) (2 ^ k) ≡ false).
     let same : s ≡ q = signaling_case x.digit (2 ^ k) s q x.few x.is
     (λ z. eqb-false (bit_and s (2 ^ k)) (2 ^ k) e (x.tested ∙ z)) in
-    let clear = cleared_is q k below in
-    let kept = masked q k below in
     let positive : eqb q 0 ≡ false = ne_eqb q 0 (λ z. omega (arith, z, same, some)) in
     ap (λ (b : Bool). cond (not b) (unmarked (2 ^ k) m (marked (2 ^ k) m q)) (marked (2 ^ k) m q)) e
     ∙ ap (λ (n : ℕ). unmarked (2 ^ k) m n) quiet
-    ∙ ap (λ (n : ℕ). cond (eqb (bit_and n m) 0) (bit_or n (2 ^ k / 2)) n) clear
-    ∙ ap (λ (n : ℕ). cond (eqb n 0) (bit_or q (2 ^ k / 2)) q) kept
+    ∙ ap (λ (n : ℕ). cond (eqb (bit_and n m) 0) (bit_or n (2 ^ k / 2)) n) (cleared_is q k below)
+    ∙ ap (λ (n : ℕ). cond (eqb n 0) (bit_or q (2 ^ k / 2)) q) (masked q k below)
     ∙ ap (λ (b : Bool). cond b (bit_or q (2 ^ k / 2)) q) positive
     ∙ sym same)
     (cases_Bool (eqb (bit_and s (2 ^ k)) (2 ^ k)))
@@ -380,10 +360,9 @@ nan_means_full negative signaling payload front rest text few is x e =
     (sym p.3) (nan_means_payload negative signaling payload p.0 p.2 few))
     (λ (none : payload ≤ 0).
     let zero_is : payload ≡ 0 = omega (arith, none) in
-    let rest_is = x.none zero_is in
     let plain = nan_means negative signaling in
     let longer : nan_text negative signaling ++ rest ≡ nan_text negative signaling =
-    ap (λ (t : List ℕ). nan_text negative signaling ++ t) rest_is ∙ append-nil (nan_text negative signaling) in
+    ap (λ (t : List ℕ). nan_text negative signaling ++ t) (x.none zero_is) ∙ append-nil (nan_text negative signaling) in
     subst (λ (t : List ℕ). Means t (not_a_number negative signaling payload)) (sym longer)
     (subst (λ (n : ℕ). Means (nan_text negative signaling) (not_a_number negative signaling n)) (sym zero_is) plain))
     (cases_lt 0 payload))
@@ -395,7 +374,6 @@ full_text_of f mode (finite b n) text ranges kind implied member t =
 full_text_of f mode (infinite b) text ranges kind implied member t =
     text_of f mode (infinite b) text ranges member (without_payload f (infinite b) text refl t)
 full_text_of f mode (nan b s) text ranges kind implied member t =
-    let wide = ranges.precision_low in
     let payload = payload_in f.nonfinite f.precision s in
     let parts : (0 < s) × (s < 2 ^ (f.precision - 1)) =
     subst (λ (e : Bool). IsNanSignificand IEEE754 e f.precision s) implied
@@ -415,7 +393,7 @@ full_text_of f mode (nan b s) text ranges kind implied member t =
             ∙ ap (λ (n : NonfiniteBehavior).
             nan (nan_sign n b)
             (cond (is_signaling f s) (signaling_significand f payload) (quiet_significand f payload))) kind
-            ∙ ap (λ (n : ℕ). nan b n) (read_is f s wide kind implied parts.0 parts.1),
+            ∙ ap (λ (n : ℕ). nan b n) (read_is f s ranges.precision_low kind implied parts.0 parts.1),
         meant.status_is,
       );
     }

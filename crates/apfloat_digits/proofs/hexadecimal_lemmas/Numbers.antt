@@ -91,11 +91,9 @@ exponent_within f q places fraction e ranges some within fits number =
     let low = x.low in
     let under : down z < 4 * places + up z + 1 =
     exponent_below (down z) (4 * places + up z + 1) (omega (arith, least, high)) in
-    let below = largest_below f in
     let most : q * 2 ^ down z < 2 ^ (f.precision + f.span) * 2 ^ down z =
-    mul-lt-mul_of_pos_right (omega (arith, within, below)) (pow_pos (down z)) in
-    let split : 2 ^ (f.precision + f.span + down z) ≡ 2 ^ (f.precision + f.span) * 2 ^ down z =
-    pow-add 2 (f.precision + f.span) (down z) in
+    mul-lt-mul_of_pos_right (omega (arith, within, largest_below f)) (pow_pos (down z)) in
+    let split = pow-add 2 (f.precision + f.span) (down z) in
     let over : 4 * places + up z < f.precision + f.span + down z =
     exponent_below (4 * places + up z) (f.precision + f.span + down z) (omega (arith, low, most, split)) in
     let p = ranges.precision_high in
@@ -168,9 +166,8 @@ one_exponent f q p a p' a' e e' x y =
     let w = last_place f p' e' in
     let m = leads f q p a e x.fits x.number in
     let n = leads f q p' a' e' y.fits y.number in
-    let low = not_below q (down z) (down w) (4 * p + up z) (4 * p' + up w) m n in
     let high = not_below q (down w) (down z) (4 * p' + up w) (4 * p + up z) n m in
-    omega (arith, ints, low, high)
+    omega (arith, ints, not_below q (down z) (down w) (4 * p + up z) (4 * p' + up w) m n, high)
 
 pub one_number : (f : Format) (q p a p' a' : ℕ) (e e' : ℤ) → IsShortestNumber f q p a e
     → IsShortestNumber f q p' a' e' → IsSame p a e p' a' e'

@@ -105,12 +105,11 @@ number_of f mode negative q text ranges some member x =
     let n = x.number in
     let within = exponent_within f q x.places x.fraction x.exponent ranges some member.within n.fits n.number in
     let low = within.low in
-    let high = within.high in
     let z = last_place f x.places x.exponent in
     let h = 16 ^ x.places + x.fraction in
     let same : 1 * 16 ^ x.places + x.fraction ≡ h = omega arith in
     let means = number_means negative 1 x.places x.fraction x.exponent (lit< tt) n.fits (omega (arith, ints, low))
-    (omega (arith, ints, high)) in
+    (omega (arith, ints, within.high)) in
     let exactly = exact_delivered f mode negative q (h * 2 ^ up z) (2 ^ down z) (pow_pos (down z)) member.on_grid
     member.within (sym n.number) in
     record {
@@ -195,8 +194,7 @@ one_shortest f negative q text other x y =
     ∙ ap (λ (a : ℕ). number_text negative 1 y.places a x.exponent) same.fraction
     ∙ ap (λ (e : ℤ). number_text negative 1 y.places y.fraction e) same.exponent ∙ sym y.text_is
 
-pub one_text : (f : Format) (x : Datum) (text other : List ℕ) → IsHexText f x text → IsHexText f x other
-    → text ≡ other
+pub one_text : (f : Format) (x : Datum) (text other : List ℕ) → IsHexText f x text → IsHexText f x other → text ≡ other
 one_text f (finite negative zero) text other h k = h ∙ sym k
 one_text f (finite negative (suc q)) text other h k =
     let some : eqb (suc q) 0 ≡ false = ne_eqb (suc q) 0 (λ e. omega (arith, e)) in

@@ -35,16 +35,14 @@ cut_of f q places digits s k loss first few is wide step =
     let w = last_place f places first in
     let low = wide.low in
     let high = wide.high in
-    let there : StandsFor s loss (q * 2 ^ down z) (2 ^ k * 2 ^ up z) =
-    step (q * 2 ^ down z) (2 ^ up z) (pow_pos (up z)) wide.number in
+    let there = step (q * 2 ^ down z) (2 ^ up z) (pow_pos (up z)) wide.number in
     let joined : 2 ^ k * 2 ^ up z ≡ 1 * 2 ^ (k + up z) = once (pow-add 2 k (up z)) in
     let here : StandsFor s loss (q * 2 ^ down w) (1 * 2 ^ up w) =
     stands_moved s loss q 1 (down z) (k + up z) (down w) (up w) (omega (arith, ints, few, is))
     (subst (λ (n : ℕ). StandsFor s loss (q * 2 ^ down z) n) joined there) in
     let one : 1 * 2 ^ up w ≡ 2 ^ up w = omega arith in
     -- in units of 1
-    let same : digits ≡ digits * 1 = omega arith in
-    let plain : StandsFor s loss digits (2 ^ k * 1) = step digits 1 (omega arith) same in
+    let plain : StandsFor s loss digits (2 ^ k * 1) = step digits 1 (omega arith) (omega arith) in
     let parts : 2 ^ k * 1 ≡ 2 ^ k = omega arith in
     let alone : StandsFor s loss digits (2 ^ k) = subst (λ (n : ℕ). StandsFor s loss digits n) parts plain in
     let from : s * 2 ^ k ≤ digits = stands_from s loss digits (2 ^ k) alone in
@@ -53,10 +51,8 @@ cut_of f q places digits s k loss first few is wide step =
     ap (λ (n : ℕ). n * 2 ^ k) (sixteens places) ∙ sym (pow-add 2 (4 * places) k)
     ∙ ap (λ (n : ℕ). 2 ^ n) (let e : 4 * places + k ≡ 124 = omega (arith, few, is) in e) in
     let next : 2 ^ 125 ≡ 2 * 2 ^ 124 = refl in
-    let above : 16 ^ places < s + 1 =
-    lt_of_mul-lt-mul_right (2 ^ k) (over (16 ^ places) s (2 ^ k) digits _ low to top) in
     record {
-      low = omega (arith, above);
+      low = omega (arith, lt_of_mul-lt-mul_right (2 ^ k) (over (16 ^ places) s (2 ^ k) digits _ low to top));
       high = lt_of_mul-lt-mul_right (2 ^ k) (under (16 ^ places) s (2 ^ k) digits _ _ high from top next);
       stands = subst (λ (n : ℕ). StandsFor s loss (q * 2 ^ down w) n) one here;
     }
@@ -84,8 +80,7 @@ carried_not places n one first is least less =
 pub carried_up : (places n one : ℕ) (first : ℤ) → one ≡ 2 ^ (4 * places) → 2 * one ≤ n
     → IsHexCarried places n first 0 (first +ℤ pos 1)
 carried_up places n one first is most =
-    let same = sixteens places in
-    record { fitting = λ h. absurd (omega (arith, h, is, same, most)); carried = λ h. (refl, refl) }
+    record { fitting = λ h. absurd (omega (arith, h, is, sixteens places, most)); carried = λ h. (refl, refl) }
 
 pub one_within : (places one : ℕ) → places ≤ 31 → one ≡ 2 ^ (4 * places) → one ≤ 2 ^ 124
 one_within places one few is =

@@ -3,7 +3,7 @@ use Rattle.std.proofs.Common.{◌≡◌, ◌<◌, ◌≤◌, ◌*◌, ℕ, zero,
 use Rattle.std.proofs.Common.{refl, sym, ap, subst, ⊎_elim, Option, Some, None, arith, lit≤, ℤ, pos, ◌+ℤ◌}
 use Rattle.std.proofs.Math.Path.{subst₂}
 use Rattle.std.proofs.lemmas.{Bool.cases_lt, Bool.false≢true, Bool.lt-ltb, Int.ints}
-use Rattle.std.specs.Prelude.{◌-ℤ◌, IsSome}
+use Rattle.std.specs.Prelude.{IsSome}
 use Rattle.apfloat_model.specs.{declared.kinds.Round.TheVariants.NearestTiesToEven, formats.Datum.Datum}
 use Rattle.apfloat_model.specs.formats.{Datum.finite, Datum.infinite, Datum.nan, Format.largest, Members.IsMember}
 use Rattle.apfloat_model.specs.{formats.Members.IsFiniteOf, order.Classes.is_finite, order.Classes.is_finite_non_zero}
@@ -103,14 +103,12 @@ number_joined b n x joined m f s j =
     let r = split_exactly b (suc n) x some f s in
     let e : pair_number x ≡ signed b (suc n) = exact_split (finite b (suc n)) x s f in
     let v = magnitude-sub (number x.high) (signed b (suc n)) in
-    let a : magnitude (number x.low) ≡ magnitude (signed b (suc n) -ℤ number x.high) =
-    ap magnitude r.low_is.number_is in
+    let a = ap magnitude r.low_is.number_is in
     let o = product_error_on_grid double.precision wide_enough 0 (signed b (suc n)) (pos 1) (signed b (suc n))
     (number x.high) (wide_number b (suc n) m.on_grid) r.high_is.nearest in
     let g : IsGridNumber double.precision (number x.low) = on_grid_as (v ∙ sym a) o in
     let k = error_eighth double.precision wide_enough (signed b (suc n)) (number x.high) r.high_is.nearest in
-    let d = magnitude_signed b (suc n) in
-    let c : 8 * magnitude (number x.low) ≤ suc n = omega (arith, k, v, a, d) in
+    let c : 8 * magnitude (number x.low) ≤ suc n = omega (arith, k, v, a, magnitude_signed b (suc n)) in
     let low = member_of x.low r.low_is.is_finite g
     (eighth_within (magnitude (number x.low)) (suc n) (largest double) (largest wide) c m.within (lit≤ tt)) in
     let t = number_converted b (suc n) x.high s.status s.loses_info some s.high_is in
@@ -136,8 +134,7 @@ pub joined_has_decimal : (negative : Bool) (quanta : ℕ) (x : Pair) (answer : O
     → IsSplit (finite negative quanta) x → (given : GivesPairShortest x answer) → given.joined ≡ finite negative quanta
     → IsSome answer
 joined_has_decimal b n x answer s g e =
-    let back : g.back ≡ x =
-    split_once (finite b n) g.back x (subst (λ (d : Datum). IsSplit d g.back) e g.is_split) s in
+    let back : g.back ≡ x = split_once (finite b n) g.back x (subst (λ (d : Datum). IsSplit d g.back) e g.is_split) s in
     let same : same_pair g.back x ≡ true = subst (λ (y : Pair). same_pair y x ≡ true) (sym back) (pair_itself x) in
     found b n answer
     (subst (λ (d : Datum). GivesShortest wide d answer) e

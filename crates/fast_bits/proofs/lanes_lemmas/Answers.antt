@@ -62,8 +62,7 @@ some_rest : (rest : ℕ) → (rest ≡ 0 → ⊥) → 0 < rest
 some_rest rest more = omega (arith, more)
 
 -- a scaled number, rounded to a whole number, is the code of what is picked
-picked_code : (precision low : ℕ) (mode : Round) (negative : Bool) (t amount parts : ℕ) → 3 ≤ precision
-    → 0 < parts
+picked_code : (precision low : ℕ) (mode : Round) (negative : Bool) (t amount parts : ℕ) → 3 ≤ precision → 0 < parts
     → IsScaled precision low t amount parts
     → IsPickedSingle precision mode negative amount parts (rounded_by low mode negative t) (t % 2 ^ low)
 picked_code precision low mode negative t amount parts precise any it =
@@ -122,8 +121,7 @@ some_signed kind negative n some = rw (ne_eqb n 0 some) refl
 
 zero_signed : (kind : NonfiniteBehavior) (negative : Bool) (n : ℕ) → n ≡ 0
     → signed_quanta kind negative n ≡ finite (zero_sign kind negative) n
-zero_signed kind negative n none =
-    rw (eq-eqb n 0 none) (ap (λ (x : ℕ). finite (zero_sign kind negative) x) (sym none))
+zero_signed kind negative n none = rw (eq-eqb n 0 none) (ap (λ (x : ℕ). finite (zero_sign kind negative) x) (sym none))
 
 -- the sign of a zero stays that
 sign_again : (kind : NonfiniteBehavior) (negative : Bool)
@@ -191,13 +189,10 @@ largest_below : (f : Format) (layout : Layout) → IsInterchange f layout → f.
     → largest_code f < 2 ^ (layout.bits - 1)
 largest_below f layout law implied =
     let half : ℕ = 2 ^ (f.precision - 1) in
-    let bits = magnitude_bits f layout law implied in
     let span : f.span + 2 ≤ 2 ^ layout.exponent_bits = spans f.nonfinite f.span layout.exponent_bits law.span in
-    let places : (f.span + 2) * 2 ^ (f.precision - 1) ≤ 2 ^ layout.exponent_bits * 2 ^ (f.precision - 1) =
-    mul-le-mul_right half span in
     let fits = greatest_fits f.nonfinite f.precision in
     let twice : 2 * 2 ^ (f.precision - 1) ≡ 2 ^ f.precision = twice_half f.precision (omega (arith, law.precise)) in
-    omega (arith, bits, places, fits, twice)
+    omega (arith, magnitude_bits f layout law implied, mul-le-mul_right half span, fits, twice)
 
 -- fields above one another
 top_bits : (negative : Bool) (e t biased trailing bits top : ℕ) → top ≡ t + e
@@ -244,14 +239,12 @@ infinity_encoded : (f : Format) (layout : Layout) (negative : Bool) (bits : ℕ)
     → bits ≡ cond negative (2 ^ (layout.bits - 1)) 0 + (largest_code f + 1)
     → IsEncodedBy f layout bits (infinite negative)
 infinity_encoded f layout negative bits law is implied bits_are =
-    let none : cond f.explicit_integer_bit (smallest_normalized f) 0 ≡ 0 =
-    cond-false f.explicit_integer_bit _ _ implied in
     let top = infinity_code f layout law is in
     let code : largest_code f + 1 ≡ all_ones layout.exponent_bits * 2 ^ (f.precision - 1) + 0 = omega (arith, top) in
     top_encoded f layout negative 0 bits (infinite negative) law implied
     (subst
     (λ (s : ℕ). AreFieldsOf f layout (fields_with negative (all_ones layout.exponent_bits) s) (infinite negative))
-    none (infinity_fields_of f layout negative law is))
+    (cond-false f.explicit_integer_bit _ _ implied) (infinity_fields_of f layout negative law is))
     (bits_are ∙ ap (λ (n : ℕ). cond negative (2 ^ (layout.bits - 1)) 0 + n) code)
 
 abbrev Only : NonfiniteBehavior → Type 0
@@ -294,19 +287,17 @@ pub digits_encoded : (f : Format) (layout : Layout) (negative : Bool) (s bits : 
     → bits ≡ cond negative (2 ^ (layout.bits - 1)) 0 + (largest_code f + 1) + s
     → IsEncodedBy f layout bits (nan negative s)
 digits_encoded f layout negative s bits law is implied some below bits_are =
-    let code = infinity_code f layout law is in
     let sum : cond negative (2 ^ (layout.bits - 1)) 0 + (largest_code f + 1) + s
     ≡ cond negative (2 ^ (layout.bits - 1)) 0 + (all_ones layout.exponent_bits * 2 ^ (f.precision - 1) + s) =
-    omega (arith, code) in
+    omega (arith, infinity_code f layout law is) in
     top_encoded f layout negative s bits (nan negative s) law implied
     (nan_fields_of f layout negative s law (λ one. true≢false (sym (ap is_ieee is) ∙ ap is_ieee one))
     (subst (λ (k : NonfiniteBehavior). IsNanSignificand k f.explicit_integer_bit f.precision s) (sym is)
     (subst (λ (b : Bool). IsNanSignificand IEEE754 b f.precision s) (sym implied) (some, below)))) (bits_are ∙ sum)
 
 -- the one NaN: the sign bit alone
-one_nan_encoded : (f : Format) (layout : Layout) (bits : ℕ) → IsInterchange f layout
-    → f.nonfinite ≡ NanNegativeZero → bits ≡ 2 ^ (layout.bits - 1)
-    → IsEncodedBy f layout bits (nan false (nan_base f))
+one_nan_encoded : (f : Format) (layout : Layout) (bits : ℕ) → IsInterchange f layout → f.nonfinite ≡ NanNegativeZero
+    → bits ≡ 2 ^ (layout.bits - 1) → IsEncodedBy f layout bits (nan false (nan_base f))
 one_nan_encoded f layout bits law is bits_are =
     let base : 0 ≡ nan_base f = sym (ap (λ (k : NonfiniteBehavior). nan_base_of k f.precision) is) in
     let places : layout.bits - 1 ≡ trailing_bits f + layout.exponent_bits = omega (arith, law.bits) in
@@ -345,8 +336,7 @@ no_nan NanNegativeZero past within = within
 
 -- a number within the largest value
 number_given : (f : Format) (layout : Layout) (negative : Bool) (place next code : ℕ) → IsInterchange f layout
-    → f.explicit_integer_bit ≡ false → (place ≡ 0) ⊎ (2 ^ (f.precision - 1) ≤ next)
-    → next ≤ 2 ^ f.precision
+    → f.explicit_integer_bit ≡ false → (place ≡ 0) ⊎ (2 ^ (f.precision - 1) ≤ next) → next ≤ 2 ^ f.precision
     → next * 2 ^ place ≤ largest f → code ≡ place * 2 ^ (f.precision - 1) + next → code ≤ largest_code f
     → IsGivenCode f layout negative code (signed_quanta f.nonfinite negative (next * 2 ^ place))
 number_given f layout negative place next code law implied full fits within is low =
@@ -379,12 +369,9 @@ number_given f layout negative place next code law implied full fits within is l
 
 -- the largest value
 largest_given : (f : Format) (layout : Layout) (negative : Bool) → IsInterchange f layout
-    → f.explicit_integer_bit ≡ false
-    → IsGivenCode f layout negative (largest_code f) (finite negative (largest f))
+    → f.explicit_integer_bit ≡ false → IsGivenCode f layout negative (largest_code f) (finite negative (largest f))
 largest_given f layout negative law implied =
-    let precise = law.precise in
-    let fits = greatest_fits f.nonfinite f.precision in
-    let full = greatest_full f.nonfinite f.precision precise in
+    let full = greatest_full f.nonfinite f.precision law.precise in
     let some : 0 < 2 ^ (f.precision - 1) = pow_pos (f.precision - 1) in
     let unit : 0 < 2 ^ f.span = pow_pos f.span in
     let above : 1 * 2 ^ f.span ≤ largest f = mul-le-mul_right (2 ^ f.span) (omega (arith, full, some)) in
@@ -392,7 +379,7 @@ largest_given f layout negative law implied =
     some_signed f.nonfinite negative (largest f) (λ e. omega (arith, e, above, unit)) in
     subst (λ (v : Datum). IsGivenCode f layout negative (largest_code f) v) value
     (number_given f layout negative f.span (greatest_significand f.nonfinite f.precision) (largest_code f) law implied
-    (inr full) (omega (arith, fits)) (omega arith) refl (omega arith))
+    (inr full) (omega (arith, greatest_fits f.nonfinite f.precision)) (omega arith) refl (omega arith))
 
 -- what is past it
 pub past_given : (kind : NonfiniteBehavior) (f : Format) (layout : Layout) (negative : Bool) → f.nonfinite ≡ kind
@@ -421,8 +408,7 @@ past_given NanOnly f layout negative is law implied =
           ∙ lt-ltb (largest_code f) (largest_code f + 1) (omega arith);
     }
 past_given NanNegativeZero f layout negative is law implied =
-    let precise = law.precise in
-    let twice : 2 * 2 ^ (f.precision - 1) ≡ 2 ^ f.precision = twice_half f.precision (omega (arith, precise)) in
+    let twice : 2 * 2 ^ (f.precision - 1) ≡ 2 ^ f.precision = twice_half f.precision (omega (arith, law.precise)) in
     let some : 0 < 2 ^ (f.precision - 1) = pow_pos (f.precision - 1) in
     let top : greatest_significand f.nonfinite f.precision ≡ 2 ^ f.precision - 1 =
     ap (λ (k : NonfiniteBehavior). greatest_significand k f.precision) is in
@@ -441,12 +427,10 @@ past_given NanNegativeZero f layout negative is law implied =
           ∙ lt-ltb (largest_code f) (largest_code f + 1) (omega arith);
     }
   where
-    bare : (kind : NonfiniteBehavior) (negative : Bool) (bits code : ℕ) → kind ≡ NanNegativeZero
-        → code ≡ 2 ^ (bits - 1)
+    bare : (kind : NonfiniteBehavior) (negative : Bool) (bits code : ℕ) → kind ≡ NanNegativeZero → code ≡ 2 ^ (bits - 1)
         → cond (negative && not (has_no_sign kind bits code)) (2 ^ (bits - 1)) 0 + code ≡ 2 ^ (bits - 1)
     bare kind true bits code e same =
-        let rest : code % 2 ^ (bits - 1) ≡ 0 =
-        ap (λ (x : ℕ). x % 2 ^ (bits - 1)) same ∙ mod_self (2 ^ (bits - 1)) in
+        let rest : code % 2 ^ (bits - 1) ≡ 0 = ap (λ (x : ℕ). x % 2 ^ (bits - 1)) same ∙ mod_self (2 ^ (bits - 1)) in
         let has : has_no_sign kind bits code ≡ true =
         ap (λ (k : NonfiniteBehavior). has_no_sign k bits code) e ∙ eq-eqb (code % 2 ^ (bits - 1)) 0 rest in
         rw has (omega (arith, same))
@@ -585,8 +569,7 @@ past_is_normal true half kept r by_kept by_code = le-leb half kept by_kept
 past_is_normal false half kept r by_kept by_code = le-leb half r by_code
 
 -- what is rounded to is at most one more than what is kept
-rounded_most : (low : ℕ) (mode : Round) (negative : Bool) (t : ℕ)
-    → rounded_by low mode negative t ≤ t / 2 ^ low + 1
+rounded_most : (low : ℕ) (mode : Round) (negative : Bool) (t : ℕ) → rounded_by low mode negative t ≤ t / 2 ^ low + 1
 rounded_most low mode negative t =
     moved_most (rounds_up mode negative (loss_at (t % 2 ^ low) (2 ^ (low - 1))) (eqb (t / 2 ^ low % 2) 1)) (t / 2 ^ low)
     (t / 2 ^ low + 1) (omega arith)

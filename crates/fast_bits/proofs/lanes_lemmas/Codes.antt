@@ -16,8 +16,7 @@ use Rattle.fast_bits.specs.lanes.Targets.{largest_code}
 
 -- below the last place, a number and its code are not past the largest
 past_inner : (f : Format) (n place : ℕ) → 3 ≤ f.precision → place < f.span → n ≤ 2 ^ f.precision
-    → ltb (largest f) (n * 2 ^ place)
-    ≡ ltb (largest_code f) (place * 2 ^ (f.precision - 1) + n)
+    → ltb (largest f) (n * 2 ^ place) ≡ ltb (largest_code f) (place * 2 ^ (f.precision - 1) + n)
 past_inner f n place precise inner fits =
     let half = 2 ^ (f.precision - 1) in
     let top = greatest_significand f.nonfinite f.precision in
@@ -27,12 +26,10 @@ past_inner f n place precise inner fits =
     let digits : n * 2 ^ place ≤ 2 ^ f.precision * 2 ^ place = mul-le-mul_right (2 ^ place) fits in
     let moved : 2 ^ f.precision * 2 ^ place ≡ 2 ^ (f.precision - 1) * 2 ^ (place + 1) =
     ap (λ (x : ℕ). x * 2 ^ place) (sym twice) ∙ carried (2 ^ (f.precision - 1)) place in
-    let room : 2 ^ (f.precision - 1) * 2 ^ (place + 1) ≤ 2 ^ (f.precision - 1) * 2 ^ f.span =
-    mul-le-mul_left half up in
     let most : 2 ^ (f.precision - 1) * 2 ^ f.span ≤ largest f = mul-le-mul_right (2 ^ f.span) full in
     let places : (place + 1) * 2 ^ (f.precision - 1) ≤ f.span * 2 ^ (f.precision - 1) =
     mul-le-mul_right half (omega (arith, inner)) in
-    le-ltb (largest f) (n * 2 ^ place) (omega (arith, digits, moved, room, most))
+    le-ltb (largest f) (n * 2 ^ place) (omega (arith, digits, moved, mul-le-mul_left half up, most))
     ∙ sym (le-ltb (largest_code f) (place * half + n)
     (omega (arith, places, full, fits, twice)))
 
@@ -55,8 +52,7 @@ past_last f n =
 
 -- beyond it, both are past
 past_beyond : (f : Format) (n place : ℕ) → 3 ≤ f.precision → f.span < place → 2 ^ (f.precision - 1) ≤ n
-    → ltb (largest f) (n * 2 ^ place)
-    ≡ ltb (largest_code f) (place * 2 ^ (f.precision - 1) + n)
+    → ltb (largest f) (n * 2 ^ place) ≡ ltb (largest_code f) (place * 2 ^ (f.precision - 1) + n)
 past_beyond f n place precise beyond full =
     let half = 2 ^ (f.precision - 1) in
     let top = greatest_significand f.nonfinite f.precision in
@@ -64,22 +60,18 @@ past_beyond f n place precise beyond full =
     let twice : 2 * 2 ^ (f.precision - 1) ≡ 2 ^ f.precision = twice_half f.precision (omega (arith, precise)) in
     let up : 2 ^ (f.span + 1) ≤ 2 ^ place = pow-le-pow_right two_pos (omega (arith, beyond)) in
     let digits : 2 ^ (f.precision - 1) * 2 ^ place ≤ n * 2 ^ place = mul-le-mul_right (2 ^ place) full in
-    let room : 2 ^ (f.precision - 1) * 2 ^ (f.span + 1) ≤ 2 ^ (f.precision - 1) * 2 ^ place =
-    mul-le-mul_left half up in
     let moved : 2 ^ f.precision * 2 ^ f.span ≡ 2 ^ (f.precision - 1) * 2 ^ (f.span + 1) =
     ap (λ (x : ℕ). x * 2 ^ f.span) (sym twice) ∙ carried (2 ^ (f.precision - 1)) f.span in
     let less : top * 2 ^ f.span < 2 ^ f.precision * 2 ^ f.span = mul-lt-mul_of_pos_right fits (pow_pos f.span) in
     let places : (f.span + 1) * 2 ^ (f.precision - 1) ≤ place * 2 ^ (f.precision - 1) =
     mul-le-mul_right half (omega (arith, beyond)) in
-    lt-ltb (largest f) (n * 2 ^ place) (omega (arith, digits, room, moved, less))
+    lt-ltb (largest f) (n * 2 ^ place) (omega (arith, digits, mul-le-mul_left half up, moved, less))
     ∙ sym (lt-ltb (largest_code f) (place * half + n)
     (omega (arith, places, full, fits, twice)))
 
 -- a number is past the largest value exactly if its code is
-pub past_by_code : (f : Format) (n place : ℕ) → 3 ≤ f.precision
-    → (place ≡ 0) ⊎ (2 ^ (f.precision - 1) ≤ n)
-    → n ≤ 2 ^ f.precision → ltb (largest f) (n * 2 ^ place)
-    ≡ ltb (largest_code f) (place * 2 ^ (f.precision - 1) + n)
+pub past_by_code : (f : Format) (n place : ℕ) → 3 ≤ f.precision → (place ≡ 0) ⊎ (2 ^ (f.precision - 1) ≤ n)
+    → n ≤ 2 ^ f.precision → ltb (largest f) (n * 2 ^ place) ≡ ltb (largest_code f) (place * 2 ^ (f.precision - 1) + n)
 past_by_code f n place precise full fits =
     ⊎_elim
     (λ (inner : place < f.span). past_inner f n place precise inner fits)
@@ -123,8 +115,7 @@ low_encoded f layout negative n bits law implied sign low is =
 
 -- a significand with all its digits, within the largest value
 encoded_full : (f : Format) (layout : Layout) (negative : Bool) (place n bits : ℕ) → IsInterchange f layout
-    → f.explicit_integer_bit ≡ false → 2 ^ (f.precision - 1) ≤ n → n < 2 ^ f.precision
-    → n * 2 ^ place ≤ largest f
+    → f.explicit_integer_bit ≡ false → 2 ^ (f.precision - 1) ≤ n → n < 2 ^ f.precision → n * 2 ^ place ≤ largest f
     → bits ≡ cond negative (2 ^ (layout.bits - 1)) 0 + place * 2 ^ (f.precision - 1) + n
     → IsEncodedBy f layout bits (finite negative (n * 2 ^ place))
 encoded_full f layout negative place n bits law implied full fits within is =
@@ -140,10 +131,9 @@ encoded_full f layout negative place n bits law implied full fits within is =
     (high_fields_of f layout law negative place n full fits within))
 
 -- the bits of a number at a place, whose significand may have been rounded up to the next power of two
-pub code_encoded : (f : Format) (layout : Layout) (negative : Bool) (place n bits : ℕ)
-    → IsInterchange f layout → f.explicit_integer_bit ≡ false
-    → MayHaveSign f.nonfinite negative n → (place ≡ 0) ⊎ (2 ^ (f.precision - 1) ≤ n) → n ≤ 2 ^ f.precision
-    → n * 2 ^ place ≤ largest f
+pub code_encoded : (f : Format) (layout : Layout) (negative : Bool) (place n bits : ℕ) → IsInterchange f layout
+    → f.explicit_integer_bit ≡ false → MayHaveSign f.nonfinite negative n → (place ≡ 0) ⊎ (2 ^ (f.precision - 1) ≤ n)
+    → n ≤ 2 ^ f.precision → n * 2 ^ place ≤ largest f
     → bits ≡ cond negative (2 ^ (layout.bits - 1)) 0 + place * 2 ^ (f.precision - 1) + n
     → IsEncodedBy f layout bits (finite negative (n * 2 ^ place))
 code_encoded f layout negative place n bits law implied sign full fits within is =
@@ -168,8 +158,7 @@ code_encoded f layout negative place n bits law implied sign full fits within is
     let top : n ≡ 2 * 2 ^ (f.precision - 1) = omega (arith, halves, fits, most) in
     let moved : n * 2 ^ place ≡ 2 ^ (f.precision - 1) * 2 ^ (place + 1) =
     ap (λ (x : ℕ). x * 2 ^ place) top ∙ carried (2 ^ (f.precision - 1)) place in
-    let there : 2 ^ (f.precision - 1) * 2 ^ (place + 1) ≤ largest f =
-    subst (λ (x : ℕ). x ≤ largest f) moved within in
+    let there : 2 ^ (f.precision - 1) * 2 ^ (place + 1) ≤ largest f = subst (λ (x : ℕ). x ≤ largest f) moved within in
     let bits_are : bits ≡ cond negative (2 ^ (layout.bits - 1)) 0 + (place + 1) * 2 ^ (f.precision - 1)
     + 2 ^ (f.precision - 1) = omega (arith, is, top) in
     subst Said (sym moved)

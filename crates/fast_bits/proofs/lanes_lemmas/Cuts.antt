@@ -87,11 +87,9 @@ odd_cut m cut w low room =
 
 -- the same number, counted in the quanta of the target at a place
 pub in_quanta : (u : ℕ) (loss : Loss) (m w low cut e to place from : ℕ) → low + cut + e + to ≡ w + place + from
-    → StandsFor u loss (m * 2 ^ w) (2 ^ low * 2 ^ cut)
-    → StandsFor u loss (m * 2 ^ e * 2 ^ to) (2 ^ place * 2 ^ from)
+    → StandsFor u loss (m * 2 ^ w) (2 ^ low * 2 ^ cut) → StandsFor u loss (m * 2 ^ e * 2 ^ to) (2 ^ place * 2 ^ from)
 in_quanta u loss m w low cut e to place from balance stands =
-    let times : StandsFor u loss (m * 2 ^ w * 2 ^ (e + to)) (2 ^ low * 2 ^ cut * 2 ^ (e + to)) =
-    stands_times u loss (m * 2 ^ w) (2 ^ low * 2 ^ cut) (2 ^ (e + to)) (pow_pos (e + to)) stands in
+    let times = stands_times u loss (m * 2 ^ w) (2 ^ low * 2 ^ cut) (2 ^ (e + to)) (pow_pos (e + to)) stands in
     let power : 2 ^ (e + to) ≡ 2 ^ e * 2 ^ to = pow-add 2 e to in
     let amount : m * 2 ^ w * 2 ^ (e + to) ≡ m * 2 ^ e * 2 ^ to * 2 ^ w =
     ap (λ (x : ℕ). m * 2 ^ w * x) power ∙ omega arith in
@@ -106,8 +104,7 @@ in_quanta u loss m w low cut e to place from balance stands =
 
 -- a number with fewer than `digits` digits that is farther below a quantum than all of them is below half of it, and so
 -- is whatever nonzero number stands for it
-pub far_below : (m o low digits e to from : ℕ) → 0 < m → m < 2 ^ digits → 0 < o → o < 2 ^ (low - 1)
-    → 0 < low
+pub far_below : (m o low digits e to from : ℕ) → 0 < m → m < 2 ^ digits → 0 < o → o < 2 ^ (low - 1) → 0 < low
     → digits + e + to + 1 ≤ from
     → StandsFor (o / 2 ^ low) (loss_at (o % 2 ^ low) (2 ^ (low - 1))) (m * 2 ^ e * 2 ^ to) (2 ^ 0 * 2 ^ from)
 far_below m o low digits e to from some fits some_odd short any far =
@@ -116,8 +113,7 @@ far_below m o low digits e to from some fits some_odd short any far =
     let quotient : o / 2 ^ low ≡ 0 = div-eq_of_lt all_low in
     let remainder : o % 2 ^ low ≡ o = mod-eq_of_lt all_low in
     let above : 0 < m * 2 ^ e * 2 ^ to = mul-pos (mul-pos some (pow_pos e)) (pow_pos to) in
-    let digits_up : m * 2 ^ e * 2 ^ to < 2 ^ digits * 2 ^ e * 2 ^ to =
-    mul-lt-mul_of_pos_right (mul-lt-mul_of_pos_right fits (pow_pos e)) (pow_pos to) in
+    let digits_up = mul-lt-mul_of_pos_right (mul-lt-mul_of_pos_right fits (pow_pos e)) (pow_pos to) in
     let power : 2 ^ (digits + e + to) ≡ 2 ^ digits * 2 ^ e * 2 ^ to = pow3 digits e to in
     let one_more : 2 ^ (digits + e + to + 1) ≡ 2 ^ (digits + e + to) * 2 = pow-add 2 (digits + e + to) 1 in
     let most : 2 ^ (digits + e + to + 1) ≤ 2 ^ from = pow-le-pow_right two_pos far in

@@ -31,8 +31,7 @@ target_interchange f layout min_exp max_exp is =
     }
 
 -- the number of biased exponents, in the span's terms
-pub spans : (kind : NonfiniteBehavior) (span e : ℕ) → span + 3 ≡ 2 ^ e + more_exponents kind
-    → span + 2 ≤ 2 ^ e
+pub spans : (kind : NonfiniteBehavior) (span e : ℕ) → span + 3 ≡ 2 ^ e + more_exponents kind → span + 2 ≤ 2 ^ e
 spans IEEE754 span e is = omega (arith, is)
 spans NanOnly span e is = omega (arith, is)
 spans NanNegativeZero span e is = omega (arith, is)
@@ -41,14 +40,10 @@ spans NanNegativeZero span e is = omega (arith, is)
 pub places_below : (f : Format) (layout : Layout) (min_exp max_exp : ℤ) → IsTarget f layout min_exp max_exp
     → (f.span + 2) * 2 ^ (f.precision - 1) ≤ 2 ^ 15
 places_below f layout min_exp max_exp is =
-    let few = spans f.nonfinite f.span layout.exponent_bits is.span in
-    let all : (f.span + 2) * 2 ^ (f.precision - 1) ≤ 2 ^ layout.exponent_bits * 2 ^ (f.precision - 1) =
-    mul-le-mul_right (2 ^ (f.precision - 1)) few in
-    let power : 2 ^ (layout.exponent_bits + (f.precision - 1)) ≡ 2 ^ layout.exponent_bits * 2 ^ (f.precision - 1) =
-    pow-add 2 layout.exponent_bits (f.precision - 1) in
+    let all = mul-le-mul_right (2 ^ (f.precision - 1)) (spans f.nonfinite f.span layout.exponent_bits is.span) in
     let short : layout.exponent_bits + (f.precision - 1) ≤ 15 = omega (arith, is.precise, is.widths, is.bits) in
     let most : 2 ^ (layout.exponent_bits + (f.precision - 1)) ≤ 2 ^ 15 = pow-le-pow_right two_pos short in
-    omega (arith, all, power, most)
+    omega (arith, all, pow-add 2 layout.exponent_bits (f.precision - 1), most)
 
 -- the encoding after that of the largest value of IEEE 754
 pub next_code : (f : Format) (layout : Layout) (min_exp max_exp : ℤ) (places : ℕ)

@@ -108,8 +108,7 @@ next_by kept rest added unit false some short stays =
     mul-add-div_right some kept (rest + added) ∙ ap (λ (x : ℕ). kept + x) (div-eq_of_lt stays) ∙ omega arith
 
 -- at most a whole unit of the last kept digit, 2 * half, is added, so it carries at most once
-added_most : (mode : Round) (negative : Bool) (half last : ℕ) → 0 < half
-    → added_to mode negative half last ≤ 2 * half
+added_most : (mode : Round) (negative : Bool) (half last : ℕ) → 0 < half → added_to mode negative half last ≤ 2 * half
 added_most NearestTiesToEven negative half last some = omega (arith, some)
 added_most NearestTiesToAway negative half last some = omega (arith, some)
 added_most TowardZero negative half last some = omega (arith, some)

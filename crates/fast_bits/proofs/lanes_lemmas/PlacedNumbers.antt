@@ -7,8 +7,7 @@ use Rattle.apfloat_rounding.specs.Cuts.{loss_at}
 use Rattle.fast_bits.specs.Addends.{rounded_by}
 use Rattle.fast_bits.proofs.lanes_lemmas.ScaledNumbers.{sum_cut}
 
-moved_apart : (up : Bool) (base kept : ℕ)
-    → cond up (base + kept + 1) (base + kept) ≡ cond up (kept + 1) kept + base
+moved_apart : (up : Bool) (base kept : ℕ) → cond up (base + kept + 1) (base + kept) ≡ cond up (kept + 1) kept + base
 moved_apart true base kept = omega arith
 moved_apart false base kept = omega arith
 

@@ -15,9 +15,8 @@ of_digit digit places below =
     (λ (l : 1 ≤ digit).
     let one : 1 ≡ digit = omega (arith, l, below) in
     let some : 0 < 2 ^ places = pow_pos places in
-    let least : 1 ≤ 1 * 2 ^ places = omega (arith, some) in
     let same : places ≡ 1 * places = omega arith in
-    subst Said one (max-eq_left least ∙ omega arith ∙ ap (λ (n : ℕ). 2 ^ n) same))
+    subst Said one (max-eq_left (omega (arith, some)) ∙ omega arith ∙ ap (λ (n : ℕ). 2 ^ n) same))
     (cases_lt digit 1)
 
 -- that of the lowest digit

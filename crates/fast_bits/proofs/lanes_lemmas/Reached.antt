@@ -29,18 +29,14 @@ zero_scaled precision low parts some any =
     }
 
 -- a significand with all digits, past all places
-past_at : (f : Format) (m e first : ℕ) → f.precision ≤ 24 → 149 ≡ f.scale + (24 - f.precision) + first
-    → 2 ^ 23 ≤ m
+past_at : (f : Format) (m e first : ℕ) → f.precision ≤ 24 → 149 ≡ f.scale + (24 - f.precision) + first → 2 ^ 23 ≤ m
     → first + (f.span + 1) ≤ e → IsPastTarget f (m * 2 ^ e * 2 ^ f.scale) (2 ^ 149)
 past_at f m e first digits scales full far =
     let low : 2 ^ (23 + e + f.scale) ≡ 2 ^ 23 * 2 ^ e * 2 ^ f.scale = pow3 23 e f.scale in
-    let placed : 2 ^ 23 * 2 ^ e * 2 ^ f.scale ≤ m * 2 ^ e * 2 ^ f.scale =
-    mul-le-mul_right (2 ^ f.scale) (mul-le-mul_right (2 ^ e) full) in
+    let placed = mul-le-mul_right (2 ^ f.scale) (mul-le-mul_right (2 ^ e) full) in
     let room : f.precision + f.span + 149 ≤ 23 + e + f.scale = omega (arith, digits, scales, far) in
     let least : 2 ^ (f.precision + f.span + 149) ≤ 2 ^ (23 + e + f.scale) = pow-le-pow_right two_pos room in
-    let power : 2 ^ (f.precision + f.span + 149) ≡ 2 ^ (f.precision + f.span) * 2 ^ 149 =
-    pow-add 2 (f.precision + f.span) 149 in
-    record { some = pow_pos 149; from = omega (arith, low, placed, least, power) }
+    record { some = pow_pos 149; from = omega (arith, low, placed, least, pow-add 2 (f.precision + f.span) 149) }
 
 -- the steps, without wrapping around
 steps : Format → ℕ → ℕ → ℕ → ℕ
@@ -147,22 +143,18 @@ steps_below : (f : Format) (layout : Layout) (min_exp max_exp : ℤ) (m place fi
     × (min (place - first) (f.span + 1) * 2 ^ (f.precision - 1) ≤ 2 ^ 15)
 steps_below f layout min_exp max_exp m place first is fits =
     let p = f.precision in
-    let precise = is.precise in
     let odd = odd_quotient m (2 ^ 9) in
     let odd_fits : odd < 2 * 2 ^ 14 =
     odd_below m (2 ^ 9) (2 ^ 14) (pow_pos 9) (let below : m < 2 * 2 ^ 14 * 2 ^ 9 = omega (arith, fits) in below) in
     let odd_most : odd ≤ 2 ^ 15 = omega (arith, odd_fits) in
     let up_most : p + 1 - (first - place) ≤ 12 = omega (arith, is.digits) in
     let up : 2 ^ (p + 1 - (first - place)) ≤ 2 ^ 12 = pow-le-pow_right two_pos up_most in
-    let left : odd * 2 ^ (p + 1 - (first - place)) ≤ 2 ^ 15 * 2 ^ (p + 1 - (first - place)) =
-    mul-le-mul_right (2 ^ (p + 1 - (first - place))) odd_most in
     let left_most : 2 ^ 15 * 2 ^ (p + 1 - (first - place)) ≤ 2 ^ 15 * 2 ^ 12 = mul-le-mul_left (2 ^ 15) up in
     let places = places_below f layout min_exp max_exp is in
     let most = min-le_right (place - first) (f.span + 1) in
     let above : min (place - first) (f.span + 1) ≤ f.span + 2 = omega (arith, most) in
-    let right : min (place - first) (f.span + 1) * 2 ^ (p - 1) ≤ (f.span + 2) * 2 ^ (p - 1) =
-    mul-le-mul_right (2 ^ (p - 1)) above in
-    (omega (arith, left, left_most), omega (arith, right, places))
+    let right = mul-le-mul_right (2 ^ (p - 1)) above in
+    (omega (arith, mul-le-mul_right (2 ^ (p + 1 - (first - place))) odd_most, left_most), omega (arith, right, places))
 
 -- the scales balance
 balance : (precision scale first : ℕ) (min_exp : ℤ) → 3 ≤ precision → precision ≤ 11
@@ -176,12 +168,10 @@ pub record AreSteps (f : Format) (kept rest m place : ℕ) : Type 0 where
   pub below : kept + 2 < 2 ^ 16
 
 pub steps_are : (f : Format) (layout : Layout) (min_exp max_exp : ℤ) (m place first odd above up moved places : ℕ)
-    → IsTarget f layout min_exp max_exp → pos f.scale ≡ pos (f.precision - 1) -ℤ min_exp
-    → m < 2 ^ 24 → (place ≡ 0) ⊎ (2 ^ 23 ≤ m) → pos first ≡ (min_exp +ℤ pos 126)
-    → odd ≡ odd_quotient m (2 ^ 9) → above ≡ min (place - first) (f.span + 1)
-    → up ≡ f.precision + 1 - (first - place)
-    → moved ≡ odd * 2 ^ up → places ≡ above * 2 ^ (f.precision - 1) % 65536
-    → AreSteps f (moved / 65536 + places) (moved % 65536) m place
+    → IsTarget f layout min_exp max_exp → pos f.scale ≡ pos (f.precision - 1) -ℤ min_exp → m < 2 ^ 24
+    → (place ≡ 0) ⊎ (2 ^ 23 ≤ m) → pos first ≡ (min_exp +ℤ pos 126) → odd ≡ odd_quotient m (2 ^ 9)
+    → above ≡ min (place - first) (f.span + 1) → up ≡ f.precision + 1 - (first - place) → moved ≡ odd * 2 ^ up
+    → places ≡ above * 2 ^ (f.precision - 1) % 65536 → AreSteps f (moved / 65536 + places) (moved % 65536) m place
 unfolding steps
 steps_are f layout min_exp max_exp m place first odd above up moved places is scale fits full first_is odd_is above_is
     up_is moved_is places_are =
@@ -192,8 +182,7 @@ steps_are f layout min_exp max_exp m place first odd above up moved places is sc
     (λ i. odd_is i * 2 ^ up_is i) in
     let right_is : above * 2 ^ (p - 1) ≡ min (place - first) (f.span + 1) * 2 ^ (p - 1) =
     ap (λ (n : ℕ). n * 2 ^ (p - 1)) above_is in
-    let right : above * 2 ^ (p - 1) % 65536 ≡ above * 2 ^ (p - 1) =
-    mod-eq_of_lt (omega (arith, right_is, below.1)) in
+    let right : above * 2 ^ (p - 1) % 65536 ≡ above * 2 ^ (p - 1) = mod-eq_of_lt (omega (arith, right_is, below.1)) in
     let power : 2 ^ (p - 1 + 16) ≡ 2 ^ (p - 1) * 2 ^ 16 = pow-add 2 (p - 1) 16 in
     let whole : min (place - first) (f.span + 1) * 2 ^ (p - 1 + 16)
     ≡ min (place - first) (f.span + 1) * 2 ^ (p - 1) * 2 ^ 16 =
@@ -204,8 +193,7 @@ steps_are f layout min_exp max_exp m place first odd above up moved places is sc
     ⊎_elim {C = IsReachedLane f (steps f first m place) (m * 2 ^ place * 2 ^ f.scale) (2 ^ 149)}
     (λ (z : m < 1).
     let none : m ≡ 0 = omega (arith, z) in
-    let last : place ≡ 0 =
-    ⊎_elim (λ (e : place ≡ 0). e) (λ (h : 2 ^ 23 ≤ m). absurd (omega (arith, h, z))) full in
+    let last : place ≡ 0 = ⊎_elim (λ (e : place ≡ 0). e) (λ (h : 2 ^ 23 ≤ m). absurd (omega (arith, h, z))) full in
     zero_reached f m place first is.precise none last)
     (λ (some : 1 ≤ m). some_reached f m place first is.precise is.digits scales some fits full)
     (cases_lt m 1) in

@@ -44,8 +44,7 @@ odd_some m u some any =
     (λ (one : 1 ≤ m / u). omega (arith, exact_odd (m / u) (m % u) none, one))
     (cases_lt (m / u) 1))
     (λ (more : m % u ≡ 0 → ⊥).
-    let near = odd_of_inexact m u some more in
-    omega (arith, near.odd))
+    omega (arith, (odd_of_inexact m u some more).odd))
     (cases_eq (m % u) 0)
 
 -- ---- at a place
@@ -73,8 +72,7 @@ odd_digits digits cut m fits =
     let even : 2 ^ (digits + 1) ≡ 2 * 2 ^ digits =
     let one_more : 1 + digits ≡ digits + 1 = omega arith in
     ap (λ (x : ℕ). 2 ^ x) (sym one_more) ∙ pow-add 2 1 digits in
-    let below : m < 2 * 2 ^ digits * 2 ^ cut =
-    subst (λ (x : ℕ). m < x) (all ∙ ap (λ (x : ℕ). x * 2 ^ cut) even) fits in
+    let below : m < 2 * 2 ^ digits * 2 ^ cut = subst (λ (x : ℕ). m < x) (all ∙ ap (λ (x : ℕ). x * 2 ^ cut) even) fits in
     subst (λ (x : ℕ). odd_quotient m (2 ^ cut) < x) (sym even)
     (odd_below m (2 ^ cut) (2 ^ digits) (pow_pos cut) below)
 
@@ -139,9 +137,8 @@ scaled_far precision more cut low e to from m precise room some fits far =
     let o = odd_quotient m (2 ^ cut) in
     let unit : 0 < 2 ^ cut = pow_pos cut in
     let amount = m * 2 ^ e * 2 ^ to in
-    let odd_fits = odd_digits (precision + more) cut m fits in
     let half : 2 ^ (precision + more + 1) ≤ 2 ^ (low - 1) = pow-le-pow_right two_pos (omega (arith, room)) in
-    let short : o < 2 ^ (low - 1) = omega (arith, odd_fits, half) in
+    let short : o < 2 ^ (low - 1) = omega (arith, odd_digits (precision + more) cut m fits, half) in
     let twice : 2 ^ (low - 1) ≤ 2 ^ low = pow-le-pow_right two_pos (omega arith) in
     let nothing : o / 2 ^ low ≡ 0 = div-eq_of_lt (omega (arith, short, twice)) in
     let stands : StandsFor (o / 2 ^ low) (loss_at (o % 2 ^ low) (2 ^ (low - 1))) amount (2 ^ 0 * 2 ^ from) =

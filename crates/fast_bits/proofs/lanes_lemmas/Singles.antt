@@ -39,8 +39,7 @@ fields_number f layout negative biased trailing kind implied few =
     rw none (let e : trailing ≡ (trailing + 0 * 2 ^ (f.precision - 1)) * 2 ^ 0 = omega arith in e) in
     rw (eq-eqb biased 0 none) (ap (finite negative) same))
     (λ (some : biased ≡ 0 → ⊥).
-    let least : 1 ≤ biased = omega (arith, some) in
-    let one : min biased 1 ≡ 1 = min-eq_right least in
+    let one : min biased 1 ≡ 1 = min-eq_right (omega (arith, some)) in
     let times : min biased 1 * 2 ^ (f.precision - 1) ≡ 1 * 2 ^ (f.precision - 1) =
     ap (λ (n : ℕ). n * 2 ^ (f.precision - 1)) one in
     let significand : smallest_normalized f + trailing ≡ trailing + min biased 1 * 2 ^ (f.precision - 1) =
@@ -80,9 +79,7 @@ zero_factor m unit some none =
 
 -- a number is zero exactly if its magnitude's bits are
 zero_back : (a : ℕ) → significand_of a * 2 ^ place_of a ≡ 0 → a ≡ 0
-zero_back a none =
-    let nothing = zero_factor (significand_of a) (2 ^ place_of a) (pow_pos (place_of a)) none in
-    omega (arith, nothing)
+zero_back a none = omega (arith, zero_factor (significand_of a) (2 ^ place_of a) (pow_pos (place_of a)) none)
 
 -- ---- conversions
 
@@ -138,8 +135,7 @@ module _ (saturates : Bool) (single : Format) (read : Layout) (f : Format) (layo
   abbrev pub Rounded : Type 0
   Rounded = IsRounded saturates f layout mode negative (quanta * 2 ^ f.scale) (2 ^ 149) lane
 
-  zero_converted : (loses : Bool) → quanta ≡ 0 → 0 < f.precision → loses ≡ loses_zero_sign f negative
-      → Rounded
+  zero_converted : (loses : Bool) → quanta ≡ 0 → 0 < f.precision → loses ≡ loses_zero_sign f negative → Rounded
       → IsConvertedLane saturates single read f layout mode bits (with_inexact lane (lane.inexact || loses))
   zero_converted loses none precise lost it =
       let amount : quanta * 2 ^ f.scale ≡ 0 = ap (λ (n : ℕ). n * 2 ^ f.scale) none ∙ omega arith in

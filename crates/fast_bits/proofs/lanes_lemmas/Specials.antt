@@ -33,15 +33,12 @@ pub far_single : (f : Format) (significand : ℕ) → f.precision + f.span ≤ f
     → IsFarAbove f (significand * 2 ^ 254 * 2 ^ f.scale) (2 ^ 149)
 far_single f significand below full =
     let top : 2 ^ (f.precision + f.span) ≤ 2 ^ (f.scale + 128) = pow-le-pow_right two_pos below in
-    let first : 2 ^ (f.precision + f.span) * 2 ^ 149 ≤ 2 ^ (f.scale + 128) * 2 ^ 149 =
-    mul-le-mul_right (2 ^ 149) top in
+    let first = mul-le-mul_right (2 ^ 149) top in
     let parts : 2 ^ (f.scale + 128) ≡ 2 ^ f.scale * 2 ^ 128 = pow-add 2 f.scale 128 in
     let same : 2 ^ f.scale * 2 ^ 128 * 2 ^ 149 ≡ 2 ^ 23 * 2 ^ 254 * 2 ^ f.scale = omega arith in
     let second : 2 ^ 23 * 2 ^ 254 ≤ significand * 2 ^ 254 = mul-le-mul_right (2 ^ 254) full in
-    let last : 2 ^ 23 * 2 ^ 254 * 2 ^ f.scale ≤ significand * 2 ^ 254 * 2 ^ f.scale =
-    mul-le-mul_right (2 ^ f.scale) second in
-    let moved : 2 ^ (f.scale + 128) * 2 ^ 149 ≡ 2 ^ f.scale * 2 ^ 128 * 2 ^ 149 =
-    ap (λ (n : ℕ). n * 2 ^ 149) parts in
+    let last = mul-le-mul_right (2 ^ f.scale) second in
+    let moved : 2 ^ (f.scale + 128) * 2 ^ 149 ≡ 2 ^ f.scale * 2 ^ 128 * 2 ^ 149 = ap (λ (n : ℕ). n * 2 ^ 149) parts in
     record { some = pow_pos 149; from = omega (arith, first, moved, same, last) }
 
 flag_most : (flag : ℕ) (holds : Bool) → flag_if flag holds ≤ flag
@@ -92,10 +89,8 @@ pub past_single : (saturates : Bool) (f : Format) (layout : Layout) (mode : Roun
 past_single saturates f layout mode negative a lane reach some kept out high below it =
     let place : place_of a ≡ 254 = omega (arith, high, below) in
     let least : 1 ≤ a / 2 ^ 23 = omega (arith, high) in
-    let one = min-eq_right least in
-    let full : 2 ^ 23 ≤ significand_of a = omega (arith, one) in
     past_lane f layout mode negative (significand_of a * 2 ^ 254 * 2 ^ f.scale) (2 ^ 149) lane some out
-    (far_single f (significand_of a) reach full)
+    (far_single f (significand_of a) reach (omega (arith, min-eq_right least)))
     (subst (λ (b : Bool). IsRounded b f layout mode negative (significand_of a * 2 ^ 254 * 2 ^ f.scale) (2 ^ 149) lane)
     kept
     (subst (λ (n : ℕ). IsRounded saturates f layout mode negative (significand_of a * 2 ^ n * 2 ^ f.scale) (2 ^ 149)
@@ -142,8 +137,7 @@ single_quiet : (f : Format) (layout : Layout) → IsSingleFormat f layout → qu
 single_quiet f layout single = (λ i. quiet_bits_of (single.nonfinite i) (single.implied i) (single.precision i))
 
 quiet_bit_set : (s : ℕ) → s < 2 ^ 23 → 2 ^ 22 ≤ s → bit_and s (2 ^ 22) ≡ 2 ^ 22
-quiet_bit_set s below set =
-    and_pow s 22 ∙ (let e : s / 2 ^ 22 % 2 * 2 ^ 22 ≡ 2 ^ 22 = omega (arith, below, set) in e)
+quiet_bit_set s below set = and_pow s 22 ∙ (let e : s / 2 ^ 22 % 2 * 2 ^ 22 ≡ 2 ^ 22 = omega (arith, below, set) in e)
 
 quiet_bit_clear : (s : ℕ) → s < 2 ^ 22 → bit_and s (2 ^ 22) ≡ 0
 quiet_bit_clear s below = and_pow s 22 ∙ (let e : s / 2 ^ 22 % 2 * 2 ^ 22 ≡ 0 = omega (arith, below) in e)
@@ -206,13 +200,12 @@ quiet_is g d kind implied precise it =
     ∙ pow-add 2 1 (g.precision - 2) in
     let from = it.from in
     let below = it.below in
-    let rest : d - 2 ^ (g.precision - 2) < 2 ^ (g.precision - 2) = omega (arith, from, below, twice) in
     let parts : d ≡ 1 * 2 ^ (g.precision - 2) + (d - 2 ^ (g.precision - 2)) = omega (arith, from) in
     let one : 2 ^ (g.precision - 2) ≡ 1 * 2 ^ (g.precision - 2) + 0 = omega arith in
     (λ i. bit_or (bit_or (nan_base_of (kind i) p) (quiet_bits_of (kind i) (implied i) p))
     (bit_and d (payload_mask_of (kind i) p))) ∙ (λ i. bit_or (or_zero_l unit i) (and_mask d (p - 1) i))
     ∙ ap (bit_or unit) (mod-eq_of_lt below) ∙ (λ i. bit_or (one i) (parts i))
-    ∙ or_block (p - 2) 1 1 0 (d - unit) (pow_pos (p - 2)) rest
+    ∙ or_block (p - 2) 1 1 0 (d - unit) (pow_pos (p - 2)) (omega (arith, from, below, twice))
     ∙ (λ i. 1 * unit + or_zero_l (d - unit) i)
     ∙ sym parts
 
@@ -225,8 +218,7 @@ nan_of_digits f g layout negative s single below kind implied precise few =
     let none : g.precision - 24 ≡ 0 = omega (arith, few) in
     let whole : (s % 2 ^ 22 + 2 ^ 22) * 2 ^ 0 ≡ s % 2 ^ 22 + 2 ^ 22 = omega arith in
     let mask : payload_mask f ≡ 2 ^ 23 - 1 = (λ i. payload_mask_of (single.nonfinite i) (single.precision i)) in
-    let out : places_out f g ≡ 24 - g.precision =
-    (λ i. cond (eqb (mask i) 0) 0 (single.precision i - g.precision)) in
+    let out : places_out f g ≡ 24 - g.precision = (λ i. cond (eqb (mask i) 0) 0 (single.precision i - g.precision)) in
     let shift : g.precision - f.precision ≡ 0 = ap (λ (n : ℕ). g.precision - n) single.precision ∙ none in
     let payload : quieted f s * 2 ^ (g.precision - f.precision) / 2 ^ places_out f g ≡ d =
     (λ i. quieted_is f layout s single below i * 2 ^ shift i / 2 ^ out i)
@@ -342,7 +334,6 @@ module _ (f : Format) (read : Layout) (g : Format) (layout : Layout) (mode : Rou
         let precise = law.precise in
         let d = (x % 2 ^ 23 % 2 ^ 22 + 2 ^ 22) / 2 ^ (24 - g.precision) in
         let are = digits_are g.precision (x % 2 ^ 23) precise few in
-        let from = are.from in
         let unit = pow_pos (g.precision - 2) in
         let infinity : lane.bits ≡ signed_code g.nonfinite layout.bits negative (largest_code g + 1) =
         encoded_once g layout (past_largest g.nonfinite (nan_base g) negative) lane.bits
@@ -367,7 +358,7 @@ module _ (f : Format) (read : Layout) (g : Format) (layout : Layout) (mode : Rou
           };
           is_encoded =
               digits_encoded g layout negative d (lane.bits + d) law is implied
-              (omega (arith, from, unit)) are.below (λ i. (infinity ∙ signed) i + d);
+              (omega (arith, are.from, unit)) are.below (λ i. (infinity ∙ signed) i + d);
           nan_is = refl;
         }
 
@@ -406,9 +397,8 @@ below_both a b m n forth back =
 quiet_first : (places unit n : ℕ) → 0 < unit
     → (n % (2 ^ places * unit) + 2 ^ places * unit) / unit ≡ n / unit % 2 ^ places + 2 ^ places
 quiet_first places unit n some =
-    let parts = mod-mul n (pow_pos places) some in
     let sum : n % (2 ^ places * unit) + 2 ^ places * unit ≡ (n / unit % 2 ^ places + 2 ^ places) * unit + n % unit =
-    omega (arith, parts) in
+    omega (arith, mod-mul n (pow_pos places) some) in
     ap (λ (m : ℕ). m / unit) sum ∙ div-mul-add (n / unit % 2 ^ places + 2 ^ places) unit (n % unit) (mod-lt n some)
 
 -- what sixteen digits tell of a single's trailing significand
@@ -453,8 +443,7 @@ module _ (precision s payload : ℕ) (precise : 3 ≤ precision) (few : precisio
       (subst (λ (n : ℕ). 2 ^ (precision - 2) ≤ n) it.digits first)))
 
 -- both halves keep all digits that a target has
-pub word_payload : (precision s payload : ℕ) → precision ≤ 11 → payload ≡ s / 2 ^ 7
-    → IsPayload precision s payload
+pub word_payload : (precision s payload : ℕ) → precision ≤ 11 → payload ≡ s / 2 ^ 7 → IsPayload precision s payload
 word_payload precision s payload few is =
     let places : 24 - precision ≡ 7 + (17 - precision) = omega (arith, few) in
     let cut : 2 ^ (24 - precision) ≡ 2 ^ 7 * 2 ^ (17 - precision) =
@@ -502,8 +491,7 @@ half_nan h x is high =
     → Says =
     λ forth back. ⊎_elim {C = Says}
     (λ (none : x % 2 ^ 23 ≡ 0).
-    let same = back none in
-    le-ltb (255 * 2 ^ 7) (h % 2 ^ 15) (omega (arith, same)) ∙ ap not (sym (eq-eqb (x % 2 ^ 23) 0 none)))
+    le-ltb (255 * 2 ^ 7) (h % 2 ^ 15) (omega (arith, back none)) ∙ ap not (sym (eq-eqb (x % 2 ^ 23) 0 none)))
     (λ (some : x % 2 ^ 23 ≡ 0 → ⊥).
     let other : h % 2 ^ 15 ≡ 255 * 2 ^ 7 → ⊥ = λ e. some (forth e) in
     lt-ltb (255 * 2 ^ 7) (h % 2 ^ 15) (omega (arith, high, other)) ∙ ap not (sym (ne_eqb (x % 2 ^ 23) 0 some)))
@@ -555,8 +543,7 @@ word_nan m upper lower x magnitude word short high =
     ap (λ (b : Bool). not b || not (eqb lower 0)) (eq-eqb m (255 * 2 ^ 7) same)
     ∙ ⊎_elim {C = not (eqb lower 0) ≡ not (eqb (x % 2 ^ 23) 0)}
     (λ (none : lower ≡ 0).
-    let zero : x % 2 ^ 23 ≡ 0 = omega (arith, none, same, magnitude, word) in
-    ap not (eq-eqb lower 0 none ∙ sym (eq-eqb (x % 2 ^ 23) 0 zero)))
+    ap not (eq-eqb lower 0 none ∙ sym (eq-eqb (x % 2 ^ 23) 0 (omega (arith, none, same, magnitude, word)))))
     (λ (some : lower ≡ 0 → ⊥).
     ap not (ne_eqb lower 0 some ∙ sym (ne_eqb (x % 2 ^ 23) 0 (λ e. some (omega (arith, e, word, short))))))
     (cases_eq lower 0))

@@ -68,8 +68,7 @@ half_is x word =
 pub half_alone : (h : ℕ) → odd_quotient (h * 2 ^ 16) (2 ^ 16) ≡ h
 half_alone h =
     let quotient : h * 2 ^ 16 / 2 ^ 16 ≡ h = omega arith in
-    let rest : h * 2 ^ 16 % 2 ^ 16 ≡ 0 = omega arith in
-    exact_odd (h * 2 ^ 16 / 2 ^ 16) (h * 2 ^ 16 % 2 ^ 16) rest ∙ quotient
+    exact_odd (h * 2 ^ 16 / 2 ^ 16) (h * 2 ^ 16 % 2 ^ 16) (omega arith) ∙ quotient
 
 -- ---- scaled
 

@@ -48,8 +48,7 @@ augmented_once : (f : Format) (of_zero : Bool) (exact : ℤ) (parts : ℕ) (h g 
     → IsAugmented f of_zero exact parts h t i → IsAugmented f of_zero exact parts g u j → AreSame h g t u i j
 augmented_once f of_zero exact parts h g t u i j x y =
     let s = sign_of of_zero exact in
-    let e : x.pick ≡ y.pick =
-    ties_to_zero_once f.precision (magnitude exact) parts x.pick y.pick x.is_pick y.is_pick in
+    let e = ties_to_zero_once f.precision (magnitude exact) parts x.pick y.pick x.is_pick y.is_pick in
     by_test f s exact parts y.pick h g t u i j (ltb (largest f) y.pick)
     (subst (λ (p : ℕ). MatchBool (ltb (largest f) p) (IsPastLargest f s h t i) (IsWithTail f s exact parts p h t i)) e
     x.is) y.is
@@ -102,9 +101,8 @@ sums_are_exact f h (finite b m) (finite c n) head tail status mx my p q x =
     let s = sign_of of_zero v in
     let a = number_in f (finite b m) p mx in
     let k = number_in f (finite c n) q my in
-    let near = pick_is_nearest f of_zero v x.pick x.is_pick in
     let r = rest_in_format f h (signed b m) (signed c n) (signed s x.pick) a.on_grid k.on_grid k.within
-    (as_nearest f.precision v (signed s x.pick) near) in
+    (as_nearest f.precision v (signed s x.pick) (pick_is_nearest f of_zero v x.pick x.is_pick)) in
     let one : x.pick ≡ x.pick * 1 = omega arith in
     let g : IsOnGrid f.precision (magnitude (left_of v 1 s x.pick)) =
     subst (λ (i : ℕ). IsOnGrid f.precision (magnitude (v -ℤ signed s i))) one r.on_grid in
@@ -134,8 +132,7 @@ whole_rest : (f : Format) → 3 ≤ f.precision → (of_zero : Bool) (a c whole 
     → IsOnGrid f.precision (magnitude (left_of whole 1 (sign_of of_zero exact) pick))
 whole_rest f h of_zero a c whole exact pick g k d e t =
     let u = pow_pos f.scale in
-    let m : magnitude exact ≡ magnitude whole * 2 ^ f.scale =
-    ap magnitude (sym e) ∙ magnitude-times whole (2 ^ f.scale) in
+    let m = ap magnitude (sym e) ∙ magnitude-times whole (2 ^ f.scale) in
     let t' : IsTiesToZeroPick f.precision (magnitude whole) 1 pick =
     ties_of_times f.precision (magnitude whole) (2 ^ f.scale) pick u
     (subst (λ (i : ℕ). IsTiesToZeroPick f.precision i (2 ^ f.scale) pick) m t) in

@@ -17,8 +17,7 @@ use Rattle.ieee_operations.specs.augmented.Augmented.{IsAugmentedProduct}
 
 each_sum : (Holds : (Datum → Datum → ℕ → Type 0) → Type 0) (f : Format)
     → ((of_zero : Bool) (exact : ℤ) (parts : ℕ) → Holds (IsAugmented f of_zero exact parts))
-    → ((x y : Datum) → Holds (AreBoth (IsSum f NearestTiesToEven x y)))
-    → (x y : Datum) → Holds (IsAugmentedSum f x y)
+    → ((x y : Datum) → Holds (AreBoth (IsSum f NearestTiesToEven x y))) → (x y : Datum) → Holds (IsAugmentedSum f x y)
 each_sum Holds f numbers others (finite b m) (finite c n) = numbers _ _ _
 each_sum Holds f numbers others (finite b m) (infinite c) = others (finite b m) (infinite c)
 each_sum Holds f numbers others (finite b m) (nan c n) = others (finite b m) (nan c n)

@@ -31,15 +31,11 @@ IsHalfPast low amount parts = 2 * amount ≡ (2 * low + 1) * parts
 -- the neighbours of a fraction are on either side of it
 pub above_fraction : (precision below amount parts : ℕ) → IsFractionPick amount parts
     → IsBelow precision below amount parts → below * parts < amount
-above_fraction precision below amount parts n b =
-    let other = n.not_whole below in
-    omega (arith, other, b.not_above)
+above_fraction precision below amount parts n b = omega (arith, n.not_whole below, b.not_above)
 
 pub below_fraction : (precision above amount parts : ℕ) → IsFractionPick amount parts
     → IsAbove precision above amount parts → amount < above * parts
-below_fraction precision above amount parts n a =
-    let other = n.not_whole above in
-    omega (arith, other, a.not_below)
+below_fraction precision above amount parts n a = omega (arith, n.not_whole above, a.not_below)
 
 -- A magnitude below 2 ^ (2 * precision - 1) quanta has neighbours that are at most 2 ^ (precision - 1) quanta apart.
 unit_at_most : (precision half m c amount parts : ℕ) → 0 < precision → half ≡ 2 ^ (precision - 1)
@@ -114,9 +110,8 @@ pub tie_of_quanta : (precision below above amount parts : ℕ) → 0 < precision
     → IsBelow precision below amount parts → IsAbove precision above amount parts
     → 2 * amount ≡ (below + above) * parts → above ≡ below + 1
 tie_of_quanta precision below above amount parts h p n b a e =
-    let lo = above_fraction precision below amount parts n b in
     let hi = below_fraction precision above amount parts n a in
-    let between : below * parts < above * parts = omega (arith, lo, hi) in
+    let between : below * parts < above * parts = omega (arith, above_fraction precision below amount parts n b, hi) in
     let order : below < above = lt_of_mul-lt-mul_right parts between in
     let d : 2 ^ precision ≡ 2 * 2 ^ (precision - 1) = sym (twice_half precision h) in
     ⊎_elim
@@ -128,8 +123,7 @@ tie_of_quanta precision below above amount parts h p n b a e =
     let w = b.greatest (below + 1) g (omega (arith, k)) in
     absurd (omega (arith, w)))
     (λ (k : amount ≤ (below + 1) * parts).
-    let w = a.least (below + 1) g k in
-    omega (arith, w, order))
+    omega (arith, a.least (below + 1) g k, order))
     (cases_lt ((below + 1) * parts) amount))
     (λ (q : 2 ^ precision ≤ below).
     let x = even_grid precision below b.on_grid q in
@@ -253,8 +247,7 @@ distance_fraction head amount parts n = record {
   not_whole = λ k e.
       ⊎_elim
       (λ (q : amount < head * parts).
-      let w : k * parts ≤ head * parts = omega (arith, e, q) in
-      fewer k w q e)
+      fewer k (omega (arith, e, q)) q e)
       (λ (q : head * parts ≤ amount). n.not_whole (head + k) (omega (arith, e, q)))
       (cases_lt amount (head * parts));
 } where
@@ -322,9 +315,8 @@ beyond_in f s amount parts e p l x =
     ⊎_elim
     (λ (q : largest f * parts < amount). q)
     (λ (q : amount ≤ largest f * parts).
-    let a = x.is_above.least (largest f) (largest_on_grid f) q in
     let w = (pick_within f.precision NearestTiesToEven s amount parts e p x).0 in
-    absurd (omega (arith, a, w, l)))
+    absurd (omega (arith, x.is_above.least (largest f) (largest_on_grid f) q, w, l)))
     (cases_lt (largest f * parts) amount)
 
 -- the lower neighbour is not picked if the pick is above it

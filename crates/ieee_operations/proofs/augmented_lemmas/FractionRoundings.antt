@@ -31,8 +31,7 @@ pub product_rounded : (f : Format) (mode : Round) (x y value : Datum) (status : 
     → IsRounded f mode (product_sign (is_negative x) (is_negative y)) (number x *ℤ number y) (2 ^ f.scale) value status
 product_rounded f mode (finite b m) (finite c n) value status p q o h =
     let e : signed (product_sign b c) (m * n) ≡ (signed b m *ℤ signed c n) = signed_product b c m n in
-    let k : magnitude (signed b m *ℤ signed c n) ≡ m * n =
-    ap magnitude (sym e) ∙ magnitude_signed (product_sign b c) (m * n) in
+    let k = ap magnitude (sym e) ∙ magnitude_signed (product_sign b c) (m * n) in
     rounded_signed f mode (product_sign b c) (product_sign b c) (m * n) (2 ^ f.scale) (signed b m *ℤ signed c n) value
     status (sym e) (subst (λ (i : ℕ). 0 < i) k o) h
 product_rounded f mode (finite b m) (infinite c) value status p q o h = absurd (false≢true q)
@@ -92,14 +91,10 @@ small_product precision scale m n p g h q =
     let e' : (g.significand * h.significand) * 2 ^ (g.place + h.place)
     ≡ (g.significand * h.significand) * (2 ^ g.place * 2 ^ h.place) =
     ap (λ (i : ℕ). (g.significand * h.significand) * i) w in
-    let f : g.significand * h.significand < 2 ^ precision * 2 ^ precision =
-    mul-lt g.significand h.significand (2 ^ precision) (2 ^ precision) g.fits h.fits in
-    let f' : (g.significand * h.significand) * 2 ^ (g.place + h.place)
-    < (2 ^ precision * 2 ^ precision) * 2 ^ (g.place + h.place) =
-    mul-lt-mul_of_pos_right f (pow_pos (g.place + h.place)) in
+    let f = mul-lt g.significand h.significand (2 ^ precision) (2 ^ precision) g.fits h.fits in
+    let f' = mul-lt-mul_of_pos_right f (pow_pos (g.place + h.place)) in
     let t : 2 * 2 ^ (g.place + h.place) ≤ 2 ^ scale = half_at_most (g.place + h.place) scale q in
-    let t' : (2 ^ precision * 2 ^ (precision - 1)) * (2 * 2 ^ (g.place + h.place))
-    ≤ (2 ^ precision * 2 ^ (precision - 1)) * 2 ^ scale = mul-le-mul_left (2 ^ precision * 2 ^ (precision - 1)) t in
+    let t' = mul-le-mul_left (2 ^ precision * 2 ^ (precision - 1)) t in
     let d : (2 ^ precision * 2 ^ precision) * 2 ^ (g.place + h.place)
     ≡ (2 ^ precision * (2 * 2 ^ (precision - 1))) * 2 ^ (g.place + h.place) =
     ap (λ (i : ℕ). (2 ^ precision * i) * 2 ^ (g.place + h.place)) (sym (twice_half precision p)) in
@@ -111,14 +106,12 @@ pub whole_of : (precision scale : ℕ) (a c x : ℤ) → 0 < precision → IsGri
 whole_of precision scale a c x p g h e =
     ⊎_elim
     (λ (q : g.place + h.place < scale).
-    let s : magnitude x * 2 ^ scale ≡ magnitude a * magnitude c =
-    sym (magnitude-times x (2 ^ scale)) ∙ ap magnitude e ∙ magnitude-mul a c in
+    let s = sym (magnitude-times x (2 ^ scale)) ∙ ap magnitude e ∙ magnitude-mul a c in
     let l = small_product precision scale (magnitude a) (magnitude c) p g h q in
     let k : magnitude x * 2 ^ scale < (2 ^ precision * 2 ^ (precision - 1)) * 2 ^ scale = omega (arith, s, l) in
     let n : magnitude x < 2 ^ precision * 2 ^ (precision - 1) = lt_of_mul-lt-mul_right (2 ^ scale) k in
-    let t = twice_half precision p in
     let v : 2 ^ precision * 2 ^ (precision - 1) ≤ 2 ^ precision * 2 ^ precision =
-    mul-le-mul_left (2 ^ precision) (omega (arith, t)) in
+    mul-le-mul_left (2 ^ precision) (omega (arith, twice_half precision p)) in
     record {
       is = e;
       place = 0;
@@ -139,8 +132,7 @@ finite_is_nearest : (f : Format) (of_zero : Bool) (exact whole : ℤ) (parts : �
     → IsRounded f NearestTiesToEven of_zero exact parts value status → IsNearest f.precision whole (number value)
 finite_is_nearest f of_zero exact whole parts value status p e q x =
     let s = sign_of of_zero exact in
-    let l = finite_within f s x.pick value q x.value_is in
-    let v = x.value_is ∙ within_is f NearestTiesToEven s x.pick l in
+    let v = x.value_is ∙ within_is f NearestTiesToEven s x.pick (finite_within f s x.pick value q x.value_is) in
     let k : number value ≡ signed s x.pick = ap number v ∙ (signed_number f.nonfinite s x.pick).number_is in
     let n : IsNearestFraction f.precision parts exact (signed s x.pick) =
     subst (λ (i : ℤ). IsNearestFraction f.precision parts i (signed s x.pick)) (signed_exact of_zero exact)
@@ -162,10 +154,9 @@ whole_is_exact f h x y near rest i j v nx ny nn o product fused e =
     let w = whole_of f.precision f.scale (number x) (number y) v (omega (arith, h)) nx.on_grid ny.on_grid e in
     let g = on_grid_as (magnitude-sub z v)
     (product_error_on_grid f.precision wide f.scale (number x) (number y) v z w n) in
-    let b = error_eighth f.precision wide v z n in
     let c = magnitude-sub z v in
     let d = grown z v in
-    let l : magnitude (v -ℤ z) ≤ largest f = omega (arith, b, c, d, nn.within) in
+    let l : magnitude (v -ℤ z) ≤ largest f = omega (arith, error_eighth f.precision wide v z n, c, d, nn.within) in
     let r = rest_rounded f NearestTiesToEven x y near rest j nx.is_finite ny.is_finite nn.is_finite fused in
     let t : ((v -ℤ z) *ℤ pos (2 ^ f.scale)) ≡ rest_of_product f x y near =
     difference_times v z (pos (2 ^ f.scale)) ∙ ap (λ (k : ℤ). k -ℤ (z *ℤ pos (2 ^ f.scale))) e in

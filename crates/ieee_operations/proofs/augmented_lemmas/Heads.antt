@@ -59,9 +59,8 @@ sign_of_head kind s (suc n) =
     ap (λ (d : Datum). zero_sign kind (is_negative d)) (signed_some kind s (suc n) (omega arith))
 
 -- a rest with its number, signed as the head if it is zero
-tail_is : (f : Format) (s : Bool) (p : ℕ) (head rest : Datum) (left : ℤ)
-    → head ≡ signed_quanta f.nonfinite s p → HasNumber left rest
-    → with_sign f head rest ≡ signed_quanta f.nonfinite (sign_of s left) (magnitude left)
+tail_is : (f : Format) (s : Bool) (p : ℕ) (head rest : Datum) (left : ℤ) → head ≡ signed_quanta f.nonfinite s p
+    → HasNumber left rest → with_sign f head rest ≡ signed_quanta f.nonfinite (sign_of s left) (magnitude left)
 tail_is f s p head (finite b zero) left e h =
     let z : left ≡ pos 0 = sym h.number_is ∙ no_sign b in
     copied f.nonfinite (is_negative head) ∙ ap (λ (c : Bool). finite c 0)
@@ -184,8 +183,7 @@ near_is_nearest f of_zero v near short a =
     (subst (λ (z : ℤ). IsNearestTo f.precision z (signed s a.even)) (signed_exact of_zero v) n)
 
 -- a pick with ties toward zero is a nearest number
-pub pick_is_nearest : (f : Format) (of_zero : Bool) (v : ℤ) (p : ℕ)
-    → IsTiesToZeroPick f.precision (magnitude v) 1 p
+pub pick_is_nearest : (f : Format) (of_zero : Bool) (v : ℤ) (p : ℕ) → IsTiesToZeroPick f.precision (magnitude v) 1 p
     → IsNearestTo f.precision v (signed (sign_of of_zero v) p)
 pick_is_nearest f of_zero v p t =
     let s = sign_of of_zero v in
@@ -211,8 +209,7 @@ tie_is f of_zero v near short rest left a r l e =
     let s = sign_of of_zero v in
     let o = negated_has f rest r.is_finite in
     let q = equal_numbers left (negated f.nonfinite rest) l.is_finite o.is_finite e in
-    let w : (v -ℤ number short) ≡ neg_ℤ (v -ℤ number near) =
-    sym l.number_is ∙ q ∙ o.number_is ∙ ap neg_ℤ r.number_is in
+    let w = sym l.number_is ∙ q ∙ o.number_is ∙ ap neg_ℤ r.number_is in
     let u : (v -ℤ signed s a.lower) ≡ neg_ℤ (v -ℤ signed s a.even) =
     ap (λ (z : ℤ). v -ℤ z) (sym (short_number f s (magnitude v) near short a)) ∙ w ∙
     ap (λ (z : ℤ). neg_ℤ (v -ℤ z)) (near_number f s (magnitude v) near short a) in
@@ -221,9 +218,8 @@ tie_is f of_zero v near short rest left a r l e =
     from_half f.precision s (magnitude v) a.even a.lower a.is_even a.is_lower (halfway s (magnitude v) a.even a.lower d)
 
 -- unless the number is halfway, the pick to even is that with ties toward zero
-from_even : (precision : ℕ) (negative : Bool) (amount e t : ℕ)
-    → IsPick precision NearestTiesToEven negative amount 1 e → IsPick precision TowardZero negative amount 1 t
-    → (2 * amount ≡ e + t → ⊥) → IsTiesToZeroPick precision amount 1 e
+from_even : (precision : ℕ) (negative : Bool) (amount e t : ℕ) → IsPick precision NearestTiesToEven negative amount 1 e
+    → IsPick precision TowardZero negative amount 1 t → (2 * amount ≡ e + t → ⊥) → IsTiesToZeroPick precision amount 1 e
 from_even precision negative amount e t x y n =
     let s = short_is_below precision negative amount 1 e t x y in
     from_even_in precision negative amount 1 e x (λ h. n (omega (arith, h, s)))
@@ -240,8 +236,7 @@ no_tie_is f of_zero v near short rest left status a r exact nearest differs =
     let n = magnitude v in
     from_even f.precision s (magnitude v) a.even a.lower a.is_even a.is_lower
     (λ h.
-    let t = from_half f.precision s n a.even a.lower a.is_even a.is_lower h in
-    let p = pick_is_nearest f of_zero v a.lower t in
+    let p = pick_is_nearest f of_zero v a.lower (from_half f.precision s n a.even a.lower a.is_even a.is_lower h) in
     let o = nearest (subst (λ (z : ℤ). IsNearestTo f.precision v z) (sym (short_number f s n near short a)) p) in
     let l = exact o in
     let m = negated_has f rest r.is_finite in
@@ -293,8 +288,7 @@ beyond f s amount e l x = let past = beyond_in f s amount 1 e (lit< tt) l x in o
 
 -- what is past it is the largest value toward zero
 pub short_is_largest_in : (f : Format) → 3 ≤ f.precision
-    → (of_zero : Bool) (exact : ℤ) (parts e : ℕ) (short : Datum)
-    (j : ℕ) → 0 < parts → largest f < e
+    → (of_zero : Bool) (exact : ℤ) (parts e : ℕ) (short : Datum) (j : ℕ) → 0 < parts → largest f < e
     → IsPick f.precision NearestTiesToEven (sign_of of_zero exact) (magnitude exact) parts e
     → IsRounded f TowardZero of_zero exact parts short j → short ≡ finite (sign_of of_zero exact) (largest f)
 short_is_largest_in f h of_zero exact parts e short j p l x y =
@@ -341,15 +335,13 @@ pub no_half_left : (f : Format) → 3 ≤ f.precision → 1 ≤ f.span → (of_z
     → magnitude v ≡ largest f + half_unit f → ⊥
 no_half_left f h k of_zero v left unit status u exact nearest differs e =
     let s = sign_of of_zero v in
-    let t = at_half f h k (magnitude v) e in
-    let o = nearest (pick_is_nearest f of_zero v (largest f) t) in
+    let o = nearest (pick_is_nearest f of_zero v (largest f) (at_half f h k (magnitude v) e)) in
     let l = exact o in
     let a = abs_has f left l.is_finite in
     let m : magnitude (v -ℤ signed s (largest f)) ≡ half_unit f =
     subst (λ (z : ℤ). magnitude (z -ℤ signed s (largest f)) ≡ half_unit f) (signed_exact of_zero v)
     (toward s (magnitude v) (largest f) (half_unit f) e) in
-    let q : number (abs f left) ≡ number unit =
-    a.number_is ∙ ap pos (ap magnitude l.number_is ∙ m) ∙ sym (ap number u) in
+    let q = a.number_is ∙ ap pos (ap magnitude l.number_is ∙ m) ∙ sym (ap number u) in
     false≢true (sym (differs o) ∙ is_equal_by (abs f left) unit a.is_finite (ap is_finite u) q)
 
 pub half_on_grid : (f : Format) → 3 ≤ f.precision → IsOnGrid f.precision (half_unit f)
@@ -369,8 +361,7 @@ half_is_within f h =
 
 -- the smallest value, scaled
 pub half_unit_is : (f : Format) → 3 ≤ f.precision → 1 ≤ f.span → (places : ℤ) → places ≡ pos (f.span - 1)
-    → (value : Datum) → IsScaling f NearestTiesToEven (finite false 1) places value
-    → value ≡ finite false (half_unit f)
+    → (value : Datum) → IsScaling f NearestTiesToEven (finite false 1) places value → value ≡ finite false (half_unit f)
 half_unit_is f h k places e value x =
     let y : IsScaling f NearestTiesToEven (finite false 1) (pos (f.span - 1)) value =
     subst (λ (z : ℤ). IsScaling f NearestTiesToEven (finite false 1) z value) e x in

@@ -170,8 +170,7 @@ module _ (f : Format) (whole exact : ℤ) (parts : ℕ) (some : 0 < parts) (is :
   with_tail_times s pick head tail status x =
       let e = left_times whole exact parts s pick is in
       let left = left_of whole 1 s pick in
-      let m : magnitude left * parts ≡ magnitude (left_of exact parts s pick) =
-      sym (magnitude-times left parts) ∙ ap magnitude e in
+      let m = sym (magnitude-times left parts) ∙ ap magnitude e in
       let g : sign_of s left ≡ sign_of s (left_of exact parts s pick) =
       sym (sign_times s left parts some) ∙ ap (λ (i : ℤ). sign_of s i) e in
       record {
@@ -190,8 +189,7 @@ module _ (f : Format) (whole exact : ℤ) (parts : ℕ) (some : 0 < parts) (is :
   with_tail_of_times s pick head tail status x =
       let e = left_times whole exact parts s pick is in
       let left = left_of whole 1 s pick in
-      let m : magnitude (left_of exact parts s pick) ≡ magnitude left * parts =
-      ap magnitude (sym e) ∙ magnitude-times left parts in
+      let m = ap magnitude (sym e) ∙ magnitude-times left parts in
       let g : sign_of s (left_of exact parts s pick) ≡ sign_of s left =
       ap (λ (i : ℤ). sign_of s i) (sym e) ∙ sign_times s left parts some in
       record {

@@ -57,9 +57,7 @@ pub finite_within : (f : Format) (negative : Bool) (p : ℕ) (value : Datum) →
 finite_within f s p value h e =
     ⊎_elim
     (λ (q : largest f < p).
-    let w : is_finite value ≡ false =
-    ap is_finite (e ∙ past_is f s p q) ∙ past_not_finite f.nonfinite (nan_base f) s in
-    absurd (false≢true (sym w ∙ h)))
+    absurd (false≢true (sym (ap is_finite (e ∙ past_is f s p q) ∙ past_not_finite f.nonfinite (nan_base f) s) ∙ h)))
     (λ (q : p ≤ largest f). q)
     (cases_lt (largest f) p)
 
@@ -175,17 +173,10 @@ pub record IsOpposite (z : ℤ) (value : Datum) : Type 0 where
   pub number_is : signed negative quanta ≡ neg_ℤ z
 
 pub opposite : (kind : NonfiniteBehavior) (c : Bool) (n : ℕ) → IsOpposite (signed c n) (negated kind (finite c n))
-opposite IEEE754 c zero =
-    record { negative = not c; quanta = 0; is = refl; number_is = signed_not c 0 }
-opposite NanOnly c zero =
-    record { negative = not c; quanta = 0; is = refl; number_is = signed_not c 0 }
+opposite IEEE754 c zero = record { negative = not c; quanta = 0; is = refl; number_is = signed_not c 0 }
+opposite NanOnly c zero = record { negative = not c; quanta = 0; is = refl; number_is = signed_not c 0 }
 opposite NanNegativeZero c zero =
-    record {
-      negative = c;
-      quanta = 0;
-      is = refl;
-      number_is = let e = no_sign c in omega (arith, ints, e);
-    }
+    record { negative = c; quanta = 0; is = refl; number_is = let e = no_sign c in omega (arith, ints, e) }
 opposite kind c (suc n) =
     record {
       negative = not c;
@@ -194,8 +185,7 @@ opposite kind c (suc n) =
       number_is = signed_not c (suc n);
     }
 
-pub negated_has : (f : Format) (x : Datum) → is_finite x ≡ true
-    → HasNumber (neg_ℤ (number x)) (negated f.nonfinite x)
+pub negated_has : (f : Format) (x : Datum) → is_finite x ≡ true → HasNumber (neg_ℤ (number x)) (negated f.nonfinite x)
 negated_has f (finite b m) p =
     let o = opposite f.nonfinite b m in
     record { is_finite = ap is_finite o.is; number_is = ap number o.is ∙ o.number_is }
@@ -235,8 +225,7 @@ number_in f (nan b m) p h = absurd (false≢true p)
 pub negated_in : (f : Format) (x : Datum) → IsAugmentedNumber f x → IsAugmentedNumber f (negated f.nonfinite x)
 negated_in f x h =
     let o = negated_has f x h.is_finite in
-    let e : magnitude (number x) ≡ magnitude (number (negated f.nonfinite x)) =
-    sym (ap magnitude o.number_is ∙ magnitude-neg (number x)) in
+    let e = sym (ap magnitude o.number_is ∙ magnitude-neg (number x)) in
     record {
       is_finite = o.is_finite;
       on_grid = subst (λ (i : ℕ). IsOnGrid f.precision i) e h.on_grid;
@@ -260,14 +249,10 @@ quanta_in f s p x g l e =
 pub abs_has : (f : Format) (x : Datum) → is_finite x ≡ true → HasNumber (pos (magnitude (number x))) (abs f x)
 abs_has f (finite true m) p =
     let o = opposite f.nonfinite true m in
-    record {
-      is_finite = ap is_finite o.is;
-      number_is = ap number o.is ∙ o.number_is ∙ turned m;
-    } where
+    record { is_finite = ap is_finite o.is; number_is = ap number o.is ∙ o.number_is ∙ turned m } where
       turned : (m : ℕ) → neg_ℤ (signed true m) ≡ pos (magnitude (signed true m))
       turned m = let e = magnitude_signed true m in omega (arith, ints, e)
-abs_has f (finite false m) p =
-    record { is_finite = refl; number_is = ap pos (sym (magnitude_signed false m)) }
+abs_has f (finite false m) p = record { is_finite = refl; number_is = ap pos (sym (magnitude_signed false m)) }
 abs_has f (infinite b) p = absurd (false≢true p)
 abs_has f (nan b m) p = absurd (false≢true p)
 
@@ -278,8 +263,7 @@ equal_by z w Less e h = absurd (false≢true h)
 equal_by z w Equal e h = exact_signed z w (sym e)
 equal_by z w Greater e h = absurd (false≢true h)
 
-pub equal_numbers : (x y : Datum) → is_finite x ≡ true → is_finite y ≡ true → is_equal x y ≡ true
-    → number x ≡ number y
+pub equal_numbers : (x y : Datum) → is_finite x ≡ true → is_finite y ≡ true → is_equal x y ≡ true → number x ≡ number y
 equal_numbers (finite b m) (finite c n) p q h = equal_by (signed b m) (signed c n) _ refl h
 equal_numbers (finite b m) (infinite c) p q h = absurd (false≢true q)
 equal_numbers (finite b m) (nan c n) p q h = absurd (false≢true q)
@@ -296,16 +280,14 @@ below_true z w Less e h = let k = int_ranked z w Less e in omega (arith, ints, k
 below_true z w Equal e h = absurd (false≢true h)
 below_true z w Greater e h = absurd (false≢true h)
 
-pub not_below : (x y : Datum) → is_finite x ≡ true → is_finite y ≡ true → is_below x y ≡ false
-    → number y ≤ℤ number x
+pub not_below : (x y : Datum) → is_finite x ≡ true → is_finite y ≡ true → is_below x y ≡ false → number y ≤ℤ number x
 not_below (finite b m) (finite c n) p q h = below_by (signed b m) (signed c n) _ refl h
 not_below (finite b m) (infinite c) p q h = absurd (false≢true q)
 not_below (finite b m) (nan c n) p q h = absurd (false≢true q)
 not_below (infinite b) y p q h = absurd (false≢true p)
 not_below (nan b m) y p q h = absurd (false≢true p)
 
-pub is_under : (x y : Datum) → is_finite x ≡ true → is_finite y ≡ true → is_below x y ≡ true
-    → number x ≤ℤ number y
+pub is_under : (x y : Datum) → is_finite x ≡ true → is_finite y ≡ true → is_below x y ≡ true → number x ≤ℤ number y
 is_under (finite b m) (finite c n) p q h = below_true (signed b m) (signed c n) _ refl h
 is_under (finite b m) (infinite c) p q h = absurd (false≢true q)
 is_under (finite b m) (nan c n) p q h = absurd (false≢true q)
@@ -315,10 +297,7 @@ is_under (nan b m) y p q h = absurd (false≢true p)
 -- the order of two data without their signs is that of their magnitudes
 order_of_numbers : (f : Format) (x y : Datum) → is_finite x ≡ true → is_finite y ≡ true
     → number (abs f x) ≤ℤ number (abs f y) → magnitude (number x) ≤ magnitude (number y)
-order_of_numbers f x y p q l =
-    let u = (abs_has f x p).number_is in
-    let v = (abs_has f y q).number_is in
-    omega (arith, ints, l, u, v)
+order_of_numbers f x y p q l = omega (arith, ints, l, (abs_has f x p).number_is, (abs_has f y q).number_is)
 
 pub order_of_abs : (f : Format) (x y : Datum) → is_finite x ≡ true → is_finite y ≡ true
     → is_below (abs f x) (abs f y) ≡ false → magnitude (number y) ≤ magnitude (number x)

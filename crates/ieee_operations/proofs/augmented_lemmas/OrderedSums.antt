@@ -8,7 +8,7 @@ use Rattle.apfloat_model.specs.declared.kinds.Round.TheVariants.{NearestTiesToEv
 use Rattle.apfloat_model.specs.formats.{Format.Format, Format.largest, Datum.Datum, Datum.finite}
 use Rattle.apfloat_model.specs.rounding.Rounding.{IsPick, delivered_value, signed_quanta, ok_bits, overflow_bit}
 use Rattle.apfloat_model.specs.rounding.{Rounding.inexact_bit, Negation.negated}
-use Rattle.apfloat_model.specs.arithmetic.Exact.{magnitude, signed, sign_of, IsRounded}
+use Rattle.apfloat_model.specs.arithmetic.Exact.{magnitude, signed, sign_of}
 use Rattle.apfloat_model.specs.arithmetic.{Signs.abs, Sums.IsSum, Sums.zero_sum_sign}
 use Rattle.apfloat_model.specs.order.{Classes.is_finite, Classes.is_negative, Order.number, Order.is_equal}
 use Rattle.apfloat_model.proofs.rounding.{Deliveries.signed_some, FarMagnitudes.largest_on_grid}
@@ -28,11 +28,8 @@ use Rattle.ieee_operations.proofs.augmented_lemmas.Rests.{as_nearest, rest_in_fo
 pub short_in : (f : Format) → 3 ≤ f.precision → (x y short : Datum) (j : ℕ) → IsAugmentedNumber f x
     → IsAugmentedNumber f y → IsSum f TowardZero x y short j → IsAugmentedNumber f short
 short_in f h x y short j nx ny sum =
-    let v = number x +ℤ number y in
-    let of_zero = zero_sum_sign NearestTiesToEven (is_negative x) (is_negative y) in
-    let s = sign_of of_zero v in
-    let r : IsRounded f TowardZero of_zero v 1 short j =
-    sum_rounded f TowardZero x y short j nx.is_finite ny.is_finite sum in
+    let s = sign_of (zero_sum_sign NearestTiesToEven (is_negative x) (is_negative y)) (number x +ℤ number y) in
+    let r = sum_rounded f TowardZero x y short j nx.is_finite ny.is_finite sum in
     ⊎_elim
     (λ (q : largest f < r.pick).
     quanta_in f s (largest f) short (largest_on_grid f) (omega arith)
@@ -53,8 +50,7 @@ finish f h x y nx ny p t l value rest head tail status e r hd tl o =
     let v = number x +ℤ number y in
     let of_zero = zero_sum_sign NearestTiesToEven (is_negative x) (is_negative y) in
     let s = sign_of of_zero v in
-    let k = signed_number f.nonfinite s p in
-    let n : number value ≡ signed s p = ap number e ∙ k.number_is in
+    let n : number value ≡ signed s p = ap number e ∙ (signed_number f.nonfinite s p).number_is in
     let g = rest_in_format f h (number x) (number y) (signed s p) nx.on_grid ny.on_grid ny.within
     (as_nearest f.precision v (signed s p) (pick_is_nearest f of_zero v p t)) in
     let r' : HasNumber (v -ℤ signed s p) rest = subst (λ (z : ℤ). HasNumber (v -ℤ z) rest) n r in
@@ -123,8 +119,7 @@ sum_past f h x y near short i j nx ny sum shorter nn =
     let v = number x +ℤ number y in
     let of_zero = zero_sum_sign NearestTiesToEven (is_negative x) (is_negative y) in
     let n = sum_rounded f NearestTiesToEven x y near i nx.is_finite ny.is_finite sum in
-    let t : IsRounded f TowardZero of_zero v 1 short j =
-    sum_rounded f TowardZero x y short j nx.is_finite ny.is_finite shorter in
+    let t = sum_rounded f TowardZero x y short j nx.is_finite ny.is_finite shorter in
     let past = past_without f (sign_of of_zero v) n.pick near nn n.value_is in
     record {
       pick = n.pick;

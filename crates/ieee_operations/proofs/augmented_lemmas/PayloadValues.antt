@@ -78,9 +78,7 @@ module _ (f : Format) (h : 3 ≤ f.precision) (s : f.scale < f.span) where
 pub payload_fits : (f : Format) (x : Datum) (payload : ℕ) → payload ≡ payload_of f (nan_significand x)
     → payload < 2 ^ payload_bits f
 payload_fits f x payload e =
-    let l : nan_significand x % 2 ^ payload_bits f < 2 ^ payload_bits f =
-    mod_below (nan_significand x) (2 ^ payload_bits f) (pow_pos (payload_bits f)) in
-    omega (arith, e, l)
+    omega (arith, e, mod_below (nan_significand x) (2 ^ payload_bits f) (pow_pos (payload_bits f)))
 
 -- whether the class of a datum is that of NaNs
 pub nan_class : (x : Datum) (test : Bool) → is_nan_category (category_of x) ≡ test → is_nan x ≡ test

@@ -55,8 +55,7 @@ numbers_of_sum f (infinite b) y head tail status p q h = absurd (false≢true p)
 numbers_of_sum f (nan b m) y head tail status p q h = absurd (false≢true p)
 
 -- a product of numbers other than zero is not zero
-pub product_some : (f : Format) (x y : Datum) → IsNonzeroIn f x → IsNonzeroIn f y
-    → 0 < magnitude (number x *ℤ number y)
+pub product_some : (f : Format) (x y : Datum) → IsNonzeroIn f x → IsNonzeroIn f y → 0 < magnitude (number x *ℤ number y)
 product_some f x y p q = subst (λ (i : ℕ). 0 < i) (sym (magnitude-mul (number x) (number y))) (mul-pos p.some q.some)
 
 nothing_left : (s : Bool) (k : ℕ) → k ≡ 0 → (pos 0 -ℤ signed s k) ≡ pos 0
@@ -172,8 +171,7 @@ half_is_exact f h of_zero s exact parts x y short rest j p u e d is r amount =
 -- the product rounded, in some mode
 pub rounded_in : (f : Format) (mode : Round) (x y near value : Datum) (status : ℕ) → IsNearProduct f x y near
     → IsProduct f mode x y value status
-    → IsRounded f mode (product_sign (is_negative x) (is_negative y)) (number x *ℤ number y)
-    (2 ^ f.scale) value status
+    → IsRounded f mode (product_sign (is_negative x) (is_negative y)) (number x *ℤ number y) (2 ^ f.scale) value status
 rounded_in f mode x y near value status a product =
     product_rounded f mode x y value status a.left.is_in.is_finite a.right.is_in.is_finite
     (product_some f x y a.left a.right) product
@@ -193,8 +191,7 @@ short_is_top f h x y near short j a out shorter =
 pub product_is_past : (f : Format) → 3 ≤ f.precision → 1 ≤ f.span → (x y near short rest : Datum) (j k : ℕ)
     → IsNearProduct f x y near → is_finite near ≡ false → IsProduct f TowardZero x y short j
     → IsFusedSum f NearestTiesToEven x y (negated f.nonfinite short) rest k → (k ≡ ok_bits → ⊥)
-    → (head tail : Datum)
-    (status : ℕ) → head ≡ near → tail ≡ near → status ≡ overflow_bit + inexact_bit
+    → (head tail : Datum) (status : ℕ) → head ≡ near → tail ≡ near → status ≡ overflow_bit + inexact_bit
     → IsAugmentedProduct f x y head tail status
 product_is_past f h w x y near short rest j k a out shorter fused lost head tail status hd tl o =
     let exact = number x *ℤ number y in
@@ -214,8 +211,7 @@ product_is_past f h w x y near short rest j k a out shorter fused lost head tail
     (hd ∙ n.value_is ∙ past_is f s n.pick past) (tl ∙ sym hd) o)
 
 -- the product toward zero is finite
-pub short_is_finite : (f : Format) → 3 ≤ f.precision → (x y near short : Datum) (j : ℕ)
-    → IsNearProduct f x y near
+pub short_is_finite : (f : Format) → 3 ≤ f.precision → (x y near short : Datum) (j : ℕ) → IsNearProduct f x y near
     → is_finite near ≡ false → IsProduct f TowardZero x y short j → is_finite short ≡ true
 short_is_finite f h x y near short j a out shorter = ap is_finite (short_is_top f h x y near short j a out shorter)
 

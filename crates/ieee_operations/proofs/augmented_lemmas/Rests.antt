@@ -40,12 +40,10 @@ sum_down m c h = omega (arith, ints, one_side c)
 first_within : (precision top : ℕ) (a c z : ℤ) → magnitude c ≤ magnitude a → magnitude a ≤ top
     → magnitude z ≤ top → IsNearest precision (a +ℤ c) z → magnitude (z -ℤ a) ≤ top
 first_within precision top (pos m) c z l x y n =
-    let k : pos 0 ≤ℤ z =
-    nearest_above precision (pos 0) (pos m +ℤ c) z (zero_on_grid precision) (sum_up m c l) n in
+    let k = nearest_above precision (pos 0) (pos m +ℤ c) z (zero_on_grid precision) (sum_up m c l) n in
     between_up (pos m) c z z (omega (arith, ints)) l k top x y
 first_within precision top (negsuc m) c z l x y n =
-    let k : z ≤ℤ pos 0 =
-    nearest_below precision (pos 0) (negsuc m +ℤ c) z (zero_on_grid precision) (sum_down m c l) n in
+    let k = nearest_below precision (pos 0) (negsuc m +ℤ c) z (zero_on_grid precision) (sum_down m c l) n in
     between_down (negsuc m) c z z (omega (arith, ints)) l k top x y
 
 -- ---- the exact rest is a number of the format
@@ -60,23 +58,20 @@ pub rest_in_format : (f : Format) → 3 ≤ f.precision → (a c z : ℤ) → Is
 rest_in_format f h a c z g k l n =
     let e = error_on_grid f.precision (eight f.precision h) a c z g k n in
     let s = magnitude-sub z (a +ℤ c) in
-    let w = error_le_second f.precision a c z g n in
-    record { on_grid = on_grid_as s e; within = omega (arith, s, w, l) }
+    record { on_grid = on_grid_as s e; within = omega (arith, s, error_le_second f.precision a c z g n, l) }
 
 -- ---- the two subtractions
 
 -- both are exact: the second gives the rest
 pub rest_exact : (f : Format) (x y head first rest : Datum) (status : ℕ) → is_finite y ≡ true
-    → HasNumber (number head -ℤ number x) first
-    → IsDifference f NearestTiesToEven y first rest status → status ≡ ok_bits
-    → HasNumber ((number x +ℤ number y) -ℤ number head) rest
+    → HasNumber (number head -ℤ number x) first → IsDifference f NearestTiesToEven y first rest status
+    → status ≡ ok_bits → HasNumber ((number x +ℤ number y) -ℤ number head) rest
 rest_exact f x y head first rest status q d h o =
     let r = difference_rounded f NearestTiesToEven y first rest status q d.is_finite h in
     let k = ok_exactly f NearestTiesToEven r.0 (number y -ℤ number first) rest status r.1 o in
-    let e = d.number_is in
     record {
       is_finite = k.is_finite;
-      number_is = k.number_is ∙ again (number x) (number y) (number head) (number first) e;
+      number_is = k.number_is ∙ again (number x) (number y) (number head) (number first) d.number_is;
     } where
       again : (a c z d : ℤ) → d ≡ z -ℤ a → (c -ℤ d) ≡ ((a +ℤ c) -ℤ z)
       again a c z d e = omega (arith, ints, e)
@@ -113,8 +108,7 @@ second_of_nearest f h x y head first rest status p q d n s =
     let a = number x in
     let c = number y in
     let z = number head in
-    let n' = as_nearest f.precision (a +ℤ c) z n in
-    let i = rest_in_format f h a c z p.on_grid q.on_grid q.within n' in
+    let i = rest_in_format f h a c z p.on_grid q.on_grid q.within (as_nearest f.precision (a +ℤ c) z n) in
     let r = difference_rounded f NearestTiesToEven y first rest status q.is_finite d.is_finite s in
     let k : ((a +ℤ c) -ℤ z) ≡ (c -ℤ number first) = omega (arith, ints, d.number_is) in
     (rounded_exactly f NearestTiesToEven r.0 (c -ℤ number first) rest status

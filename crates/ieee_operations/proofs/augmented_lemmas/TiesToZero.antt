@@ -105,7 +105,6 @@ pub signed_nearest : (precision : ℕ) (negative : Bool) (amount p : ℕ) → Is
 signed_nearest precision s amount p g near = record {
   on_grid = on_grid_as (sym (magnitude_signed s p)) g;
   nearest = λ other o.
-      let b = signed_far s other amount in
       subst (λ (i : ℕ). i ≤ magnitude (other -ℤ signed s amount)) (sym (signed_apart s p amount))
-      (le_trans (near (magnitude other) o) b);
+      (le_trans (near (magnitude other) o) (signed_far s other amount));
 }

@@ -42,12 +42,8 @@ use Rattle.ieee_operations.proofs.augmented_lemmas.TiesToZero.{short_is_below}
 -- the square of the power past the significands is within the largest value
 square_within : (f : Format) → 3 ≤ f.precision → f.precision < f.span → 2 ^ f.precision * 2 ^ f.precision ≤ largest f
 square_within f h w =
-    let a : 2 ^ f.precision * 2 ^ f.precision ≤ 2 * greatest_significand f.nonfinite f.precision * 2 ^ f.precision =
-    mul-le-mul_right (2 ^ f.precision) (greatest_half f.nonfinite f.precision h) in
-    let b : greatest_significand f.nonfinite f.precision * (2 * 2 ^ f.precision)
-    ≤ greatest_significand f.nonfinite f.precision * 2 ^ f.span =
-    mul-le-mul_left (greatest_significand f.nonfinite f.precision) (half_at_most f.precision f.span w) in
-    omega (arith, a, b)
+    let b = mul-le-mul_left (greatest_significand f.nonfinite f.precision) (half_at_most f.precision f.span w) in
+    omega (arith, mul-le-mul_right (2 ^ f.precision) (greatest_half f.nonfinite f.precision h), b)
 
 -- a significand whose unit is below 1 can be doubled
 double_within : (f : Format) → 3 ≤ f.precision → f.scale < f.span → (n : ℕ) (g : IsOnGrid f.precision n)
@@ -82,16 +78,14 @@ pub record IsTiny (f : Format) (x y near short : Datum) : Type 0 where
   pub picks : ArePicks f (sign_of_product x y) (magnitude (exact_of x y)) (2 ^ f.scale) near short
 
 -- What the rounding of an integral number of quanta leaves is exact.
-exact_whole : (f : Format) → 3 ≤ f.precision → (x y near : Datum) → IsNearProduct f x y near
-    → IsAugmentedNumber f near
+exact_whole : (f : Format) → 3 ≤ f.precision → (x y near : Datum) → IsNearProduct f x y near → IsAugmentedNumber f near
     → LeavesDigits f x y near → (whole : ℤ) → (whole *ℤ pos (2 ^ f.scale)) ≡ exact_of x y → ⊥
 exact_whole f h x y near a nn lost whole w =
     lost.not_ok (whole_is_exact f h x y near lost.rest a.status lost.status whole a.left.is_in a.right.is_in nn
     (product_some f x y a.left a.right) a.is lost.is w)
 
 -- so the product is none
-no_whole : (f : Format) → 3 ≤ f.precision → (x y near : Datum) → IsNearProduct f x y near
-    → IsAugmentedNumber f near
+no_whole : (f : Format) → 3 ≤ f.precision → (x y near : Datum) → IsNearProduct f x y near → IsAugmentedNumber f near
     → LeavesDigits f x y near → IsFractionPick (magnitude (exact_of x y)) (2 ^ f.scale)
 no_whole f h x y near a nn lost = record {
   not_whole = λ whole e.
@@ -147,10 +141,9 @@ doubled_has f (finite b m) double n l h =
     let g = n.on_grid in
     let e : magnitude (signed b m) ≡ m = magnitude_signed b m in
     let w : m * 2 ≡ g.significand * 2 ^ (g.place + 1) =
-    let c = g.is in
     let d : g.significand * 2 ^ (g.place + 1) ≡ g.significand * (2 * 2 ^ g.place) =
     ap (λ (i : ℕ). g.significand * i) (twice_power g.place) in
-    omega (arith, c, d, e) in
+    omega (arith, g.is, d, e) in
     let o : IsOnGrid f.precision (m * 2) =
     record { significand = g.significand; place = g.place + 1; fits = g.fits; is = w } in
     let r = delivered_once f NearestTiesToEven b _ _ double (signed_quanta f.nonfinite b (m * 2)) h.0 ok_bits h.1
@@ -220,8 +213,7 @@ module _ (f : Format) (x y near short left : Datum) (k : ℕ) (t : IsTiny f x y 
   lower_parts = ap (λ (i : ℕ). i * 2 ^ f.scale) lower_below
 
   short_number : number short ≡ signed (sign_of_product x y) t.picks.lower
-  short_number =
-      ap number t.picks.short_is ∙ (signed_number f.nonfinite (sign_of_product x y) t.picks.lower).number_is
+  short_number = ap number t.picks.short_is ∙ (signed_number f.nonfinite (sign_of_product x y) t.picks.lower).number_is
 
   short_in : IsAugmentedNumber f short
   short_in =
@@ -231,17 +223,14 @@ module _ (f : Format) (x y near short left : Datum) (k : ℕ) (t : IsTiny f x y 
   -- the head toward zero is below 2 ^ (2 * precision - 1) quanta, so it can be doubled
   short_double : 2 * magnitude (number short) ≤ largest f
   short_double =
-      let e : magnitude (number short) ≡ t.picks.lower =
-      ap magnitude short_number ∙ magnitude_signed (sign_of_product x y) t.picks.lower in
-      let a = t.picks.is_even.is_below.not_above in
+      let e = ap magnitude short_number ∙ magnitude_signed (sign_of_product x y) t.picks.lower in
       let b = lower_parts in
       let d' : t.picks.lower * 2 ^ f.scale < 2 ^ f.precision * 2 ^ (f.precision - 1) * 2 ^ f.scale =
-      omega (arith, a, b, t.size.low) in
+      omega (arith, t.picks.is_even.is_below.not_above, b, t.size.low) in
       let d : t.picks.lower < 2 ^ f.precision * 2 ^ (f.precision - 1) = lt_of_mul-lt-mul_right (2 ^ f.scale) d' in
-      let v = square_within f t.precise t.wide in
       let w : 2 ^ f.precision * (2 * 2 ^ (f.precision - 1)) ≡ 2 ^ f.precision * 2 ^ f.precision =
       ap (λ (i : ℕ). 2 ^ f.precision * i) (twice_half f.precision (omega (arith, t.precise))) in
-      omega (arith, e, d, v, w)
+      omega (arith, e, d, square_within f t.precise t.wide, w)
 
   rounded : (of_zero : Bool) × IsRounded f NearestTiesToEven of_zero
       (rest_of_product f x y short +ℤ rest_of_product f x y short) (2 ^ f.scale) left k
@@ -266,9 +255,8 @@ module _ (f : Format) (x y near short left : Datum) (k : ℕ) (t : IsTiny f x y 
       ≡ distance t.picks.lower (magnitude (exact_of x y)) (2 ^ f.scale) =
       ap magnitude (rest_is f x y short (sign_of_product x y) t.picks.lower short_number) ∙
       left_magnitude (product_sign (is_negative x) (is_negative y)) (exact_of x y) (2 ^ f.scale) t.picks.lower in
-      let a = t.picks.is_even.is_below.not_above in
       let b = lower_parts in
-      omega (arith, e, r, a, b)
+      omega (arith, e, r, t.picks.is_even.is_below.not_above, b)
 
   -- if twice the product is an integral number of quanta, that is exact
   twice_is_ok : (j : ℕ) → j < 2 ^ f.precision
@@ -303,10 +291,8 @@ module _ (f : Format) (x y near short left : Datum) (k : ℕ) (t : IsTiny f x y 
       ap (λ (i : ℕ). i * 2 ^ f.scale) d in
       let hi = below_fraction f.precision t.picks.is_even.above (magnitude (exact_of x y)) (2 ^ f.scale) t.fraction
       t.picks.is_even.is_above in
-      let g : t.picks.is_even.above * 2 ^ f.scale ≤ (t.picks.is_even.below + 2 ^ (f.precision - 1)) * 2 ^ f.scale =
-      mul-le-mul_right (2 ^ f.scale) lower_apart in
       let v' : m * 2 ^ f.scale < (2 * t.picks.is_even.below + 2 * 2 ^ (f.precision - 1)) * 2 ^ f.scale =
-      omega (arith, e, hi, g) in
+      omega (arith, e, hi, mul-le-mul_right (2 ^ f.scale) lower_apart) in
       let v : m < 2 * t.picks.is_even.below + 2 * 2 ^ (f.precision - 1) = lt_of_mul-lt-mul_right (2 ^ f.scale) v' in
       let w = twice_half f.precision (omega (arith, t.precise)) in
       let z = lower_below in
@@ -318,13 +304,12 @@ module _ (f : Format) (x y near short left : Datum) (k : ℕ) (t : IsTiny f x y 
   pub pick_short : k ≡ ok_bits → magnitude (number left) ≡ 1
       → IsTiesToZeroPick f.precision (magnitude (exact_of x y)) (2 ^ f.scale) t.picks.lower
   pick_short o one =
-      let e = twice_of_ok o in
       let e' : (2 * t.picks.lower + magnitude (number left)) * 2 ^ f.scale ≡ (2 * t.picks.lower + 1) * 2 ^ f.scale =
       ap (λ (i : ℕ). (2 * t.picks.lower + i) * 2 ^ f.scale) one in
       let b = lower_parts in
       subst (λ (i : ℕ). IsTiesToZeroPick f.precision (magnitude (exact_of x y)) (2 ^ f.scale) i) (sym lower_below)
       (low_pick f.precision t.picks.is_even.below t.picks.is_even.above (magnitude (exact_of x y)) (2 ^ f.scale)
-      parts_some t.picks.is_even.is_below t.picks.is_even.is_above (omega (arith, e, e', b)))
+      parts_some t.picks.is_even.is_below t.picks.is_even.is_above (omega (arith, twice_of_ok o, e', b)))
 
   -- a tie leaves one quantum exactly
   tie_leaves : 2 * magnitude (exact_of x y) ≡ (t.picks.even + t.picks.is_even.below) * 2 ^ f.scale
@@ -347,13 +332,10 @@ module _ (f : Format) (x y near short left : Datum) (k : ℕ) (t : IsTiny f x y 
       let p : 2 * 2 ^ (f.precision - 1) ≡ 2 ^ f.precision = twice_half f.precision (omega (arith, t.precise)) in
       let q : 0 < 2 ^ (f.precision - 1) = pow_pos (f.precision - 1) in
       omega (arith, p, q) in
-      let ok = twice_is_ok 1 one half in
-      let again = twice_of_ok ok in
+      let again = twice_of_ok (twice_is_ok 1 one half) in
       let l : magnitude (number left) * 2 ^ f.scale ≤ 1 * 2 ^ f.scale = omega (arith, half, again) in
       let g : 1 * 2 ^ f.scale ≤ magnitude (number left) * 2 ^ f.scale = omega (arith, half, again) in
-      let l' = le_of_mul-le-mul_right l parts_some in
-      let g' = le_of_mul-le-mul_right g parts_some in
-      other (omega (arith, l', g')))
+      other (omega (arith, le_of_mul-le-mul_right l parts_some, le_of_mul-le-mul_right g parts_some)))
       (λ (h : t.picks.even ≡ t.picks.is_even.below).
       let h' : (t.picks.even + t.picks.is_even.below) * 2 ^ f.scale
       ≡ (t.picks.is_even.below + t.picks.is_even.below) * 2 ^ f.scale =
@@ -390,17 +372,15 @@ module _ (f : Format) (x y near short left : Datum) (k : ℕ) (t : IsTiny f x y 
   tail_is given pick mode nh e l side p picks head tail status w₀ =
       let s = sign_of_product x y in
       let of_zero = product_sign (is_negative x) (is_negative y) in
-      let exact = exact_of x y in
       let r₀ = rest_rounded f mode x y given tail w₀.tail_status t.product.left.is_in.is_finite
       t.product.right.is_in.is_finite nh.is_finite w₀.tail_is in
-      let n : number given ≡ signed (sign_of_product x y) pick =
-      ap number e ∙ (signed_number f.nonfinite (sign_of_product x y) pick).number_is in
+      let n = ap number e ∙ (signed_number f.nonfinite (sign_of_product x y) pick).number_is in
       let z = left_of (exact_of x y) (2 ^ f.scale) (sign_of_product x y) pick in
       let r : IsRounded f mode r₀.0 (left_of (exact_of x y) (2 ^ f.scale) (sign_of_product x y) pick) (2 ^ f.scale) tail
       w₀.tail_status =
       subst (λ (i : ℤ). IsRounded f mode r₀.0 i (2 ^ f.scale) tail w₀.tail_status)
       (rest_is f x y given (sign_of_product x y) pick n) r₀.1 in
-      let m = left_magnitude of_zero exact (2 ^ f.scale) pick in
+      let m = left_magnitude of_zero (exact_of x y) (2 ^ f.scale) pick in
       let c = distance_fraction pick (magnitude (exact_of x y)) (2 ^ f.scale) t.fraction in
       let differs : r.pick * 2 ^ f.scale ≡ magnitude z → ⊥ = λ d. c.not_whole r.pick (d ∙ m) in
       let some : 0 < magnitude z =
@@ -426,8 +406,7 @@ module _ (f : Format) (x y near short left : Datum) (k : ℕ) (t : IsTiny f x y 
         is = subst (λ (i : Bool). MatchBool i (IsPastLargest f s head tail status)
             (IsWithTail f s (exact_of x y) (2 ^ f.scale) pick head tail status)) (sym w) a;
       }) where
-        tail_within : (mode : Round) (negative : Bool) (amount q : ℕ)
-            → amount ≤ 2 ^ (f.precision - 1) * 2 ^ f.scale
+        tail_within : (mode : Round) (negative : Bool) (amount q : ℕ) → amount ≤ 2 ^ (f.precision - 1) * 2 ^ f.scale
             → IsPick f.precision mode negative amount (2 ^ f.scale) q → q ≤ largest f
         tail_within mode negative amount q a u =
             let g : IsOnGrid f.precision (2 ^ (f.precision - 1)) =
@@ -438,10 +417,8 @@ module _ (f : Format) (x y near short left : Datum) (k : ℕ) (t : IsTiny f x y 
                   let s : 0 < 2 ^ (f.precision - 1) = pow_pos (f.precision - 1) in omega (arith, p, s);
               is = omega arith;
             } in
-            let v = u.is_above.least (2 ^ (f.precision - 1)) g a in
             let w = (pick_within f.precision mode negative amount (2 ^ f.scale) q parts_some u).0 in
-            let b = half_within f t.precise in
-            omega (arith, v, w, b)
+            omega (arith, u.is_above.least (2 ^ (f.precision - 1)) g a, w, half_within f t.precise)
 
   -- not halfway between two quanta, the tail is what the head leaves to nearest
   picks_even : (pick : ℕ) → (k ≡ ok_bits → ⊥) → (negative : Bool) (amount q : ℕ)
@@ -471,8 +448,7 @@ module _ (f : Format) (x y near short left : Datum) (k : ℕ) (t : IsTiny f x y 
       let w' : 2 * 2 ^ (f.precision - 1) * 2 ^ f.scale ≡ 2 ^ f.precision * 2 ^ f.scale =
       ap (λ (n : ℕ). n * 2 ^ f.scale) w in
       let v : (2 * d.0 + 1) * 2 ^ f.scale ≤ 2 ^ f.precision * 2 ^ f.scale = omega (arith, half, e, l, w') in
-      let v' = le_of_mul-le-mul_right v parts_some in
-      let fits : d.0 < 2 ^ f.precision = omega (arith, v') in
+      let fits : d.0 < 2 ^ f.precision = omega (arith, le_of_mul-le-mul_right v parts_some) in
       let same = half_short f.precision negative amount (2 ^ f.scale) d.0 q parts_some fits half u in
       subst (λ (n : ℕ). IsTiesToZeroPick f.precision amount (2 ^ f.scale) n) (sym same)
       (half_pick f.precision amount (2 ^ f.scale) d.0 (omega (arith, t.precise)) parts_some fits half)
@@ -489,8 +465,7 @@ module _ (f : Format) (x y near short left : Datum) (k : ℕ) (t : IsTiny f x y 
   near_side =
       pick_cases f.precision (sign_of_product x y) (magnitude (exact_of x y)) (2 ^ f.scale) t.picks.even t.picks.is_even
 
-  pub head_is_near_tie : k ≡ ok_bits → (magnitude (number left) ≡ 1 → ⊥)
-      → (head tail : Datum) (status : ℕ)
+  pub head_is_near_tie : k ≡ ok_bits → (magnitude (number left) ≡ 1 → ⊥) → (head tail : Datum) (status : ℕ)
       → HasRoundedTail f TowardZero x y near head tail status → IsAugmentedProduct f x y head tail status
   head_is_near_tie ok other =
       tail_is near t.picks.even TowardZero t.near_in t.picks.near_is t.picks.even_within near_side

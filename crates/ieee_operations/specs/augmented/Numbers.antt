@@ -55,8 +55,7 @@ pub record IsTwiceLeft (f : Format) (x y head value : Datum) (status : ℕ) : Ty
 -- no number with a magnitude on the grid is nearer to `exact` than z
 pub record IsNearestTo (precision : ℕ) (exact z : ℤ) : Type 0 where
   pub on_grid : IsOnGrid precision (magnitude z)
-  pub nearest : (other : ℤ) → IsOnGrid precision (magnitude other)
-      → magnitude (z -ℤ exact) ≤ magnitude (other -ℤ exact)
+  pub nearest : (other : ℤ) → IsOnGrid precision (magnitude other) → magnitude (z -ℤ exact) ≤ magnitude (other -ℤ exact)
 
 -- what a head leaves, with the sign of the head if it is zero
 abbrev pub with_sign : Format → Datum → Datum → Datum

@@ -4,8 +4,7 @@ use Rattle.apfloat_model.specs.rounding.Grid.{IsBelow, IsAbove}
 
 -- the neighbour above only if it is nearer
 abbrev pub nearer_between : ℕ → ℕ → ℕ → ℕ → ℕ
-nearer_between below above amount parts =
-    if ltb (above * parts - amount) (amount - below * parts) then above else below
+nearer_between below above amount parts = if ltb (above * parts - amount) (amount - below * parts) then above else below
 
 pub record IsTiesToZeroPick (precision amount parts pick : ℕ) : Type 0 where
   pub below : ℕ

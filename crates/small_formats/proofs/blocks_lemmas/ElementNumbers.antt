@@ -32,8 +32,7 @@ pub record IsStoredNumber (c : StorageConstants) (quanta : ℕ) : Type 0 where
 pub stored_number : (c : StorageConstants) (code : ℕ) → IsLawfulStorage c
     → IsStoredNumber c (point c.precision (magnitude_of c code))
 stored_number c code law =
-    let low = law.precision_low in
-    let some : 0 < c.precision = omega (arith, low) in
+    let some : 0 < c.precision = omega (arith, law.precision_low) in
     let half : ℕ = 2 ^ (c.bits - 1) in
     let below : magnitude_of c code < half = mod_below code half (pow_pos (c.bits - 1)) in
     let most = not_greater c.precision (magnitude_of c code) (largest_index c) some (omega (arith, below)) in
@@ -83,8 +82,7 @@ implied_in f negative (suc biased) trailing some fits low top =
 
 -- the greatest exponent is not that of a number
 not_all : (ones none negative : Bool) (trailing : ℕ) (x : Datum)
-    → is_finite (if ones then (if none then infinite negative else nan negative trailing) else x) ≡ true
-    → ones ≡ false
+    → is_finite (if ones then (if none then infinite negative else nan negative trailing) else x) ≡ true → ones ≡ false
 not_all true true negative trailing x h = cc
 not_all true false negative trailing x h = cc
 not_all false none negative trailing x h = refl
@@ -102,8 +100,7 @@ ieee_number code h =
     let x = fields_of f layout code in
     let within = fields_within f layout e5m2_interchange code in
     let t = within.trailing in
-    let off : has_all_ones layout x ≡ false =
-    not_all (has_all_ones layout x) (eqb x.trailing 0) x.negative x.trailing (implied_number f x) h in
+    let off = not_all (has_all_ones layout x) (eqb x.trailing 0) x.negative x.trailing (implied_number f x) h in
     let low : 4 ≤ largest f = lit≤ tt in
     let n = implied_in f x.negative x.biased_exponent x.trailing (lit≤ tt) t (omega (arith, t, low))
     (λ some. ieee_within f layout (2 ^ 2 + x.trailing) x.biased_exponent e5m2_interchange refl (omega (arith, t))
@@ -136,8 +133,7 @@ nan_only_number code h =
 -- ---- all of them
 
 pub element_number : (element : ElementFormat) (code : ℕ) → code < 2 ^ width element
-    → is_finite (element_datum element code) ≡ true
-    → IsElementNumber element (quanta_of (element_datum element code))
+    → is_finite (element_datum element code) ≡ true → IsElementNumber element (quanta_of (element_datum element code))
 element_number E5M2 code l h = ieee_number code h
 element_number E4M3FN code l h = nan_only_number code h
 element_number E3M2FN code l h =

@@ -49,13 +49,10 @@ scaled_exactly element g mode scale code value status below narrow number has h 
     let x : Datum = element_datum element code in
     let p = product_is element g mode scale x value status (λ e. omega (arith, e, below)) number h in
     let member = element_number element code narrow number in
-    let most = (short element).most in
-    let within = member.within in
     let exact = exact_product g mode p.0 f.precision f.span (f.scale + 127) scale (quanta_of x) value status has
-    member.on_grid (omega (arith, most, within)) p.2 in
-    let quantum = has.quantum in
+    member.on_grid (omega (arith, (short element).most, member.within)) p.2 in
     let k : ℕ = scale + g.scale - (f.scale + 127) in
-    let places : k + (f.scale + 127) ≡ scale + g.scale = omega (arith, quantum) in
+    let places : k + (f.scale + 127) ≡ scale + g.scale = omega (arith, has.quantum) in
     record {
       negative = p.0;
       quanta = quanta_of x * 2 ^ k;
@@ -65,8 +62,7 @@ scaled_exactly element g mode scale code value status below narrow number has h 
       same =
           let a : 2 ^ (k + (f.scale + 127)) ≡ 2 ^ k * 2 ^ (f.scale + 127) = pow-add 2 k (f.scale + 127) in
           let b : 2 ^ (scale + g.scale) ≡ 2 ^ scale * 2 ^ g.scale = pow-add 2 scale g.scale in
-          let c : 2 ^ k * 2 ^ (f.scale + 127) ≡ 2 ^ scale * 2 ^ g.scale =
-          sym a ∙ ap (λ (n : ℕ). 2 ^ n) places ∙ b in
+          let c : 2 ^ k * 2 ^ (f.scale + 127) ≡ 2 ^ scale * 2 ^ g.scale = sym a ∙ ap (λ (n : ℕ). 2 ^ n) places ∙ b in
           (let z : quanta_of x * 2 ^ k * 2 ^ (f.scale + 127) ≡ quanta_of x * (2 ^ k * 2 ^ (f.scale + 127)) =
           omega arith in z)
           ∙ ap (λ (n : ℕ). quanta_of x * n) c ∙ omega arith;
@@ -78,20 +74,17 @@ scaled_exactly element g mode scale code value status below narrow number has h 
 pub exact_into_double : IsExactIntoDouble
 exact_into_double element scale below mode code value status narrow number h =
     let s = short element in
-    let quantum = s.quantum in
-    let exponents = s.exponents in
     scaled_exactly element (format_with double_constants) mode scale code value status below narrow number
-    (room_in element (format_with double_constants) scale refl (lit≤ tt) (omega (arith, quantum))
-    (omega (arith, exponents, below))) h
+    (room_in element (format_with double_constants) scale refl (lit≤ tt) (omega (arith, s.quantum))
+    (omega (arith, s.exponents, below))) h
 
 pub exact_into_single : IsExactIntoSingle
 exact_into_single element scale top mode code value status narrow number h =
     let s = short element in
-    let quantum = s.quantum in
     let some = s.exponents_low in
     scaled_exactly element (format_with single_constants) mode scale code value status (omega (arith, top, some)) narrow
     number
-    (room_in element (format_with single_constants) scale refl (lit≤ tt) (omega (arith, quantum))
+    (room_in element (format_with single_constants) scale refl (lit≤ tt) (omega (arith, s.quantum))
     (omega (arith, top)))
     h
 

@@ -39,8 +39,6 @@ moved_point n exponent scale quantum l =
 moved_within : (g : Format) (precision span scale exponent n : ℕ) → HasProducts g precision span scale exponent
     → n ≤ (2 ^ precision - 1) * 2 ^ span → n * 2 ^ (exponent + g.scale - scale) ≤ largest g
 moved_within g precision span scale exponent n has within =
-    let quantum = has.quantum in
-    let room = has.room in
     let k : ℕ = exponent + g.scale - scale in
     let most : largest g ≡ (2 ^ g.precision - 1) * 2 ^ g.span =
     ap (λ (x : NonfiniteBehavior). greatest_significand x g.precision * 2 ^ g.span) has.kind in
@@ -48,9 +46,8 @@ moved_within g precision span scale exponent n has within =
     let together : (2 ^ precision - 1) * 2 ^ span * 2 ^ k ≡ (2 ^ precision - 1) * 2 ^ (span + k) =
     (let z : (2 ^ precision - 1) * 2 ^ span * 2 ^ k ≡ (2 ^ precision - 1) * (2 ^ span * 2 ^ k) = omega arith in z)
     ∙ ap (λ (x : ℕ). (2 ^ precision - 1) * x) (sym (pow-add 2 span k)) in
-    let ends : precision + (span + k) ≤ g.precision + g.span = omega (arith, room, quantum) in
-    let top = top_below precision (span + k) g.precision g.span has.digits ends in
-    omega (arith, most, moved, together, top)
+    let ends : precision + (span + k) ≤ g.precision + g.span = omega (arith, has.room, has.quantum) in
+    omega (arith, most, moved, together, top_below precision (span + k) g.precision g.span has.digits ends)
 
 pub exact_product : (g : Format) (mode : Round) (negative : Bool) (precision span scale exponent n : ℕ)
     (value : Datum) (status : ℕ) → HasProducts g precision span scale exponent → IsOnGrid precision n

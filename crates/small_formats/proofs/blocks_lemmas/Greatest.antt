@@ -44,12 +44,8 @@ take_more {X} (y ∷ xs) (suc i) x e =
 pub finite_at : (xs : List Datum) (i : ℕ) (x : Datum) → are_finite xs ≡ true → slice_get xs i ≡ Some x
     → is_finite x ≡ true
 finite_at [] i x h e = cc
-finite_at (y ∷ xs) zero x h e =
-    let p = and_parts (is_finite y) (are_finite xs) h in
-    sym (ap is_finite (some_same y x e)) ∙ p.0
-finite_at (y ∷ xs) (suc i) x h e =
-    let p = and_parts (is_finite y) (are_finite xs) h in
-    finite_at xs i x p.1 e
+finite_at (y ∷ xs) zero x h e = sym (ap is_finite (some_same y x e)) ∙ (and_parts (is_finite y) (are_finite xs) h).0
+finite_at (y ∷ xs) (suc i) x h e = finite_at xs i x (and_parts (is_finite y) (are_finite xs) h).1 e
 
 -- one more that is finite, and one that is not
 pub finite_more : (xs : List Datum) (i : ℕ) (x : Datum) → are_finite (take i xs) ≡ true
@@ -79,9 +75,7 @@ at_most_greatest [] i x e = cc
 at_most_greatest (y ∷ xs) zero x e =
     let same : quanta_of y ≡ quanta_of x = ap quanta_of (some_same y x e) in
     grind (arith, same)
-at_most_greatest (y ∷ xs) (suc i) x e =
-    let rest = at_most_greatest xs i x e in
-    grind (arith, rest)
+at_most_greatest (y ∷ xs) (suc i) x e = grind (arith, at_most_greatest xs i x e)
 
 -- the absolute value of a nonzero finite datum
 pub finite_magnitude : (kind : NonfiniteBehavior) (x magnitude : Datum) → is_finite x ≡ true → 0 < quanta_of x
@@ -110,8 +104,7 @@ below_quanta x y m n test e f h =
     h ∙ ap (λ (z : Datum). is_below z y) e ∙ ap (λ (z : Datum). is_below (finite false m) z) f ∙ below_is m n
 
 -- a finite value that is not normal is a zero, which is not greater
-pub no_quanta : (x : Datum) → is_finite x ≡ true → (category_of x ≡ Normal → ⊥) → (n : ℕ)
-    → max (quanta_of x) n ≡ n
+pub no_quanta : (x : Datum) → is_finite x ≡ true → (category_of x ≡ Normal → ⊥) → (n : ℕ) → max (quanta_of x) n ≡ n
 no_quanta (finite b zero) h none n = max_right 0 n (omega arith)
 no_quanta (finite b (suc m)) h none n =
     let off : eqb (suc m) 0 ≡ false = ne_eqb (suc m) 0 (λ e. omega (arith, e)) in
@@ -120,8 +113,7 @@ no_quanta (infinite b) h none n = cc
 no_quanta (nan b s) h none n = cc
 
 -- the test of a value that is not below zero
-pub zero_test : (x : Datum) → x ≡ finite false (quanta_of x)
-    → is_zero_category (category_of x) ≡ eqb (quanta_of x) 0
+pub zero_test : (x : Datum) → x ≡ finite false (quanta_of x) → is_zero_category (category_of x) ≡ eqb (quanta_of x) 0
 zero_test x e = zero_agrees x ∙ ap is_zero e
 
 -- the number 0 is a member of each format

@@ -23,15 +23,13 @@ pub half_member : (c : StorageConstants) (code : ℕ) → IsLawfulStorage c → 
     (point c.precision (magnitude_of c code) * 2 ^ (24 - (format_with c).scale))
 half_member c code law precise quantum room =
     let f = format_with c in
-    let low = law.precision_low in
-    let some : 0 < c.precision = omega (arith, low) in
+    let some : 0 < c.precision = omega (arith, law.precision_low) in
     let m : ℕ = point c.precision (magnitude_of c code) in
     let k : ℕ = 24 - f.scale in
     let below = mod_below code (2 ^ (c.bits - 1)) (pow_pos (c.bits - 1)) in
     let most = not_greater c.precision (magnitude_of c code) (largest_index c) some (omega (arith, below)) in
-    let at = largest_point c law in
     let moved : m * 2 ^ k ≤ (2 ^ c.precision - 1) * 2 ^ f.span * 2 ^ k =
-    mul-le-mul_right (2 ^ k) (omega (arith, most, at)) in
+    mul-le-mul_right (2 ^ k) (omega (arith, most, largest_point c law)) in
     let together : (2 ^ c.precision - 1) * 2 ^ f.span * 2 ^ k ≡ (2 ^ c.precision - 1) * 2 ^ (f.span + k) =
     (let z : (2 ^ c.precision - 1) * 2 ^ f.span * 2 ^ k ≡ (2 ^ c.precision - 1) * (2 ^ f.span * 2 ^ k) =
     omega arith in z)

@@ -22,8 +22,7 @@ digits_together p q =
     let w : 2 ^ p ≡ k + 1 = omega (arith, some) in
     let v : 2 ^ q ≡ j + 1 = omega (arith, more) in
     let power : 2 ^ (p + q) ≡ 2 ^ p * 2 ^ q = pow-add 2 p q in
-    let both : 2 ^ p * 2 ^ q ≡ (k + 1) * (j + 1) =
-    ap (λ (n : ℕ). n * 2 ^ q) w ∙ ap (λ (n : ℕ). (k + 1) * n) v in
+    let both : 2 ^ p * 2 ^ q ≡ (k + 1) * (j + 1) = ap (λ (n : ℕ). n * 2 ^ q) w ∙ ap (λ (n : ℕ). (k + 1) * n) v in
     let parts : (k + 1) * (j + 1) ≡ k * j + k + j + 1 = omega arith in
     let all : 2 ^ (p + q) ≡ k * j + k + j + 1 = power ∙ both ∙ parts in
     omega (arith, all)
@@ -37,13 +36,12 @@ product_on_grid p q m n x y =
     let less : t ≤ 2 ^ q - 1 = let l = y.fits in omega (arith, l) in
     let a : s * t ≤ (2 ^ p - 1) * t = mul-le-mul_right t few in
     let b : (2 ^ p - 1) * t ≤ (2 ^ p - 1) * (2 ^ q - 1) = mul-le-mul_left (2 ^ p - 1) less in
-    let c = digits_together p q in
     let unit : 0 < 2 ^ (p + q) = pow_pos (p + q) in
     let places : 2 ^ (x.place + y.place) ≡ 2 ^ x.place * 2 ^ y.place = pow-add 2 x.place y.place in
     record {
       significand = s * t;
       place = x.place + y.place;
-      fits = omega (arith, a, b, c, unit);
+      fits = omega (arith, a, b, digits_together p q, unit);
       is = ap (λ (k : ℕ). k * n) x.is ∙ ap (λ (k : ℕ). s * 2 ^ x.place * k) y.is
           ∙ (let z : s * 2 ^ x.place * (t * 2 ^ y.place) ≡ s * t * (2 ^ x.place * 2 ^ y.place) = omega arith in z)
           ∙ ap (λ (k : ℕ). s * t * k) (sym places);
@@ -56,8 +54,7 @@ product_within p q s t m n low high =
     let j : ℕ = 2 ^ q - 1 in
     let a : m * n ≤ k * 2 ^ s * n = mul-le-mul_right n low in
     let b : k * 2 ^ s * n ≤ k * 2 ^ s * (j * 2 ^ t) = mul-le-mul_left (k * 2 ^ s) high in
-    let c : k * j * 2 ^ (s + t) ≤ (2 ^ (p + q) - 1) * 2 ^ (s + t) =
-    mul-le-mul_right (2 ^ (s + t)) (digits_together p q) in
+    let c = mul-le-mul_right (2 ^ (s + t)) (digits_together p q) in
     let e : k * 2 ^ s * (j * 2 ^ t) ≡ k * j * 2 ^ (s + t) =
     (let z : k * 2 ^ s * (j * 2 ^ t) ≡ k * j * (2 ^ s * 2 ^ t) = omega arith in z)
     ∙ ap (λ (x : ℕ). k * j * x) (sym (pow-add 2 s t)) in
@@ -76,8 +73,7 @@ double_format = format_with double_constants
 
 -- a product of a number with few digits and a single is exact in double
 pub joint_exact : (p span scale : ℕ) (mode : Round) (b : Bool) (m n : ℕ) (value : Datum) (status : ℕ)
-    → HasProducts double_format (p + 24) (span + 253) (scale + 149) 0 → IsOnGrid p m
-    → m ≤ (2 ^ p - 1) * 2 ^ span
+    → HasProducts double_format (p + 24) (span + 253) (scale + 149) 0 → IsOnGrid p m → m ≤ (2 ^ p - 1) * 2 ^ span
     → IsFiniteOf single_format false n
     → IsDelivered double_format mode b (m * n * 2 ^ 1074) (2 ^ (scale + 149)) value status
     → IsExactIn double_format b (m * n * 2 ^ (1074 - (scale + 149))) value status

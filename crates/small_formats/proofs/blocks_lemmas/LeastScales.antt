@@ -92,10 +92,9 @@ floor_of element f (suc n) code h =
     (MatchBool-at_false _ (IsScaleOfNumber element f (suc n) code) (not_zero (suc n) (omega arith)) h))
 
 -- by a lower scale the greatest magnitude is at least twice 2 to the power of `max_exp`
-pub past_lower : (element : ElementFormat) (f : Format) (greatest code other : ℕ)
-    → IsBlockScale element f greatest code → other < code
-    → 2 * highest_power element * (2 ^ f.scale * 2 ^ other)
-    ≤ greatest * 2 ^ (format_of_element element).scale * 2 ^ 127
+pub past_lower : (element : ElementFormat) (f : Format) (greatest code other : ℕ) → IsBlockScale element f greatest code
+    → other < code
+    → 2 * highest_power element * (2 ^ f.scale * 2 ^ other) ≤ greatest * 2 ^ (format_of_element element).scale * 2 ^ 127
 past_lower element f greatest code other h l = by_place (floor_of element f greatest code h)
   where
     by_place : ((greatest ≡ 0) × (code ≡ 0)) ⊎ HasScaleAt element f greatest code
@@ -108,21 +107,19 @@ past_lower element f greatest code other h l = by_place (floor_of element f grea
         let within = at.is.low (omega (arith, l)) in
         let low : 2 ^ at.place * 2 ^ s ≤ greatest * 2 ^ s = mul-le-mul_right (2 ^ s) at.low in
         let more : 2 ^ at.place * 2 ^ s * 2 ^ 127 ≤ greatest * 2 ^ s * 2 ^ 127 = mul-le-mul_right (2 ^ 127) low in
-        let split = pow3 at.place s 127 in
         let most : 2 ^ (top + 1 + (f.scale + other)) ≤ 2 ^ (at.place + s + 127) =
         pow-le-pow_right two_pos (omega (arith, within, l)) in
         let whole : 2 ^ (top + 1 + (f.scale + other)) ≡ 2 * 2 ^ top * (2 ^ f.scale * 2 ^ other) =
         pow-add 2 (top + 1) (f.scale + other) ∙ ap (λ (n : ℕ). n * 2 ^ (f.scale + other)) (twice_power top)
         ∙ ap (λ (n : ℕ). 2 * 2 ^ top * n) (pow-add 2 f.scale other) in
-        omega (arith, more, split, most, whole)
+        omega (arith, more, pow3 at.place s 127, most, whole)
 
 -- by the next one it is below that power
 pub below_next : (element : ElementFormat) (f : Format) (greatest code : ℕ) → code < 254
     → IsBlockScale element f greatest code → IsWithinNext element f greatest code
 below_next element f greatest code l h = by_place (floor_of element f greatest code h)
   where
-    by_place : ((greatest ≡ 0) × (code ≡ 0)) ⊎ HasScaleAt element f greatest code
-        → IsWithinNext element f greatest code
+    by_place : ((greatest ≡ 0) × (code ≡ 0)) ⊎ HasScaleAt element f greatest code → IsWithinNext element f greatest code
     by_place (inl e) =
         let some = mul-pos (pow_pos ((format_of_element element).scale + max_exp element))
         (mul-pos (pow_pos f.scale) (pow_pos (code + 1))) in
@@ -130,13 +127,11 @@ below_next element f greatest code l h = by_place (floor_of element f greatest c
     by_place (inr at) =
         let s : ℕ = (format_of_element element).scale in
         let top : ℕ = s + max_exp element in
-        let within = at.is.high l in
         let high : greatest * 2 ^ s < 2 ^ (at.place + 1) * 2 ^ s = mul-lt-mul_of_pos_right at.high (pow_pos s) in
-        let less : greatest * 2 ^ s * 2 ^ 127 < 2 ^ (at.place + 1) * 2 ^ s * 2 ^ 127 =
-        mul-lt-mul_of_pos_right high (pow_pos 127) in
+        let less = mul-lt-mul_of_pos_right high (pow_pos 127) in
         let split = pow3 (at.place + 1) s 127 in
         let most : 2 ^ (at.place + 1 + s + 127) ≤ 2 ^ (top + (f.scale + (code + 1))) =
-        pow-le-pow_right two_pos (omega (arith, within)) in
+        pow-le-pow_right two_pos (omega (arith, at.is.high l)) in
         let whole : 2 ^ (top + (f.scale + (code + 1))) ≡ 2 ^ top * (2 ^ f.scale * 2 ^ (code + 1)) =
         pow-add 2 top (f.scale + (code + 1)) ∙ ap (λ (n : ℕ). 2 ^ top * n) (pow-add 2 f.scale (code + 1)) in
         omega (arith, less, split, most, whole)
@@ -152,8 +147,7 @@ pub least_here : (is_past : ℕ → Bool) (code : ℕ) → HasBounds is_past cod
     → (code ≡ 254) ⊎ (is_past code ≡ false) → IsLeastScale is_past code
 least_here is_past code has within enough = record { within = within; enough = enough; least = has.low }
 
-pub least_next : (is_past : ℕ → Bool) (code : ℕ) → HasBounds is_past code → code < 254
-    → is_past code ≡ true
+pub least_next : (is_past : ℕ → Bool) (code : ℕ) → HasBounds is_past code → code < 254 → is_past code ≡ true
     → IsLeastScale is_past (code + 1)
 least_next is_past code has few past =
     record {
@@ -187,15 +181,13 @@ clips_bounds element f greatest code h =
       low = λ other l.
           let past = past_lower element f greatest code other h l in
           let parts : ℕ = 2 ^ f.scale * 2 ^ other in
-          let less : largest g * parts < 2 ^ (top + 1) * parts =
-          mul-lt-mul_of_pos_right end (mul-pos (pow_pos f.scale) (pow_pos other)) in
+          let less = mul-lt-mul_of_pos_right end (mul-pos (pow_pos f.scale) (pow_pos other)) in
           let same : 2 ^ (top + 1) * parts ≡ 2 * 2 ^ top * parts = ap (λ (n : ℕ). n * parts) twice in
           lt-ltb (largest g * parts) (greatest * 2 ^ g.scale * 2 ^ 127) (omega (arith, past, less, same));
       next = λ few.
           let below = below_next element f greatest code few h in
           let parts : ℕ = 2 ^ f.scale * 2 ^ (code + 1) in
-          let most : highest_power element * parts ≤ largest g * parts = mul-le-mul_right parts
-          (power_within element) in
+          let most = mul-le-mul_right parts (power_within element) in
           le-ltb (largest g * parts) (greatest * 2 ^ g.scale * 2 ^ 127) (omega (arith, below, most));
     }
 
@@ -208,18 +200,14 @@ outgrows_bounds element f greatest code h =
     let twice : power ≡ 2 * 2 ^ g.precision = twice_power g.precision in
     record {
       low = λ other l.
-          let past = past_lower element f greatest code other h l in
           let parts : ℕ = 2 ^ f.scale * 2 ^ other in
-          let more : 2 * highest_power element * parts * power ≤ greatest * 2 ^ g.scale * 2 ^ 127 * power =
-          mul-le-mul_right power past in
+          let more = mul-le-mul_right power (past_lower element f greatest code other h l) in
           let less : (power - 1) * (2 * highest_power element * parts) ≤ power * (2 * highest_power element * parts) =
           mul-le-mul_right (2 * highest_power element * parts) (omega (arith, twice)) in
           le-leb (last_middle element * parts) (greatest * 2 ^ g.scale * 2 ^ 127 * power) (omega (arith, more, less));
       next = λ few.
-          let below = below_next element f greatest code few h in
           let parts : ℕ = 2 ^ f.scale * 2 ^ (code + 1) in
-          let less : greatest * 2 ^ g.scale * 2 ^ 127 * power < highest_power element * parts * power =
-          mul-lt-mul_of_pos_right below (pow_pos (g.precision + 1)) in
+          let less = mul-lt-mul_of_pos_right (below_next element f greatest code few h) (pow_pos (g.precision + 1)) in
           let most : power * (highest_power element * parts) ≤ 2 * (power - 1) * (highest_power element * parts) =
           mul-le-mul_right (highest_power element * parts) (omega (arith, twice, one)) in
           lt-leb (last_middle element * parts) (greatest * 2 ^ g.scale * 2 ^ 127 * power) (omega (arith, less, most));
@@ -265,8 +253,7 @@ overflow_bit_is past false exact tiny e = absurd (false≢true e)
 
 -- rounded up, a magnitude is past the largest number if it was so before
 past_upward : (g : Format) (amount parts pick : ℕ) → 0 < parts
-    → IsPick g.precision TowardPositive false amount parts pick
-    → ltb (largest g) pick ≡ ltb (largest g * parts) amount
+    → IsPick g.precision TowardPositive false amount parts pick → ltb (largest g) pick ≡ ltb (largest g * parts) amount
 past_upward g amount parts pick some p =
     let above = p.is_above in
     ⊎_elim
@@ -353,8 +340,7 @@ picked false m u some = ne_eqb (m * u) ((m + 1) * u) (λ e. omega (arith, e, som
 
 -- m has all of p digits: between m and m + 1 at the place c
 between : (p half m c amount parts pick : ℕ) → 2 ^ p ≡ 2 * half → m + 1 ≡ 2 * half → 0 < half → 0 < parts
-    → amount < (m + 1) * 2 ^ c * parts → m * 2 ^ c * parts < amount
-    → IsPick p NearestTiesToEven false amount parts pick
+    → amount < (m + 1) * 2 ^ c * parts → m * 2 ^ c * parts < amount → IsPick p NearestTiesToEven false amount parts pick
     → eqb pick ((m + 1) * 2 ^ c) ≡ leb ((2 * m + 1) * ((m + 1) * 2 ^ c) * parts) (amount * (2 * (m + 1)))
 between p half m c amount parts pick double full one positive below above is =
     let u : ℕ = 2 ^ c * parts in
@@ -373,8 +359,7 @@ between p half m c amount parts pick double full one positive below above is =
     let up : Bool = takes_above NearestTiesToEven false x y (eqb (m % 2) 1) in
     let made = pick_unique p NearestTiesToEven false amount parts pick (cond up (m + 1) m * 2 ^ c) is
     (inexact_pick p NearestTiesToEven false half m c amount parts up enclosed above refl) in
-    let taken : up ≡ leb y x =
-    ap (λ (b : Bool). takes_above NearestTiesToEven false x y b) odd ∙ even_takes x y in
+    let taken : up ≡ leb y x = ap (λ (b : Bool). takes_above NearestTiesToEven false x y b) odd ∙ even_takes x y in
     ap (λ (k : ℕ). eqb k ((m + 1) * 2 ^ c)) made ∙ picked up m (2 ^ c) (pow_pos c) ∙ taken
     ∙ ⊎_elim
     (λ (l : x < y).

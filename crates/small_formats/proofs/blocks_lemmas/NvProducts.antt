@@ -35,8 +35,7 @@ element_by mode code tensor value status single h =
     (sign_over_positive (is_negative_code e2m1fn code)) h)).value_is
 
 -- two fractions that are equal
-joint_fraction : (n q t g k s u : ℕ) → u ≡ k + s
-    → n * (q * t) * 2 ^ g * 2 ^ u ≡ n * t * 2 ^ k * q * 2 ^ g * 2 ^ s
+joint_fraction : (n q t g k s u : ℕ) → u ≡ k + s → n * (q * t) * 2 ^ g * 2 ^ u ≡ n * t * 2 ^ k * q * 2 ^ g * 2 ^ s
 joint_fraction n q t g k s u e =
     let power : 2 ^ u ≡ 2 ^ k * 2 ^ s = ap (λ (x : ℕ). 2 ^ x) e ∙ pow-add 2 k s in
     ap (λ (x : ℕ). n * (q * t) * 2 ^ g * x) power ∙ omega arith

@@ -78,8 +78,7 @@ zero_goes (nan b k) other e none = cc
 pub normal_sign : (x : Datum) → x ≡ finite false (quanta_of x) → is_negative x ≡ false
 normal_sign x e = ap is_negative e
 
-saturated_some : (test : Bool) (m n : ℕ)
-    → cond test (finite false m) (finite false n) ≡ finite false (cond test m n)
+saturated_some : (test : Bool) (m n : ℕ) → cond test (finite false m) (finite false n) ≡ finite false (cond test m n)
 saturated_some true m n = refl
 saturated_some false m n = refl
 
@@ -114,8 +113,7 @@ scale_in_of g mode negative amount parts least quotient other scale status s h o
 -- ---- quotients
 
 -- q quanta of 2 ^ -s over n, where the divisor is n * 2 ^ b quanta
-pub whole_ratio : (q y s n a b : ℕ) → y ≡ n * 2 ^ b
-    → q * 2 ^ a * (y * 2 ^ s) ≡ 2 ^ s * n * (q * 2 ^ (b + a))
+pub whole_ratio : (q y s n a b : ℕ) → y ≡ n * 2 ^ b → q * 2 ^ a * (y * 2 ^ s) ≡ 2 ^ s * n * (q * 2 ^ (b + a))
 whole_ratio q y s n a b e =
     let power : 2 ^ (b + a) ≡ 2 ^ b * 2 ^ a = pow-add 2 b a in
     ap (λ (k : ℕ). q * 2 ^ a * (k * 2 ^ s)) e

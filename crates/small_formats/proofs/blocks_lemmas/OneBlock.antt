@@ -30,8 +30,7 @@ scale_of_number_once element f greatest code other x y =
     let same = logarithm_once f greatest x.exponent y.exponent x.is_logarithm y.is_logarithm in
     x.code_is ∙ ap (λ (e : ℤ). clamped_code (e -ℤ pos (max_exp element))) same ∙ sym y.code_is
 
-block_scale_once : (element : ElementFormat) (f : Format) (greatest : ℕ)
-    → Determines (IsBlockScale element f greatest)
+block_scale_once : (element : ElementFormat) (f : Format) (greatest : ℕ) → Determines (IsBlockScale element f greatest)
 block_scale_once element f greatest =
     match_one Determines (eqb greatest 0) (λ code. code ≡ 0) (IsScaleOfNumber element f greatest)
     (λ code other x y. x ∙ sym y) (scale_of_number_once element f greatest)

@@ -24,8 +24,7 @@ use Rattle.small_formats.proofs.blocks_lemmas.PlacesOnce.{counted_once}
 
 -- ---- scales
 
-scale_in_once : (g : Format) (mode : Round) (amount parts least : ℕ)
-    → Determines (IsScaleIn g mode amount parts least)
+scale_in_once : (g : Format) (mode : Round) (amount parts least : ℕ) → Determines (IsScaleIn g mode amount parts least)
 scale_in_once g mode amount parts least scale other x y =
     let same = pick_unique g.precision mode false amount parts x.pick y.pick x.is_pick y.is_pick in
     x.is ∙ ap (λ (p : ℕ). unless_zero (saturated_value g false p) (finite false least)) same ∙ sym y.is
@@ -40,9 +39,8 @@ tensor_answer_once f values =
     (tensor_once f values) (λ answer other x y. x ∙ sym y)
 
 -- a code below that of the NaN, by what it means
-code_once : (Holds : Datum → Type 0) → Determines Holds
-    → (code other : ℕ) → code < nan_scale → other < nan_scale → Holds (element_datum E4M3FN code)
-    → Holds (element_datum E4M3FN other) → code ≡ other
+code_once : (Holds : Datum → Type 0) → Determines Holds → (code other : ℕ) → code < nan_scale → other < nan_scale
+    → Holds (element_datum E4M3FN code) → Holds (element_datum E4M3FN other) → code ≡ other
 code_once Holds once code other l k x y =
     code_of_element_once E4M3FN code other (omega (arith, l)) (omega (arith, k)) (once _ _ x y)
 
@@ -51,8 +49,7 @@ nv_scale_once f mode tensor greatest code other x y = by_test (eqb greatest 0) x
   where
     by_test : (test : Bool)
         → MatchBool test (code ≡ 0) (IsScaleOfSome f mode tensor greatest (element_datum E4M3FN code))
-        → MatchBool test (other ≡ 0) (IsScaleOfSome f mode tensor greatest (element_datum E4M3FN other))
-        → code ≡ other
+        → MatchBool test (other ≡ 0) (IsScaleOfSome f mode tensor greatest (element_datum E4M3FN other)) → code ≡ other
     by_test true p q = p ∙ sym q
     by_test false p q =
         code_once (IsScaleOfSome f mode tensor greatest) (scale_in_once _ _ _ _ _) code other x.0 y.0 p q
@@ -98,8 +95,7 @@ nv_quantized_once f mode tensor values before =
 
 -- ---- out of a block
 
-pub nv_scaled_once : (g : Format) (mode : Round) (tensor scale code : ℕ)
-    → Once (IsNvScaled g mode tensor scale code)
+pub nv_scaled_once : (g : Format) (mode : Round) (tensor scale code : ℕ) → Once (IsNvScaled g mode tensor scale code)
 nv_scaled_once g mode tensor scale code =
     match_case Once (eqb scale nan_scale) (IsAnswer _ _) (IsDelivered g mode _ _ _) (answer_once _ _)
     (λ v w s t. delivered_once g mode _ _ _ v w s t)

@@ -9,8 +9,7 @@ use Rattle.small_formats.specs.blocks.Places.{BlockCountsHaveRoom, count_raised,
 
 -- ---- a write to a list
 
-pub get_set : {X : Type 0} → (xs : List X) (i : ℕ) (y : X) → i < length xs
-    → slice_get (slice_set xs i y) i ≡ Some y
+pub get_set : {X : Type 0} → (xs : List X) (i : ℕ) (y : X) → i < length xs → slice_get (slice_set xs i y) i ≡ Some y
 get_set [] i y l = absurd (omega (arith, l))
 get_set (x ∷ xs) zero y l = refl
 get_set (x ∷ xs) (suc i) y l = get_set xs i y (omega (arith, l))
@@ -52,8 +51,7 @@ counts_more flags status =
 pub at_most_all : (flag : ℕ) (flags : List ℕ) → count_raised flag flags ≤ length flags
 at_most_all flag [] = omega arith
 at_most_all flag (status ∷ flags) =
-    let rest = at_most_all flag flags in
-    one_more (is_raised flag status) rest
+    one_more (is_raised flag status) (at_most_all flag flags)
   where
     one_more : (test : Bool) → count_raised flag flags ≤ length flags
         → cond test 1 0 + count_raised flag flags ≤ length (status ∷ flags)
@@ -81,15 +79,11 @@ room_for {counts = counts} so_far l =
     let b : counts.overflow ≡ count_raised 4 flags = ap (λ (k : Counts). k.overflow) so_far.counted in
     let d : counts.underflow ≡ count_raised 8 flags = ap (λ (k : Counts). k.underflow) so_far.counted in
     let f : counts.inexact ≡ count_raised 16 flags = ap (λ (k : Counts). k.inexact) so_far.counted in
-    let p = at_most_all 1 flags in
-    let q = at_most_all 4 flags in
-    let r = at_most_all 8 flags in
-    let t = at_most_all 16 flags in
     record {
-      invalid = omega (arith, a, p, size, l);
-      overflow = omega (arith, b, q, size, l);
-      underflow = omega (arith, d, r, size, l);
-      inexact = omega (arith, f, t, size, l);
+      invalid = omega (arith, a, at_most_all 1 flags, size, l);
+      overflow = omega (arith, b, at_most_all 4 flags, size, l);
+      underflow = omega (arith, d, at_most_all 8 flags, size, l);
+      inexact = omega (arith, f, at_most_all 16 flags, size, l);
     }
 
 pub none_written : {A B : Type 0} → (Holds : A → B → ℕ → Type 0) (read : List A) (written : List B)

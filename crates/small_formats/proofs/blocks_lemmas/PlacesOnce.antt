@@ -9,11 +9,9 @@ pub rest_in_places : {A B : Type 0} → (Holds : A → B → ℕ → Type 0) (x 
     (status : ℕ) (flags : List ℕ) → AreElementsInPlaces Holds (x ∷ xs) (y ∷ ys) (status ∷ flags)
     → AreElementsInPlaces Holds xs ys flags
 rest_in_places Holds x xs y ys status flags all =
-    let size = all.same_size in
-    let count = all.flags_size in
     record {
-      same_size = omega (arith, size);
-      flags_size = omega (arith, count);
+      same_size = omega (arith, all.same_size);
+      flags_size = omega (arith, all.flags_size);
       each = λ place a b s. all.each (suc place) a b s;
     }
 

@@ -34,5 +34,4 @@ pub converted_scale : (g : Format) (scale code n : ℕ) (value : Datum) (status 
 converted_scale g scale code n value status loses l e h same m =
     let off : eqb code 255 ≡ false = ne_eqb code 255 (λ z. omega (arith, l, z)) in
     let at : scale_of scale ≡ finite false (2 ^ code) = ap scale_of e ∙ rw off refl in
-    let kept = subst (λ (d : Datum). IsExactlyConverted scale_format g d value status loses) at h in
-    (kept n same m).value_is
+    (subst (λ (d : Datum). IsExactlyConverted scale_format g d value status loses) at h n same m).value_is

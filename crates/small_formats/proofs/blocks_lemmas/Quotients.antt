@@ -43,8 +43,7 @@ saturated_is g negative false leads pick value result z v kept past =
 
 pub saturated_of : (g : Format) (mode : Round) (negative : Bool) (amount parts status : ℕ) (value result : Datum)
     → zero_sign g.nonfinite negative ≡ negative → IsDelivered g mode negative amount parts value status
-    → (is_finite value ≡ true → result ≡ value)
-    → (is_finite value ≡ false → result ≡ finite negative (largest g))
+    → (is_finite value ≡ true → result ≡ value) → (is_finite value ≡ false → result ≡ finite negative (largest g))
     → IsSaturatedIn g mode negative amount parts result status
 saturated_of g mode negative amount parts status value result z h kept past = record {
   pick = h.pick;
@@ -76,10 +75,9 @@ quotient_number f h g mode (finite b m) y value status number is some q =
 quotient_number f h g mode (infinite b) y value status number is some q = cc
 quotient_number f h g mode (nan b s) y value status number is some q = cc
 
-pub quotient_across : (f h g : Format) (mode : Round) (x y value : Datum) (status amount parts : ℕ)
-    → 0 < g.precision → is_finite x ≡ true → y ≡ finite false (quanta_of y) → 0 < quanta_of y
-    → IsQuotientTo f h g mode x y value status → 0 < parts
-    → amount * (quanta_of y * 2 ^ f.scale) ≡ parts * (quanta_of x * 2 ^ (h.scale + g.scale))
+pub quotient_across : (f h g : Format) (mode : Round) (x y value : Datum) (status amount parts : ℕ) → 0 < g.precision
+    → is_finite x ≡ true → y ≡ finite false (quanta_of y) → 0 < quanta_of y → IsQuotientTo f h g mode x y value status
+    → 0 < parts → amount * (quanta_of y * 2 ^ f.scale) ≡ parts * (quanta_of x * 2 ^ (h.scale + g.scale))
     → IsDelivered g mode (is_negative x) amount parts value status
 quotient_across f h g mode x y value status amount parts precise number is some q p e =
     delivered_across g mode (is_negative x) amount parts (quanta_of x * 2 ^ (h.scale + g.scale))

@@ -6,8 +6,7 @@ use Rattle.apfloat_model.specs.rounding.Rounding.{IsDelivered}
 use Rattle.round_to_odd.proofs.{SameDeliveries.same_delivered, Sides.SameSides}
 
 -- a / b and c / d are on the same side of every point
-pub same_fraction : (digits fine a b c d : ℕ) → 0 < b → 0 < d → a * d ≡ c * b
-    → SameSides digits fine a b c d
+pub same_fraction : (digits fine a b c d : ℕ) → 0 < b → 0 < d → a * d ≡ c * b → SameSides digits fine a b c d
 same_fraction digits fine a b c d p q e =
     let both : a * fine * d ≡ c * fine * b =
     let x : a * d * fine ≡ c * b * fine = ap (λ (y : ℕ). y * fine) e in omega (arith, x) in

@@ -21,8 +21,7 @@ top_below p s P S few room =
     let v : 2 ^ p * 2 ^ j ≡ ((2 ^ p - 1) + 1) * 2 ^ j = ap (λ (n : ℕ). n * 2 ^ j) w in
     omega (arith, v, whole, most, one) in
     let a : (2 ^ p - 1) * 2 ^ j * 2 ^ S ≤ (2 ^ P - 1) * 2 ^ S = mul-le-mul_right (2 ^ S) less in
-    let b : (2 ^ p - 1) * 2 ^ s ≡ (2 ^ p - 1) * 2 ^ j * 2 ^ S =
-    ap (λ (n : ℕ). (2 ^ p - 1) * n) e ∙ omega arith in
+    let b : (2 ^ p - 1) * 2 ^ s ≡ (2 ^ p - 1) * 2 ^ j * 2 ^ S = ap (λ (n : ℕ). (2 ^ p - 1) * n) e ∙ omega arith in
     omega (arith, a, b))
     (λ (l : s ≤ S).
     let low : 2 ^ s ≤ 2 ^ S = pow-le-pow_right two_pos l in

@@ -17,12 +17,10 @@ all_cons P x xs p h (suc k) d l = h k d (omega (arith, l))
 
 pub all_append : {X : Type 0} → (P : X → Type 0) (xs ys : List X) → All P xs → All P ys → All P (xs ++ ys)
 all_append P [] ys h g = g
-all_append P (x ∷ xs) ys h g =
-    all_cons P x (xs ++ ys) (all_first P x xs h) (all_append P xs ys (all_rest P x xs h) g)
+all_append P (x ∷ xs) ys h g = all_cons P x (xs ++ ys) (all_first P x xs h) (all_append P xs ys (all_rest P x xs h) g)
 
 -- one more of a list
-pub all_more : {X : Type 0} → (P : X → Type 0) (xs more : List X) (x : X) → All P xs → P x
-    → more ≡ xs ++ x ∷ []
+pub all_more : {X : Type 0} → (P : X → Type 0) (xs more : List X) (x : X) → All P xs → P x → more ≡ xs ++ x ∷ []
     → All P more
 all_more {X} P xs more x h p e =
     subst (λ (ys : List X). All P ys) (sym e) (all_append P xs (x ∷ []) h (all_cons P x [] p (all_none P)))

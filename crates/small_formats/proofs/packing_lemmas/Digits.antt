@@ -22,8 +22,7 @@ number_append bits (x ∷ xs) ys =
 
 -- digits after as many bits in both
 pub groups_more : (bits : ℕ) (front bytes codes group : List ℕ) → 8 * length front ≡ bits * length codes
-    → number_of_digits 8 front ≡ number_of_digits bits codes
-    → number_of_digits 8 bytes ≡ number_of_digits bits group
+    → number_of_digits 8 front ≡ number_of_digits bits codes → number_of_digits 8 bytes ≡ number_of_digits bits group
     → number_of_digits 8 (front ++ bytes) ≡ number_of_digits bits (codes ++ group)
 groups_more bits front bytes codes group places so_far here =
     number_append 8 front bytes

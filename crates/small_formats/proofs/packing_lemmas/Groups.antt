@@ -14,16 +14,14 @@ pub record ArePackedTo (bits : ℕ) (codes bytes : List ℕ) (code byte : ℕ) :
 -- ---- one item more of a group
 
 -- it is written
-pub set_next : (xs front group : List ℕ) (n next y : ℕ) → next ≡ n + 1 → n < length xs
-    → take n xs ≡ front ++ group
+pub set_next : (xs front group : List ℕ) (n next y : ℕ) → next ≡ n + 1 → n < length xs → take n xs ≡ front ++ group
     → take next (slice_set xs n y) ≡ front ++ (group ++ y ∷ [])
 set_next xs front group n next y e l so_far =
     ap (λ (m : ℕ). take m (slice_set xs n y)) e ∙ take_more_set xs n y l
     ∙ ap (λ (zs : List ℕ). zs ++ y ∷ []) so_far ∙ append_assoc front group (y ∷ [])
 
 -- it is read
-pub read_next : (xs front group : List ℕ) (n next d : ℕ) → next ≡ n + 1 → n < length xs
-    → take n xs ≡ front ++ group
+pub read_next : (xs front group : List ℕ) (n next d : ℕ) → next ≡ n + 1 → n < length xs → take n xs ≡ front ++ group
     → take next xs ≡ front ++ (group ++ get_or xs n d ∷ [])
 read_next xs front group n next d e l so_far =
     ap (λ (m : ℕ). take m xs) e ∙ take_more xs n d l
@@ -32,17 +30,15 @@ read_next xs front group n next d e l so_far =
 -- ---- one group more
 
 pub one_more : (bits : ℕ) (codes bytes more_codes more_bytes group three : List ℕ) (code byte next last : ℕ)
-    → code ≤ length codes → byte ≤ length bytes → 8 * byte ≡ bits * code
-    → length more_codes ≡ length codes → length more_bytes ≡ length bytes
-    → take next more_codes ≡ take code codes ++ group → take last more_bytes ≡ take byte bytes ++ three
-    → number_of_digits 8 three ≡ number_of_digits bits group → ArePackedTo bits codes bytes code byte
-    → ArePackedTo bits more_codes more_bytes next last
+    → code ≤ length codes → byte ≤ length bytes → 8 * byte ≡ bits * code → length more_codes ≡ length codes
+    → length more_bytes ≡ length bytes → take next more_codes ≡ take code codes ++ group
+    → take last more_bytes ≡ take byte bytes ++ three → number_of_digits 8 three ≡ number_of_digits bits group
+    → ArePackedTo bits codes bytes code byte → ArePackedTo bits more_codes more_bytes next last
 one_more bits codes bytes more_codes more_bytes group three code byte next last l k places size count e f same so_far =
-    let bits_are = so_far.same_bits in
     let front : length (take byte bytes) ≡ byte = length-take-le byte bytes k in
     let before : length (take code codes) ≡ code = length-take-le code codes l in
     record {
-      same_bits = ap (λ (n : ℕ). 8 * n) count ∙ bits_are ∙ ap (λ (n : ℕ). bits * n) (sym size);
+      same_bits = ap (λ (n : ℕ). 8 * n) count ∙ so_far.same_bits ∙ ap (λ (n : ℕ). bits * n) (sym size);
       same_number = ap (number_of_digits 8) f
           ∙ groups_more bits (take byte bytes) three (take code codes) group
           (ap (λ (n : ℕ). 8 * n) front ∙ places
@@ -52,8 +48,7 @@ one_more bits codes bytes more_codes more_bytes group three code byte next last 
 
 -- ---- the numbers of a group
 
-pub byte_of_fours : (byte : ℕ)
-    → number_of_digits 8 (byte ∷ []) ≡ number_of_digits 4 ((byte % 16) ∷ (byte / 16) ∷ [])
+pub byte_of_fours : (byte : ℕ) → number_of_digits 8 (byte ∷ []) ≡ number_of_digits 4 ((byte % 16) ∷ (byte / 16) ∷ [])
 byte_of_fours byte =
     let whole : byte / 16 * 16 + byte % 16 ≡ byte = div-add-mod' byte 16 in
     omega (arith, whole)

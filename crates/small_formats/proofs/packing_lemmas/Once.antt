@@ -40,13 +40,9 @@ digits_once bits (x ∷ xs) (y ∷ ys) size p q e =
 pub packed_once : ArePackedOnce
 packed_once = record {
   bytes = λ bits codes bytes others p q x y.
-      let one = x.same_bits in
-      let other = y.same_bits in
-      digits_once 8 bytes others (omega (arith, one, other)) p q (x.same_number ∙ sym y.same_number);
+      digits_once 8 bytes others (omega (arith, x.same_bits, y.same_bits)) p q (x.same_number ∙ sym y.same_number);
   codes = λ bits codes others bytes some x y.
-      let one = x.same_bits in
-      let other = y.same_bits in
-      let times : length codes * bits ≡ length others * bits = omega (arith, one, other) in
+      let times : length codes * bits ≡ length others * bits = omega (arith, x.same_bits, y.same_bits) in
       digits_once bits codes others (eq_of_mul-eq-mul_right bits some (length codes) (length others) times) x.codes_fit
       y.codes_fit (sym x.same_number ∙ y.same_number);
 }

@@ -10,8 +10,7 @@ use Rattle.small_formats.specs.declared.saturation.saturation.{FiniteNan.TheVari
 use Rattle.small_formats.specs.declared.saturation.saturation.ValueClass.TheVariants.{Number, Infinity, NotANumber}
 use Rattle.small_formats.specs.saturation.Saturation.{IsFiniteConversion, class_of, saturated}
 
-pub nan_kept : (f g : Format) (mode : Round) (x value : Datum) (status : ℕ) (loses : Bool)
-    → class_of x ≡ NotANumber
+pub nan_kept : (f g : Format) (mode : Round) (x value : Datum) (status : ℕ) (loses : Bool) → class_of x ≡ NotANumber
     → IsConversion f g mode x value status loses → IsFiniteConversion Kept f g mode x value status loses
 nan_kept f g mode (nan b s) value status loses e h = h
 nan_kept f g mode (infinite b) value status loses e h = cc
@@ -52,8 +51,7 @@ number_class : (none : Bool) → Number ≡ class_in (cond none Zero Normal)
 number_class true = refl
 number_class false = refl
 
-pub class_of_category : (x : Datum) (category : Category) → category_of x ≡ category
-    → class_of x ≡ class_in category
+pub class_of_category : (x : Datum) (category : Category) → category_of x ≡ category → class_of x ≡ class_in category
 class_of_category (nan b s) category e = ap class_in e
 class_of_category (infinite b) category e = ap class_in e
 class_of_category (finite b n) category e = number_class (eqb n 0) ∙ ap class_in e

@@ -80,8 +80,7 @@ status_of f past leads amount parts pick =
 
 status_is : (f : Format) (mode : Round) (negative leads : Bool) (amount parts pick : ℕ) → f.ieee_flags ≡ false
     → leads_out mode negative ≡ leads
-    → delivered_status f mode negative amount parts pick
-    ≡ status_of f (ltb (largest f) pick) leads amount parts pick
+    → delivered_status f mode negative amount parts pick ≡ status_of f (ltb (largest f) pick) leads amount parts pick
 unfolding status_of status_by tiny_by
 status_is f mode negative leads amount parts pick plain out =
     let past : Bool = ltb (largest f) pick in

@@ -50,9 +50,7 @@ pick_told mode b pick value is =
           (λ (l : pick ≤ 253952).
           let inside : ltb 253952 pick ≡ false = le-ltb 253952 pick l in
           let number : is_finite value ≡ true = ap is_finite is ∙ rw inside (quanta_finite (eqb pick 0) b pick) in
-          let at = more number in
-          let most = (shown number).0 in
-          omega (arith, at, most))
+          omega (arith, more number, (shown number).0))
           (cases_lt 253952 pick);
     }
 
@@ -66,18 +64,14 @@ odd_least below above l = either (is_odd_below below above)
     either true = omega arith
     either false = l
 
-ordered : (below above amount parts : ℕ) → 0 < parts → IsBelow 5 below amount parts
-    → IsAbove 5 above amount parts
+ordered : (below above amount parts : ℕ) → 0 < parts → IsBelow 5 below amount parts → IsAbove 5 above amount parts
     → below ≤ above
 ordered below above amount parts some x y =
-    let under = x.not_above in
-    let over = y.not_below in
-    let between : below * parts ≤ above * parts = omega (arith, under, over) in
+    let between : below * parts ≤ above * parts = omega (arith, x.not_above, y.not_below) in
     le_of_mul-le-mul_right between some
 
 within_delivered : (mode : ConversionRound) (b : Bool) (amount parts : ℕ) (value : Datum) (status : ℕ) → 0 < parts
-    → is_finite value ≡ true → quanta_of value ≤ 992
-    → IsDeliveredBy wide_format mode b amount parts value status
+    → is_finite value ≡ true → quanta_of value ≤ 992 → IsDeliveredBy wide_format mode b amount parts value status
     → IsDeliveredBy e3m4_format mode b amount parts value status
 within_delivered (Ieee mode) b amount parts value status some number low d =
     narrow_delivered mode b amount parts value status d
@@ -97,12 +91,7 @@ within_delivered ToOdd b amount parts value status some number low d =
 within_delivered (Stochastic bits) b amount parts value status some number low d =
     let most = (pick_told NearestTiesToEven b d.pick value d.value_is).within number low in
     let same = within_both NearestTiesToEven b amount parts d.pick most in
-    record {
-      pick = d.pick;
-      is_pick = d.is_pick;
-      value_is = d.value_is ∙ same.0;
-      status_is = d.status_is ∙ same.1;
-    }
+    record { pick = d.pick; is_pick = d.is_pick; value_is = d.value_is ∙ same.0; status_is = d.status_is ∙ same.1 }
 
 -- ---- past 15.5
 
@@ -138,8 +127,7 @@ past_delivered : (mode : ConversionRound) (b : Bool) (amount parts : ℕ) (given
     → 0 < parts → (is_finite given ≡ true → 992 < quanta_of given)
     → IsDeliveredBy wide_format mode b amount parts given flags
     → value ≡ cond (leads_out (ieee_mode mode) b) (infinite b) (finite b 992)
-    → status ≡ cond (leads_out (ieee_mode mode) b) 20 16
-    → IsDeliveredBy e3m4_format mode b amount parts value status
+    → status ≡ cond (leads_out (ieee_mode mode) b) 20 16 → IsDeliveredBy e3m4_format mode b amount parts value status
 past_delivered (Ieee mode) b amount parts given value flags status some more d v s =
     past_narrow mode b amount parts given value flags status d ((pick_told mode b d.pick given d.value_is).past more)
     v s
@@ -163,15 +151,13 @@ past_delivered (Stochastic bits) b amount parts given value flags status some mo
 -- ---- the conversion
 
 number_of : (f g : Format) (mode : ConversionRound) (b : Bool) (n : ℕ) (value : Datum) (status : ℕ) (loses : Bool)
-    → IsConversionBy f g mode (finite b (suc n)) value status loses
-    → IsNumberBy f g mode b (suc n) value status loses
+    → IsConversionBy f g mode (finite b (suc n)) value status loses → IsNumberBy f g mode b (suc n) value status loses
 number_of f g mode b n value status loses x =
     MatchBool-at_false _ (IsNumberBy f g mode b (suc n) value status loses) (some_quanta n) x
 
 pub within_by : (f : Format) (mode : ConversionRound) (x given : Datum) (status code : ℕ) (loses : Bool)
     → is_finite x ≡ true → IsSided code given → code % 256 < 112
-    → IsConversionBy f wide_format mode x given status loses
-    → IsConversionBy f e3m4_format mode x given status loses
+    → IsConversionBy f wide_format mode x given status loses → IsConversionBy f e3m4_format mode x given status loses
 within_by f mode (finite b zero) given status code loses number side low h =
     within_converted f (ieee_mode mode) (finite b zero) given status code loses number side low h
 within_by f mode (finite b (suc n)) given status code loses number side low h =
@@ -187,10 +173,8 @@ within_by f mode (infinite b) given status code loses number side low h = absurd
 within_by f mode (nan b s) given status code loses number side low h = absurd (false≢true number)
 
 pub past_by : (f : Format) (mode : ConversionRound) (x given value : Datum) (flags status code : ℕ) (lost : Bool)
-    → is_finite x ≡ true → IsSided code given → 112 ≤ code % 256
-    → IsConversionBy f wide_format mode x given flags lost
-    → value
-    ≡ cond (leads_out (ieee_mode mode) (is_negative x)) (infinite (is_negative x)) (finite (is_negative x) 992)
+    → is_finite x ≡ true → IsSided code given → 112 ≤ code % 256 → IsConversionBy f wide_format mode x given flags lost
+    → value ≡ cond (leads_out (ieee_mode mode) (is_negative x)) (infinite (is_negative x)) (finite (is_negative x) 992)
     → status ≡ cond (leads_out (ieee_mode mode) (is_negative x)) 20 16
     → IsConversionBy f e3m4_format mode x value status true
 past_by f mode (finite b zero) given value flags status code lost number side high h v s =

@@ -50,19 +50,11 @@ randomly_delivered f bits negative away amount parts value status plain some x d
     p.is ∙ ap (λ (b : Bool). cond b p.above p.below) (takes_direction away negative odd by to)
     ∙ ap (λ (n : ℕ). cond away n p.below) high ∙ ap (λ (n : ℕ). cond away x.above n) low in
     let takes : Bool = reaches bits.digits bits.random (amount - x.below * parts) (x.above * parts - amount) in
-    let under = x.is_below.not_above in
-    let over = x.is_above.not_below in
-    let between : x.below * parts ≤ x.above * parts = omega (arith, under, over) in
+    let between : x.below * parts ≤ x.above * parts = omega (arith, x.is_below.not_above, x.is_above.not_below) in
     let order : x.below ≤ x.above = le_of_mul-le-mul_right between some in
     record {
       pick = cond takes x.above x.below;
-      is_pick = record {
-        below = x.below;
-        above = x.above;
-        is_below = x.is_below;
-        is_above = x.is_above;
-        is = refl;
-      };
+      is_pick = record { below = x.below; above = x.above; is_below = x.is_below; is_above = x.is_above; is = refl };
       value_is =
           d.value_is ∙ ap (λ (n : ℕ). delivered_value f mode negative n) picked
           ∙ value_in_direction f negative away takes x.below x.above order x.is;

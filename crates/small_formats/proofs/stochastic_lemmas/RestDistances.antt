@@ -14,8 +14,7 @@ record AreDistances (by to r k v w : ℕ) : Type 0 where
   both : (by + to) * v ≡ k * w
 
 distances : (q k r low high amount v w : ℕ) → low ≤ amount → amount ≤ high → amount * v ≡ (q * k + r) * w
-    → low * v ≡ q * (k * w) → high * v ≡ (q + 1) * (k * w)
-    → AreDistances (amount - low) (high - amount) r k v w
+    → low * v ≡ q * (k * w) → high * v ≡ (q + 1) * (k * w) → AreDistances (amount - low) (high - amount) r k v w
 distances q k r low high amount v w from to is lower upper =
     let by : ℕ = amount - low in
     let rest : ℕ = high - amount in
@@ -50,14 +49,12 @@ direction_is f digits random half number k q c amount parts u d past away some e
     let next : ℕ = (q + 1) * 2 ^ c in
     let r : ℕ = number % 2 ^ k in
     let w : ℕ = parts * 2 ^ u in
-    let sum : number ≡ q * 2 ^ k + r =
-    sym (div-add-mod' number (2 ^ k)) ∙ ap (λ (n : ℕ). n * 2 ^ k + r) (sym of) in
+    let sum : number ≡ q * 2 ^ k + r = sym (div-add-mod' number (2 ^ k)) ∙ ap (λ (n : ℕ). n * 2 ^ k + r) (sym of) in
     let whole : amount * 2 ^ d ≡ (q * 2 ^ k + r) * w = a ∙ ap (λ (n : ℕ). n * w) sum in
     let unit : 2 ^ k * w ≡ 2 ^ c * parts * 2 ^ d = same_unit parts k u d c e in
     let at : (n : ℕ) → n * 2 ^ c * parts * 2 ^ d ≡ n * (2 ^ k * w) = λ n.
     let x : n * (2 ^ k * w) ≡ n * (2 ^ c * parts * 2 ^ d) = ap (λ (y : ℕ). n * y) unit in omega (arith, x) in
     let from = i.from in
-    let to = i.to in
     let known : (above : ℕ) → AreDistances (amount - low * parts) (above * parts - amount) r (2 ^ k) (2 ^ d) w
     → away ≡ (ltb (largest f) low || reaches digits random (amount - low * parts) (above * parts - amount)) =
     λ above x. is ∙ ap (λ (b : Bool). b || leb (2 ^ digits) (2 ^ digits * r / 2 ^ k + random)) out
@@ -71,7 +68,7 @@ direction_is f digits random half number k q c amount parts u d past away some e
       is_below = below_is f.precision half q c amount parts i;
       is_above = above_is_next f.precision half q c amount parts i l;
       is = known next
-          (distances q (2 ^ k) r (low * parts) (next * parts) amount (2 ^ d) w from (omega (arith, to)) whole (at q)
+          (distances q (2 ^ k) r (low * parts) (next * parts) amount (2 ^ d) w from (omega (arith, i.to)) whole (at q)
           (at (q + 1)));
     })
     (λ (l : amount ≤ low * parts).

@@ -21,8 +21,7 @@ pub record IsScaleOfNumber (element : ElementFormat) (f : Format) (greatest code
 
 -- of a block whose greatest magnitude is that many quanta of f; that of zeros is the least one
 abbrev pub IsBlockScale : ElementFormat → Format → ℕ → ℕ → Type 0
-IsBlockScale element f greatest code =
-    MatchBool (eqb greatest 0) (code ≡ 0) (IsScaleOfNumber element f greatest code)
+IsBlockScale element f greatest code = MatchBool (eqb greatest 0) (code ≡ 0) (IsScaleOfNumber element f greatest code)
 
 -- ---- other rules: the least scale by which the greatest magnitude is not past a bound, or the largest one
 

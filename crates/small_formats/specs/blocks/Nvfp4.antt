@@ -50,8 +50,7 @@ pub record IsScaledTensor (f : Format) (values : List Datum) (answer : Result Da
   pub is_scale : IsTensorScale f (greatest_magnitude values) scale
 
 abbrev pub IsTensorAnswer : Format → List Datum → Result Datum Nvfp4Error → Type 0
-IsTensorAnswer f values answer =
-    MatchBool (are_finite values) (IsScaledTensor f values answer) (answer ≡ Err NotFinite)
+IsTensorAnswer f values answer = MatchBool (are_finite values) (IsScaledTensor f values answer) (answer ≡ Err NotFinite)
 
 abbrev pub nan_scale : ℕ
 nan_scale = 127
@@ -108,8 +107,7 @@ pub record IsNvWritten (f : Format) (mode : Round) (tensor : ℕ) (values : List
   pub is_block : IsNvBlock f mode tensor values after block
 
 -- the answer of a call, and the codes before and after it; the first error is returned
-abbrev pub IsNvQuantized : Format → Round → Datum → List Datum → List ℕ → List ℕ
-    → Result Block Nvfp4Error → Type 0
+abbrev pub IsNvQuantized : Format → Round → Datum → List Datum → List ℕ → List ℕ → Result Block Nvfp4Error → Type 0
 IsNvQuantized f mode tensor values before after answer =
     MatchBool (eqb (length values) 0) (IsRefused Empty before after answer)
     (MatchBool (eqb (length before) (length values))

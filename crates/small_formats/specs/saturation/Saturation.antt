@@ -49,7 +49,6 @@ IsFiniteConversion nans f g mode (finite b n) value status loses_info =
 
 abbrev pub IsConversionBy : Overflow → Format → Format → Round → Datum → Datum → ℕ → Bool → Type 0
 IsConversionBy Rounded f g mode x value status loses_info = IsConversion f g mode x value status loses_info
-IsConversionBy Saturated f g mode x value status loses_info =
-    IsSaturatedConversion f g mode x value status loses_info
+IsConversionBy Saturated f g mode x value status loses_info = IsSaturatedConversion f g mode x value status loses_info
 IsConversionBy (Finite nans) f g mode x value status loses_info =
     IsFiniteConversion nans f g mode x value status loses_info

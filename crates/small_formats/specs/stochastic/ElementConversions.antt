@@ -9,8 +9,7 @@ use Rattle.small_formats.specs.{Unsigned.unsigned_datum, stochastic.ModeConversi
 
 -- As `IsUnsigned`. What is not rounded becomes what it does in each mode of IEEE 754.
 abbrev pub IsUnsignedBy : Format → ConversionRound → Datum → ℕ → ℕ → Bool → Type 0
-IsUnsignedBy f mode (nan b s) code status loses_info =
-    IsUnsigned f (ieee_mode mode) (nan b s) code status loses_info
+IsUnsignedBy f mode (nan b s) code status loses_info = IsUnsigned f (ieee_mode mode) (nan b s) code status loses_info
 IsUnsignedBy f mode (infinite b) code status loses_info =
     IsUnsigned f (ieee_mode mode) (infinite b) code status loses_info
 IsUnsignedBy f mode (finite b n) code status loses_info =

@@ -23,14 +23,13 @@ long_addend : (low : ℕ) (mode : Round) (negative : Bool) (addend : LongAddend)
     → addend.always ≡ added_for mode negative (2 ^ (low - 1)) → addend.if_odd ≡ 2 ^ odd_for mode - 1
     → IsLongAddend low mode negative addend
 long_addend low mode negative addend some always if_odd =
-    let less = added_below mode negative (2 ^ (low - 1)) (pow_pos (low - 1)) in
     let twice : 2 * 2 ^ (low - 1) ≡ 2 ^ low = twice_half low some in
     let one = odd_most mode in
     record {
       rounds = record {
         rounds = λ t. addend_rounds low mode negative addend.always addend.if_odd some always if_odd t;
       };
-      below = omega (arith, less, twice, always, if_odd);
+      below = omega (arith, added_below mode negative (2 ^ (low - 1)) (pow_pos (low - 1)), twice, always, if_odd);
       one = omega (arith, one, if_odd);
     }
 

@@ -11,9 +11,8 @@ overflow_mul-result g c =
 
 pub returns-clause-full : goal.returns-clause-full
 returns-clause-full g c =
-    let some = g.S.Flagged.lawful.parameters.precision_low in
     lengthened_full g.T.Flagged.PRECISION g.S.Flagged.PRECISION c.args.significand c.power_of-power.result
-    (omega (arith, some)) c.requires.shorter c.requires.full
+    (omega (arith, g.S.Flagged.lawful.parameters.precision_low)) c.requires.shorter c.requires.full
     (rw c.more_digits-places.ensures at c.power_of-power.ensures.value)
 
 pub returns-clause-fits : goal.returns-clause-fits

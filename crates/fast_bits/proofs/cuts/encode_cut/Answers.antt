@@ -10,13 +10,11 @@ next_word_if-picked-requires g c = word_room g.S.Flagged.PRECISION c.args.kept c
 
 pub bits_at-bits-requires-clause-full : goal.bits_at-bits-requires-clause-full
 bits_at-bits-requires-clause-full g c =
-    let low = moved_low c.moves_past-moved.result c.args.kept in
-    rw c.next_word_if-picked.ensures (omega (arith, low, c.requires.full))
+    rw c.next_word_if-picked.ensures (omega (arith, moved_low c.moves_past-moved.result c.args.kept, c.requires.full))
 
 pub bits_at-bits-requires-clause-fits : goal.bits_at-bits-requires-clause-fits
 bits_at-bits-requires-clause-fits g c =
-    let high = moved_high c.moves_past-moved.result c.args.kept in
-    rw c.next_word_if-picked.ensures (omega (arith, high, c.requires.fits))
+    rw c.next_word_if-picked.ensures (omega (arith, moved_high c.moves_past-moved.result c.args.kept, c.requires.fits))
 
 pub returns : goal.returns
 returns g c = λ amount parts some enclosed stands. record {

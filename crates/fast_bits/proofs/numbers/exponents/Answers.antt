@@ -5,5 +5,4 @@ use Rattle.fast_bits.proofs.numbers.exponents.Goals as goal
 
 pub overflow_shl-result : goal.overflow_shl-result
 overflow_shl-result g c =
-    let few = few_bits (constants_of g.S.Flagged) g.S.Flagged.lawful c.requires in
-    omega (arith, few, c.EXP_BITS.ensures)
+    omega (arith, few_bits (constants_of g.S.Flagged) g.S.Flagged.lawful c.requires, c.EXP_BITS.ensures)

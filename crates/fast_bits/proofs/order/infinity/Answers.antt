@@ -10,5 +10,4 @@ returns g c =
     let f = constants_of g.S.Flagged in
     let fits = infinity_fits f (lawful_interchange f g.S.Flagged.lawful c.requires.bits) c.requires.implied
     c.requires.word in
-    let ones = c.from.ensures ∙ ap (λ (n : ℕ). n - 1) c.exponents.ensures in
-    rw (ones, c.PRECISION.ensures) (mod-eq_of_lt fits)
+    rw (c.from.ensures ∙ ap (λ (n : ℕ). n - 1) c.exponents.ensures, c.PRECISION.ensures) (mod-eq_of_lt fits)

@@ -4,5 +4,4 @@ use Rattle.fast_bits.proofs.products.lower_digits.Goals as goal
 
 pub overflow_cast-result : goal.overflow_cast-result
 overflow_cast-result c =
-    let room = lower_fits c.args.precision c.args.product c.requires in
-    rw c.power_of_two.ensures (omega (arith, room))
+    rw c.power_of_two.ensures (omega (arith, lower_fits c.args.precision c.args.product c.requires))

@@ -14,16 +14,14 @@ root_if_right-requires c =
 
 pub returns-in-Some-clause-full : goal.returns-in-Some-clause-full
 returns-in-Some-clause-full c =
-    let stands = c.in-Some.ensures in
     let root = c.in-Some.root in
     root_full c.args.precision (c.args.precision - 1 + c.args.odd) c.args.significand root.kept
     (loss_at root.rest 2) c.requires.some (omega arith) (omega (arith, c.requires.some, c.requires.odd))
-    c.requires.fits c.requires.full (rw c.with_zeros-number.ensures at stands)
+    c.requires.fits c.requires.full (rw c.with_zeros-number.ensures at c.in-Some.ensures)
 
 pub returns-in-Some-clause-fits : goal.returns-in-Some-clause-fits
 returns-in-Some-clause-fits c =
-    let stands = c.in-Some.ensures in
     let root = c.in-Some.root in
     root_fits c.args.precision (c.args.precision - 1 + c.args.odd) c.args.significand root.kept
     (loss_at root.rest 2) (omega (arith, c.requires.some, c.requires.odd)) c.requires.fits
-    (rw c.with_zeros-number.ensures at stands)
+    (rw c.with_zeros-number.ensures at c.in-Some.ensures)

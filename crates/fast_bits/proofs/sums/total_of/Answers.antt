@@ -5,9 +5,8 @@ use Rattle.fast_bits.proofs.sums.total_of.Goals as goal
 
 pub overflow_sub-result : goal.overflow_sub-result
 overflow_sub-result c =
-    let cut = c.cut_to_odd-cut.ensures in
     cut_below c.args.high c.args.low c.cut_to_odd-cut.result c.args.gap c.requires.high_full c.requires.low_fits
-    c.requires.order cut
+    c.requires.order c.cut_to_odd-cut.ensures
 
 pub returns-then-unlike-clause-apart : goal.returns-then-unlike-clause-apart
 returns-then-unlike-clause-apart c = λ u.

@@ -11,11 +11,8 @@ moved_below m places fits few =
     let less : m * 2 ^ places < 2 ^ 24 * 2 ^ places = mul-lt-mul_of_pos_right fits (pow_pos places) in
     omega (arith, unit, less)
 
-moved_whole : (m places : ℕ) → m < 2 ^ 24 → places ≤ 32
-    → m * 2 ^ places % 18446744073709551616 ≡ m * 2 ^ places
-moved_whole m places fits few =
-    let below = moved_below m places fits few in
-    mod-eq_of_lt (omega (arith, below))
+moved_whole : (m places : ℕ) → m < 2 ^ 24 → places ≤ 32 → m * 2 ^ places % 18446744073709551616 ≡ m * 2 ^ places
+moved_whole m places fits few = mod-eq_of_lt (omega (arith, moved_below m places fits few))
 
 pub returns-clause-is : goal.returns-clause-is
 returns-clause-is c =

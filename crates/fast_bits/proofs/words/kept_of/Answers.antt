@@ -9,9 +9,8 @@ kept_most : (digits always if_odd low : ℕ) → 32 ≤ low → digits < 2 ^ 56 
     → (digits + (always + bit_and (digits / 2 ^ low) if_odd)) / 2 ^ low < 2 ^ 24 + 2
 kept_most digits always if_odd low wide few below one =
     let unit : 2 ^ 32 ≤ 2 ^ low = pow-le-pow_right two_pos wide in
-    let odd = and_le_r (digits / 2 ^ low) if_odd in
     div_below (digits + (always + bit_and (digits / 2 ^ low) if_odd)) (2 ^ low) (2 ^ 24 + 2) (pow_pos low)
-    (omega (arith, unit, odd, few, below, one))
+    (omega (arith, unit, and_le_r (digits / 2 ^ low) if_odd, few, below, one))
 
 pub overflow_cast-result-2 : goal.overflow_cast-result-2
 overflow_cast-result-2 c =

@@ -1,4 +1,4 @@
-use Rattle.std.proofs.Common.{◌≡◌, ℕ, ◌-◌, ◌^◌, ◌<◌, ◌≤◌, cond, eqb, ltb, ap, ◌∙◌, arith}
+use Rattle.std.proofs.Common.{◌≡◌, ℕ, ◌<◌, ◌≤◌, eqb, ap, ◌∙◌, arith}
 use Rattle.apfloat_model.specs.declared.kinds.NonfiniteBehavior.TheVariants.{NanNegativeZero}
 use Rattle.apfloat_model.specs.rounding.{Rounding.signed_quanta, Flags.bits_of}
 use Rattle.small_formats.specs.Codes.{point}
@@ -8,8 +8,7 @@ use Rattle.p3109_formats.proofs.from_value.deliver_signed.Goals as goal
 
 pub returns-then-picked-from-clause-delivered : goal.returns-then-picked-from-clause-delivered
 returns-then-picked-from-clause-delivered c = λ amount parts x.
-    let d = c.args.format in
-    let l : largest_index d < c.args.picked.index =
+    let l : largest_index c.args.format < c.args.picked.index =
     omega (arith, c.largest_index.ensures, c.from.ensures, c.if-picked-from.true) in
     c.past.ensures.delivered amount parts c.args.picked.index l
 
@@ -21,9 +20,7 @@ returns-clause-delivered c = λ amount parts x.
     let value : projected_datum d c.and.result.value
     ≡ signed_quanta NanNegativeZero c.args.negative (point d.precision c.args.picked.index) =
     ap (λ (code : ℕ). projected_datum d code) c.and.ensures.value ∙ c.number.ensures.datum in
-    let status : bits_of c.and.result.status
-    ≡ cond c.args.picked.exact 0 (cond (ltb c.args.picked.index (2 ^ (d.precision - 1))) 24 16) =
-    ap bits_of c.and.ensures.status ∙ c.status_within-status.ensures in
+    let status = ap bits_of c.and.ensures.status ∙ c.status_within-status.ensures in
     within_projected d c.args.mode c.args.leads c.args.negative amount parts c.args.picked.index c.and.result.value
     (bits_of c.and.result.status) c.args.picked.exact
     (has_point c.args.negative d.signed (eqb c.args.picked.index 0) c.requires.sign) l x value status

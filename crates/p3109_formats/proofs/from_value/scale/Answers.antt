@@ -5,9 +5,6 @@ use Rattle.p3109_formats.proofs.from_value.scale.Goals as goal
 
 pub returns-clause-within : goal.returns-clause-within
 returns-clause-within c =
-    let few = c.exponent_bits.ensures.few in
-    let exponent : c.exponent_bits.result - 1 ≤ 14 = omega (arith, few) in
+    let exponent : c.exponent_bits.result - 1 ≤ 14 = omega (arith, c.exponent_bits.ensures.few) in
     let power : 2 ^ (c.exponent_bits.result - 1) ≤ 2 ^ 14 = pow-le-pow_right two_pos exponent in
-    let precise = c.requires.exponent in
-    let narrow = c.requires.bits_high in
-    omega (arith, power, precise, narrow, c.power_of_two.ensures)
+    omega (arith, power, c.requires.exponent, c.requires.bits_high, c.power_of_two.ensures)

@@ -10,10 +10,9 @@ returns-clause-picked g c =
     let amount = quanta_of c.args.x * 2 ^ c.args.scale in
     let parts = 2 ^ (format_of g.S.Semantics).scale in
     let some = pow_pos (format_of g.S.Semantics).scale in
-    let away = c.leads_away-away.ensures amount parts some c.in_quanta.ensures.number in
     let at = rw c.direction.ensures at c.pick_value.ensures in
     chosen c.args.precision c.args.mode c.args.bits amount parts c.pick_value.result.index c.leads_away-away.result
-    c.requires.some some away at.is_pick
+    c.requires.some some (c.leads_away-away.ensures amount parts some c.in_quanta.ensures.number) at.is_pick
 
 pub returns-clause-exact : goal.returns-clause-exact
 returns-clause-exact g c = c.pick_value.ensures.exact_is

@@ -24,9 +24,7 @@ not_higher x y p q a b low high e =
 pub same_place : (x y p q a b : ℕ) → 2 ^ p ≤ x → x < 2 ^ (p + 1) → 2 ^ q ≤ y → y < 2 ^ (q + 1)
     → x * 2 ^ a ≡ y * 2 ^ b → p + a ≡ q + b
 same_place x y p q a b x_low x_high y_low y_high e =
-    let l = not_higher x y p q a b x_low y_high e in
-    let k = not_higher y x q p b a y_low x_high (sym e) in
-    omega (arith, l, k)
+    omega (arith, not_higher x y p q a b x_low y_high e, not_higher y x q p b a y_low x_high (sym e))
 
 -- ---- scales
 
@@ -38,19 +36,15 @@ clamped_again place scale top code down e most =
     ⊎_elim
     (λ (l : code < down).
     let high : z ≤ℤ pos 0 = omega (arith, ints, e, l) in
-    let none = up_le z 0 high in
-    grind (arith, none, l))
+    grind (arith, up_le z 0 high, l))
     (λ (l : down ≤ code).
     let high : z ≤ℤ pos (code - down) = omega (arith, ints, e, l) in
     let low : pos (code - down) ≤ℤ z = omega (arith, ints, e, l) in
-    let at_most = up_le z (code - down) high in
-    let at_least = up_far z (code - down) low in
-    grind (arith, at_most, at_least.0, most))
+    grind (arith, up_le z (code - down) high, (up_far z (code - down) low).0, most))
     (cases_lt code down)
 
 -- a number that is moved up no further than to the greatest exponent
-pub below_again : (n place more down : ℕ) → n < 2 ^ (place + 1) → more ≤ down
-    → n * 2 ^ more < 2 ^ (place + down + 1)
+pub below_again : (n place more down : ℕ) → n < 2 ^ (place + 1) → more ≤ down → n * 2 ^ more < 2 ^ (place + down + 1)
 below_again n place more down below few =
     let k : place + 1 + more ≤ place + down + 1 = omega (arith, few) in
     let most : 2 ^ (place + 1 + more) ≤ 2 ^ (place + down + 1) = pow-le-pow_right two_pos k in
@@ -61,8 +55,7 @@ below_again n place more down below few =
 -- ---- the largest number
 
 -- a point of the grid below the end of that span has at most all digits at the last place
-pub within_top : (digits span x : ℕ) → IsOnGrid digits x → x < 2 ^ (digits + span)
-    → x ≤ (2 ^ digits - 1) * 2 ^ span
+pub within_top : (digits span x : ℕ) → IsOnGrid digits x → x < 2 ^ (digits + span) → x ≤ (2 ^ digits - 1) * 2 ^ span
 within_top digits span x g below =
     let s = g.significand in
     let fits = g.fits in

@@ -98,9 +98,7 @@ again_element element g mode scale other more codes values flags place code agai
     let same : quanta_of (element_datum element code) ≡ exact.number = ap quanta_of exact.element_is in
     let member = all_at (λ c. IsElementNumber element (quanta_of (element_datum element c))) codes place code
     block.numbers at in
-    let most = at_most_element element codes place code at in
-    let moved : quanta_of (element_datum element code) * 2 ^ more ≤ greatest_element element codes * 2 ^ more =
-    mul-le-mul_right (2 ^ more) most in
+    let moved = mul-le-mul_right (2 ^ more) (at_most_element element codes place code at) in
     kept_element element g mode scale other more code again value flag status sum exact q
     (subst (λ (n : ℕ). IsOnGrid f.precision n) same member.on_grid)
     (subst (λ (n : ℕ). n * 2 ^ more ≤ largest f) same (omega (arith, moved, room)))

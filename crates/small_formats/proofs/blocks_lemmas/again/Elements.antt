@@ -46,8 +46,7 @@ kept_element element g mode scale other more code again value flag status sum ex
     let pick : h.pick ≡ point = pick_unique f.precision mode b amount parts h.pick point h.is_pick
     (exact_is_picked f.precision mode b point amount parts some grid' is) in
     let exactly = exact_delivered f mode b point amount parts some grid' within is in
-    let picks : h.pick ≡ exactly.pick = pick_unique f.precision mode b amount parts h.pick exactly.pick h.is_pick
-    exactly.is_pick in
+    let picks = pick_unique f.precision mode b amount parts h.pick exactly.pick h.is_pick exactly.is_pick in
     let off : ltb (largest f) point ≡ false = le-ltb (largest f) point within in
     let power : 2 ^ scale ≡ 2 ^ other * 2 ^ more = ap (λ (k : ℕ). 2 ^ k) (sym sum) ∙ pow-add 2 other more in
     record {
@@ -66,8 +65,7 @@ kept_element element g mode scale other more code again value flag status sum ex
 pub same_element : (element : ElementFormat) (scale other code again status : ℕ) → other ≡ scale
     → IsKept element scale other code again status → element_datum element again ≡ element_datum element code
 same_element element scale other code again status e k =
-    let same : k.moved * 2 ^ scale ≡ k.number * 2 ^ scale =
-    ap (λ (n : ℕ). k.moved * 2 ^ n) (sym e) ∙ k.same in
+    let same : k.moved * 2 ^ scale ≡ k.number * 2 ^ scale = ap (λ (n : ℕ). k.moved * 2 ^ n) (sym e) ∙ k.same in
     k.again_is
     ∙ ap (λ (n : ℕ). finite k.negative n)
     (eq_of_mul-eq-mul_right (2 ^ scale) (pow_pos scale) k.moved k.number same)

@@ -6,15 +6,13 @@ use Rattle.apfloat_model.specs.rounding.Grid.{IsOnGrid}
 use Rattle.apfloat_model.proofs.general.Powers.{half_at_most, twice_power}
 
 -- 15 at a place up to the last one
-fifteen_at : (s place x : ℕ) → s < 16 → place ≤ 14 → x ≡ s * 2 ^ place
-    → (x ≤ 14 * 2 ^ 14) ⊎ (x ≡ 15 * 2 ^ 14)
+fifteen_at : (s place x : ℕ) → s < 16 → place ≤ 14 → x ≡ s * 2 ^ place → (x ≤ 14 * 2 ^ 14) ⊎ (x ≡ 15 * 2 ^ 14)
 fifteen_at s place x few l is =
     ⊎_elim
     (λ (k : place < 14).
-    let half = half_at_most place 14 k in
     let digits : s ≤ 15 = omega (arith, few) in
     let most : s * 2 ^ place ≤ 15 * 2 ^ place = mul-le-mul_right (2 ^ place) digits in
-    inl (omega (arith, half, most, is)))
+    inl (omega (arith, half_at_most place 14 k, most, is)))
     (λ (k : 14 ≤ place).
     let e : place ≡ 14 = omega (arith, k, l) in
     let is' : x ≡ s * 2 ^ 14 = is ∙ ap (λ (n : ℕ). s * 2 ^ n) e in
@@ -48,20 +46,16 @@ top_cases x g below =
     (cases_lt 14 g.place)
 
 -- what is moved there had that significand at a lower place
-pub moved_there : (n more : ℕ) → n * 2 ^ more ≡ 15 * 2 ^ 14
-    → (place : ℕ) × (n ≡ 15 * 2 ^ place) × (place + more ≡ 14)
+pub moved_there : (n more : ℕ) → n * 2 ^ more ≡ 15 * 2 ^ 14 → (place : ℕ) × (n ≡ 15 * 2 ^ place) × (place + more ≡ 14)
 moved_there n more e =
     ⊎_elim
     (λ (l : 14 < more).
     let k : ℕ = more - 15 in
     let at : more ≡ k + 1 + 14 = omega (arith, l) in
     let split : 2 ^ more ≡ 2 ^ (k + 1) * 2 ^ 14 = ap (λ (x : ℕ). 2 ^ x) at ∙ pow-add 2 (k + 1) 14 in
-    let twice = twice_power k in
     let whole : n * 2 ^ more ≡ 2 * (n * 2 ^ k) * 2 ^ 14 =
-    ap (λ (x : ℕ). n * x) split ∙ ap (λ (x : ℕ). n * (x * 2 ^ 14)) twice ∙ omega arith in
-    let odd : 2 * (n * 2 ^ k) ≡ 15 =
-    eq_of_mul-eq-mul_right (2 ^ 14) (pow_pos 14) (2 * (n * 2 ^ k)) 15 (sym whole ∙ e) in
-    absurd (omega (arith, odd)))
+    ap (λ (x : ℕ). n * x) split ∙ ap (λ (x : ℕ). n * (x * 2 ^ 14)) (twice_power k) ∙ omega arith in
+    absurd (omega (arith, eq_of_mul-eq-mul_right (2 ^ 14) (pow_pos 14) (2 * (n * 2 ^ k)) 15 (sym whole ∙ e))))
     (λ (l : more ≤ 14).
     let place : ℕ = 14 - more in
     let at : 14 ≡ place + more = omega (arith, l) in

@@ -19,8 +19,7 @@ some_at (x ∷ xs) zero l = (x, refl)
 some_at (x ∷ xs) (suc i) l = some_at xs i (omega (arith, l))
 
 -- what holds of all holds in a place
-pub all_at : {X : Type 0} → (P : X → Type 0) (xs : List X) (i : ℕ) (x : X) → All P xs
-    → slice_get xs i ≡ Some x → P x
+pub all_at : {X : Type 0} → (P : X → Type 0) (xs : List X) (i : ℕ) (x : X) → All P xs → slice_get xs i ≡ Some x → P x
 all_at P xs i x all e = subst P (get_or_from_slice_get xs i x x e) (all i x (slice_get_within xs i x e))
 
 -- what is written in a place, and its flags
@@ -32,15 +31,12 @@ pub record IsThere {A B : Type 0} (Holds : A → B → ℕ → Type 0) (written 
   pub holds : Holds x value status
 
 pub there : {A B : Type 0}
-    → (Holds : A → B → ℕ → Type 0) (read : List A) (written : List B) (flags : List ℕ)
-    (place : ℕ) (x : A) → AreElementsInPlaces Holds read written flags → slice_get read place ≡ Some x
-    → IsThere Holds written place x
+    → (Holds : A → B → ℕ → Type 0) (read : List A) (written : List B) (flags : List ℕ) (place : ℕ) (x : A)
+    → AreElementsInPlaces Holds read written flags → slice_get read place ≡ Some x → IsThere Holds written place x
 there Holds read written flags place x all at =
     let within = slice_get_within read place x at in
-    let same = all.same_size in
-    let size = all.flags_size in
-    let y = some_at written place (omega (arith, within, same)) in
-    let s = some_at flags place (omega (arith, within, size)) in
+    let y = some_at written place (omega (arith, within, all.same_size)) in
+    let s = some_at flags place (omega (arith, within, all.flags_size)) in
     record { value = y.0; status = s.0; at = y.1; holds = all.each place x y.0 s.0 at y.1 s.1 }
 
 -- lists with the same items are the same

@@ -32,8 +32,7 @@ lowered_number element g scale greatest magnitude other least some within same s
     let end : ℕ = f.scale + max_exp element in
     let place : ℕ = log2 greatest in
     let bounds = log2_bounds greatest some in
-    let twice = twice_power place in
-    let high : greatest < 2 ^ (place + 1) = omega (arith, bounds, twice) in
+    let high : greatest < 2 ^ (place + 1) = omega (arith, bounds, twice_power place) in
     let log = s.is_logarithm in
     let at : log.place + (f.scale + 127) ≡ place + (scale + g.scale) =
     same_place magnitude greatest log.place place (f.scale + 127)
@@ -46,12 +45,11 @@ lowered_number element g scale greatest magnitude other least some within same s
     ∙ clamped_again log.place g.scale (max_exp element) scale lower (omega (arith, at, top)) least in
     let more : ℕ = scale - other in
     let few : more ≤ lower = omega (arith, code) in
-    let moved = below_again greatest place more lower high few in
     let ends : place + lower + 1 ≡ end + 1 = omega (arith, top) in
     record {
       more = more;
       sum = omega (arith, code);
-      below = subst (λ (n : ℕ). greatest * 2 ^ more < 2 ^ n) ends moved;
+      below = subst (λ (n : ℕ). greatest * 2 ^ more < 2 ^ n) ends (below_again greatest place more lower high few);
       top = λ low.
           let reached : end ≤ place = exponent_between greatest end place low high in
           omega (arith, reached, few);
@@ -73,8 +71,7 @@ pub lowered : (element : ElementFormat) (g : Format) (scale greatest magnitude o
     → magnitude * 2 ^ ((format_of_element element).scale + 127) ≡ greatest * 2 ^ (scale + g.scale)
     → IsBlockScale element g magnitude other → IsLowered element scale greatest other
 lowered element g scale zero magnitude other least within same h =
-    let none : magnitude ≡ 0 =
-    both_zero magnitude ((format_of_element element).scale + 127) (scale + g.scale) same in
+    let none = both_zero magnitude ((format_of_element element).scale + 127) (scale + g.scale) same in
     lowered_zero element scale other (MatchBool-at_true (other ≡ 0) _ (eq-eqb magnitude 0 none) h)
 lowered element g scale (suc n) magnitude other least within same h =
     let some : 0 < magnitude = both_above_zero (suc n) magnitude ((format_of_element element).scale + 127)
@@ -90,14 +87,11 @@ pub below_end : (element : ElementFormat) (n : ℕ) → n ≤ largest (format_of
 below_end element n within =
     let f = format_of_element element in
     let s = short element in
-    let most = s.most in
-    let one = pow_pos f.precision in
-    let few : 2 ^ f.precision - 1 < 2 ^ f.precision = omega (arith, one) in
-    let less : (2 ^ f.precision - 1) * 2 ^ f.span < 2 ^ f.precision * 2 ^ f.span =
-    mul-lt-mul_of_pos_right few (pow_pos f.span) in
+    let few : 2 ^ f.precision - 1 < 2 ^ f.precision = omega (arith, pow_pos f.precision) in
+    let less = mul-lt-mul_of_pos_right few (pow_pos f.span) in
     let split : 2 ^ (f.precision + f.span) ≡ 2 ^ f.precision * 2 ^ f.span = pow-add 2 f.precision f.span in
     let same : 2 ^ (f.precision + f.span) ≡ 2 ^ (f.scale + max_exp element + 1) = ap (λ (k : ℕ). 2 ^ k) s.ends in
-    omega (arith, within, most, less, split, same)
+    omega (arith, within, s.most, less, split, same)
 
 -- the greatest element, moved up, is a number of the format
 pub moved_within : (element : ElementFormat) (scale greatest more : ℕ)
@@ -112,8 +106,7 @@ moved_within E4M3FN scale greatest more grid below few has =
     (λ (e : greatest * 2 ^ more ≡ 15 * 2 ^ 14).
     let t = moved_there greatest more e in
     let low : t.0 + scale < 14 = has t.0 t.1 in
-    let at = t.2 in
-    absurd (omega (arith, low, at, few)))
+    absurd (omega (arith, low, t.2, few)))
     (top_cases (greatest * 2 ^ more) (moved_on_grid 4 greatest more grid) below)
 moved_within E3M2FN scale greatest more grid below few has =
     within_top 3 6 (greatest * 2 ^ more) (moved_on_grid 3 greatest more grid) below

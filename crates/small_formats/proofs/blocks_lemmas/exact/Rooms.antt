@@ -47,11 +47,9 @@ pub room_in : (element : ElementFormat) (g : Format) (scale : ℕ) → g.nonfini
     ((format_of_element element).scale + 127) scale
 room_in element g scale kind digits quantum top =
     let s = short element in
-    let few = s.digits in
-    let ends = s.ends in
     record {
       kind = kind;
-      digits = omega (arith, few, digits);
+      digits = omega (arith, s.digits, digits);
       quantum = quantum;
-      room = omega (arith, ends, top);
+      room = omega (arith, s.ends, top);
     }

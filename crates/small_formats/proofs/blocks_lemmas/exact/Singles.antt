@@ -4,7 +4,7 @@ use Rattle.std.proofs.Common.{refl, ap, ◌∙◌, arith, List, [], ◌∷◌, l
 use Rattle.std.proofs.Math.Nat.{mul-lt-mul_of_pos_right}
 use Rattle.std.proofs.lemmas.{Int.ints, Nat.pow-add, Nat.pow_pos, Option.slice_get-get_or}
 use Rattle.std.specs.Bool.{MatchBool}
-use Rattle.std.specs.Prelude.{All, ◌≤ℤ◌}
+use Rattle.std.specs.Prelude.{All}
 use Rattle.apfloat_model.specs.{arithmetic.Exact.up, declared.kinds.Round.Round}
 use Rattle.apfloat_model.specs.formats.{Datum.Datum, Datum.finite, Datum.infinite, Datum.nan, Format.Format}
 use Rattle.apfloat_model.specs.formats.{Format.largest, Formats.single_constants, Lawful.format_with, Members.IsMember}
@@ -46,8 +46,7 @@ number_scale element greatest scale within s =
     let place : log.place < 24 + 253 = exponent_below log.place (24 + 253) (omega (arith, low, within, less, split)) in
     let z : ℤ = pos log.place -ℤ pos 149 -ℤ pos (max_exp element) +ℤ pos 127 in
     let few_exponents = (short element).exponents in
-    let high : z ≤ℤ pos (254 - max_exp element) = omega (arith, ints, place, few_exponents) in
-    let most = up_le z (254 - max_exp element) high in
+    let most = up_le z (254 - max_exp element) (omega (arith, ints, place, few_exponents)) in
     let is : scale ≡ min (up z) 254 =
     s.code_is ∙ ap (λ (e : ℤ). min (up (e -ℤ pos (max_exp element) +ℤ pos 127)) 254) log.is in
     grind (arith, is, most, few_exponents)
@@ -63,8 +62,7 @@ block_scale element greatest scale within h = by_test (eqb greatest 0) h
 
 -- ---- the elements
 
-finite_either : (test negative : Bool) (m n : ℕ)
-    → is_finite (cond test (finite negative m) (finite negative n)) ≡ true
+finite_either : (test negative : Bool) (m n : ℕ) → is_finite (cond test (finite negative m) (finite negative n)) ≡ true
 finite_either true negative m n = refl
 finite_either false negative m n = refl
 
@@ -95,12 +93,11 @@ exact_from_singles element mode other singles values old before codes block coun
     in
     let written = b.elements.in_places in
     let size = written.same_size in
-    let count = written.flags_size in
     let finite_codes : (k d : ℕ) → k < length codes
     → is_finite (element_datum element (get_or codes k d)) ≡ true =
     λ k d l.
     let x = some_at singles k (omega (arith, l, size)) in
-    let s = some_at b.elements.flags k (omega (arith, l, size, count)) in
+    let s = some_at b.elements.flags k (omega (arith, l, size, written.flags_size)) in
     quotient_finite element f mode (2 ^ block.scale) (2 ^ 127) x.0 (get_or codes k d) s.0
     (written.each k x.0 (get_or codes k d) s.0 x.1 (slice_get-get_or codes k d l) s.1) in
     exact_block element f other block.scale codes old values counts (exact_into_single element block.scale top)

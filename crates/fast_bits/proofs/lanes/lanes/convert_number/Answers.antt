@@ -1,4 +1,4 @@
-use Rattle.std.proofs.Common.{◌≡◌, ℕ, ◌+◌, ◌*◌, ◌/◌, ◌%◌, ◌^◌, ◌<◌, Bool, eqb, ◌&&◌, ◌∙◌, refl, sym, ap, subst, arith}
+use Rattle.std.proofs.Common.{◌≡◌, ℕ, ◌+◌, ◌*◌, ◌/◌, ◌%◌, ◌^◌, Bool, eqb, ◌&&◌, ◌∙◌, refl, sym, ap, subst, arith}
 use Rattle.std.proofs.lemmas.{Bool.ne_eqb, Nat.pow_pos}
 use Rattle.apfloat_model.specs.{bits.Layout.datum_of, formats.Datum.finite}
 use Rattle.fast_bits.specs.lanes.{Scaled.IsReachedLane, Sides.IsSideOf, Targets.has_one_zero}
@@ -29,7 +29,6 @@ returns c =
     (λ i. word.significand i * 2 ^ word.place i) c.scaled_to-scaled.ensures.reached in
     let precise = t.lawful.precise in
     let magnitude = word.magnitude in
-    let low = c.ranges.lower.fits in
     let lost : c.loses_sign.result ≡ (has_one_zero t.nonfinite && negative && eqb a 0) =
     c.loses_sign.ensures ∙ ap (λ (b : Bool). has_one_zero t.nonfinite && negative && b)
     (both_zero (upper % 2 ^ 15) c.args.lower ∙ ap (λ (n : ℕ). eqb n 0) word.magnitude) in
@@ -39,10 +38,8 @@ returns c =
     record {
       below = rounded.is_encoded.below;
       converted = λ single layout number is_single.
-          let few : (c.args.upper * 2 ^ 16 + c.args.lower) % 2 ^ 31 < 255 * 2 ^ 23 =
-          omega (arith, magnitude, number, low) in
           let read : datum_of single layout x ≡ finite negative (significand_of a * 2 ^ place_of a) =
-          single_read single layout x is_single word.below few
+          single_read single layout x is_single word.below (omega (arith, magnitude, number, c.ranges.lower.fits))
           ∙ ap (λ (n : ℕ). finite (eqb n 1) (significand_of a * 2 ^ place_of a)) (sym word.sign) in
           lane_converted plan.saturates single layout f (layout_at t) plan.round negative c.loses_sign.result a x
           c.finish-lane.result read is_single.scale (omega (arith, precise)) lost rounded;

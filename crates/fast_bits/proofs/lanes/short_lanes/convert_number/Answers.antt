@@ -56,13 +56,11 @@ returns c =
       below = (lane_is c (h * 2 ^ 16) (sym (half_alone h))).is_encoded.below;
       converted = λ x single layout number is is_single.
           let both = halves c x is in
-          let sign = both.1.sign in
-          let few : x % 2 ^ 31 < 255 * 2 ^ 23 = omega (arith, both.1.exponent, number) in
           let read : datum_of single layout x
           ≡ finite (eqb (h / 2 ^ 15) 1) (significand_of (x % 2 ^ 31) * 2 ^ place_of (x % 2 ^ 31)) =
-          single_read single layout x is_single both.0 few
+          single_read single layout x is_single both.0 (omega (arith, both.1.exponent, number))
           ∙ ap (λ (n : ℕ). finite (eqb n 1) (significand_of (x % 2 ^ 31) * 2 ^ place_of (x % 2 ^ 31)))
-          (sym sign) in
+          (sym both.1.sign) in
           let lost : c.loses_sign.result ≡ (has_one_zero t.nonfinite && eqb (h / 2 ^ 15) 1 && eqb (x % 2 ^ 31) 0) =
           c.loses_sign.ensures
           ∙ ap (λ (b : Bool). has_one_zero t.nonfinite && eqb (h / 2 ^ 15) 1 && b) both.1.zero in
@@ -72,11 +70,9 @@ returns c =
       past = λ high leads.
           let x = h * 2 ^ 16 in
           let half = sym (half_alone h) in
-          let both = halves c x half in
-          let exponent = both.1.exponent in
           let it = past_single plan.saturates f (layout_at t) plan.round (eqb (h / 2 ^ 15) 1) (x % 2 ^ 31)
           c.finish-lane.result (target_reach t) (omega (arith, precise)) leads.kept (leads.out (eqb (h / 2 ^ 15) 1))
-          (omega (arith, exponent, high)) (omega arith) (lane_is c x half) in
+          (omega (arith, (halves c x half).1.exponent, high)) (omega arith) (lane_is c x half) in
           record {
             inexact = rw it.inexact refl;
             underflow = it.underflow;

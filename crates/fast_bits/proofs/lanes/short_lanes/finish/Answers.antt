@@ -11,16 +11,13 @@ returns c = λ saturates mode amount parts some side scaled.
     let law = target_interchange (format_at t) (layout_at t) t.min_exp t.max_exp t.lawful in
     let is = c.delivered.ensures in
     let precise = t.lawful.precise in
-    let short = c.requires.precision in
-    let unit : p - 1 + (15 - p) ≡ 14 = omega (arith, precise, short) in
+    let unit : p - 1 + (15 - p) ≡ 14 = omega (arith, precise, c.requires.precision) in
     let cut = sum_cut c.args.digits (15 - p) p c.args.place in
     let there : IsScaled p (15 - p) (c.args.digits + c.args.place * 2 ^ (p - 1 + (15 - p))) amount parts =
     subst (λ (n : ℕ). IsScaled p (15 - p) (c.args.digits + c.args.place * 2 ^ n) amount parts) (sym unit) scaled in
-    let carried : c.carried.result ≡ rounded_by (15 - p) mode c.args.negative c.args.digits =
-    c.carried.ensures.is ∙ side.addend.rounds c.args.digits in
     let rounded : c.carried.result + c.placed-places.result
     ≡ rounded_by (15 - p) mode c.args.negative (c.args.digits + c.args.place * 2 ^ (p - 1 + (15 - p))) =
-    (λ i. carried i + c.placed-places.ensures.is i)
+    (λ i. (c.carried.ensures.is ∙ side.addend.rounds c.args.digits) i + c.placed-places.ensures.is i)
     ∙ sym (placed_rounded p (15 - p) mode c.args.negative c.args.digits c.args.place precise) in
     let swap : c.args.digits / 2 ^ (15 - p) + c.args.place * 2 ^ (p - 1)
     ≡ c.args.place * 2 ^ (p - 1) + c.args.digits / 2 ^ (15 - p) = omega arith in

@@ -11,6 +11,5 @@ returns c =
     let most : c.args.place ≤ 255 = omega (arith, c.requires.place) in
     let moved : c.args.place * 2 ^ (p - 1) ≤ 255 * 2 ^ (p - 1) = mul-le-mul_right (2 ^ (p - 1)) most in
     let below : c.args.place * 2 ^ (p - 1) < 2 ^ 13 = omega (arith, moved, unit) in
-    let same : c.args.place * 2 ^ (p - 1) % 65536 ≡ c.args.place * 2 ^ (p - 1) =
-    mod-eq_of_lt (omega (arith, below)) in
+    let same : c.args.place * 2 ^ (p - 1) % 65536 ≡ c.args.place * 2 ^ (p - 1) = mod-eq_of_lt (omega (arith, below)) in
     record { is = same; below = omega (arith, same, below) }

@@ -9,10 +9,7 @@ pub returns-in-IEEE754 : goal.returns-in-IEEE754
 returns-in-IEEE754 c =
     let t = c.args.target in
     let next = next_code (format_at t) (layout_at t) t.min_exp t.max_exp c.places.result t.lawful c.places.ensures.is in
-    record {
-      is = largest_of_all_ones (format_at t) _ c.in-IEEE754.is next.0;
-      below = omega (arith, next.1);
-    }
+    record { is = largest_of_all_ones (format_at t) _ c.in-IEEE754.is next.0; below = omega (arith, next.1) }
 
 pub overflow_sub-result-in-NanOnly : goal.overflow_sub-result-in-NanOnly
 overflow_sub-result-in-NanOnly c =

@@ -11,13 +11,12 @@ pub returns : goal.returns
 returns g c =
     let d = c.args.self in
     let f = format_of g.T.Flagged in
-    let low = c.requires.lawful.precision_low in
     let some : 0 < magnitude_of d c.args.code =
     omega (arith, c.magnitude-magnitude.ensures.value, c.if-magnitude-eq0.false) in
     let at = rw c.magnitude-magnitude.ensures.value at c.point_at-point.ensures in
     let delivered = rw (at, c.scale.ensures.value) at c.convert_point.ensures.delivered in
     number_converted d f c.args.round c.args.code (magnitude_of d c.args.code) c.is_negative-negative.result
-    c.convert_point.result.value (bits_of c.convert_point.result.status) _ low some
+    c.convert_point.result.value (bits_of c.convert_point.result.status) _ c.requires.lawful.precision_low some
     (number_at d c.args.code c.is_nan.ensures c.if-is_nan.false c.is_negative-negative.ensures
     (omega (arith, c.magnitude-magnitude.ensures.value, c.largest_index.ensures, c.if-magnitude-largest_index.false)))
     delivered c.convert_point.ensures.loses

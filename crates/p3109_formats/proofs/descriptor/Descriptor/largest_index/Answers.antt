@@ -4,14 +4,10 @@ use Rattle.p3109_formats.proofs.descriptor.Descriptor.largest_index.Goals as goa
 use Rattle.p3109_formats.proofs.descriptor.Descriptor.largest_index.Goals.{then-self, else-self}
 
 pub overflow_sub-last-else-self : goal.overflow_sub-last-else-self
-overflow_sub-last-else-self c =
-    let four = four_codes c.args.self c.requires in
-    omega (arith, c.unsigned_codes-codes.ensures, four)
+overflow_sub-last-else-self c = omega (arith, c.unsigned_codes-codes.ensures, four_codes c.args.self c.requires)
 
 pub overflow_sub-last : goal.overflow_sub-last
-overflow_sub-last c =
-    let four = four_codes c.args.self c.requires in
-    omega (arith, c.unsigned_codes-codes.ensures, four)
+overflow_sub-last c = omega (arith, c.unsigned_codes-codes.ensures, four_codes c.args.self c.requires)
 
 pub overflow_sub-result : goal.overflow_sub-result
 overflow_sub-result c =

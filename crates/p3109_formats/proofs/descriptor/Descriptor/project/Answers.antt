@@ -10,9 +10,8 @@ use Rattle.p3109_formats.proofs.descriptor.Descriptor.project.Goals as goal
 pub returns-in-NaN-clause-into : goal.returns-in-NaN-clause-into
 returns-in-NaN-clause-into g c =
     let d = c.args.self in
-    let f = format_of g.S.Semantics in
     let none : category_of c.args.x ≡ NaN = sym c.category.ensures.category ∙ c.in-NaN.is in
-    nan_into d f c.args.rule c.args.x c.and.result.value (bits_of c.and.result.status) _ none
+    nan_into d (format_of g.S.Semantics) c.args.rule c.args.x c.and.result.value (bits_of c.and.result.status) _ none
     (ap (λ (code : ℕ). projected_datum d code) c.and.ensures.value ∙ c.nan.ensures.datum)
     (ap bits_of c.and.ensures.status ∙ c.status_of_nan.ensures)
     (ap (λ (mask : ℕ). not (eqb mask 0)) (c.NAN_PAYLOAD_MASK.ensures ∙ g.S.Semantics.lawful.mask))

@@ -6,6 +6,4 @@ use Rattle.p3109_formats.proofs.projected.Projected.next_down.Goals as goal
 pub of_index-requires-clause-index : goal.of_index-requires-clause-index
 of_index-requires-clause-index g c =
     let d = projection_of g.F.Projection in
-    let some = largest_some d g.F.Projection.lawful in
-    let a = apart d g.F.Projection.lawful in
-    omega (arith, some, a.most_to)
+    omega (arith, largest_some d g.F.Projection.lawful, (apart d g.F.Projection.lawful).most_to)

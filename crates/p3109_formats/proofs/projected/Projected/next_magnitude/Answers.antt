@@ -5,7 +5,6 @@ use Rattle.p3109_formats.proofs.projected.Projected.next_magnitude.Goals as goal
 
 pub of_code-requires : goal.of_code-requires
 of_code-requires g c =
-    let d = projection_of g.F.Projection in
     subst (λ (n : ℕ). n + 1 < 2 ^ g.F.Projection.BITS) (sym c.self.view_is)
-    (past_fits d c.args.self g.F.Projection.lawful c.magnitude.ensures.fits c.requires
+    (past_fits (projection_of g.F.Projection) c.args.self g.F.Projection.lawful c.magnitude.ensures.fits c.requires
     (λ e. omega (arith, e, c.magnitude.ensures.value, c.last_index.ensures, c.if-magnitude-last_index.true)))
