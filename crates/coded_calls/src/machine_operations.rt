@@ -1704,7 +1704,7 @@ fn reply(
 /// Makes a call, and returns 0, or the error for an operand that is too wide, for a width that no integer may have, or
 /// for an operation that the machine does not have.
 #[inline(always)]
-fn made(
+pub fn made(
     machine: CodedMachine,
     format: MachineFormat,
     round: Round,
