@@ -231,6 +231,22 @@ impl MachineFormat {
         }
     }
 
+    /// Makes a call that fills a lent place, in the format without its rule of flags.
+    #[inline(always)]
+    pub fn fill_without_rule<C: FillsInFormat>(self, call: C, place: &mut C::Place) -> C::Output
+        ensures { C.gives call (kind_without_rule self) place.old place.new result }
+    {
+        match self.format {
+            IeeeFormat::Half => call.fill_in_format::<HalfS>(place),
+            IeeeFormat::Single => call.fill_in_format::<SingleS>(place),
+            IeeeFormat::Double => call.fill_in_format::<DoubleS>(place),
+            IeeeFormat::Quad => call.fill_in_format::<QuadS>(place),
+            IeeeFormat::BFloat => call.fill_in_format::<BFloatS>(place),
+            IeeeFormat::E5M2 => call.fill_in_format::<Float8E5M2S>(place),
+            IeeeFormat::X87 => call.fill_in_format::<X87DoubleExtendedS>(place),
+        }
+    }
+
     /// The format with its rule of flags on a machine.
     #[inline(always)]
     fn on(self, machine: CodedMachine) -> FlaggedFormat
