@@ -49,8 +49,8 @@ extern "C" {
 /* 128 bits as two 64-bit words: the bits of a value, or an integer.
  *
  * A value of fewer bits is in the lowest ones. Bits at and above the width of its format are 0 in an answer, and are
- * ignored in an operand; apfloat_machine alone refuses them. Pairs of doubles have the high double in `low` and the low
- * one in `high`. A signed integer is in 128-bit two's complement. */
+ * ignored in an operand; apfloat_machine and apfloat_instruction alone refuse them. Pairs of doubles have the high
+ * double in `low` and the low one in `high`. A signed integer is in 128-bit two's complement. */
 typedef struct apfloat_halves {
     uint64_t low;
     uint64_t high;
@@ -144,7 +144,7 @@ typedef enum apfloat_mode APFLOAT_CODE {
                                   * nearest, ties to even */
 
     /* Of apfloat_to_storage_by, apfloat_convert_array_by and apfloat_to_p3109_by, and the first one of
-     * apfloat_to_p3109. */
+     * apfloat_to_p3109 and apfloat_instruction. */
     APFLOAT_TO_ODD = 5,
     APFLOAT_RANDOM_DIGITS = 6,
 
@@ -178,6 +178,7 @@ typedef enum apfloat_error APFLOAT_CODE {
     APFLOAT_WIDE_OPERAND = 9,        /* bits at or above the width of its format are set */
     APFLOAT_LACKING_OPERATION = 10,  /* the machine does not have the operation */
     APFLOAT_OVERLAPPING_ARRAYS = 11, /* the results of a call in place lie partly in an operand */
+    APFLOAT_WRONG_CONTROL = 12,      /* a control word has unknown bits, or some that the machine does not have */
     APFLOAT_ERROR_BITS = 0x7fffffff
 } apfloat_error;
 
@@ -632,6 +633,38 @@ typedef enum apfloat_rule APFLOAT_CODE {
 apfloat_error apfloat_machine(apfloat_machine_kind machine, apfloat_operation operation, apfloat_format format,
                               apfloat_mode mode, uint32_t to, apfloat_halves x, apfloat_halves y, apfloat_halves z,
                               apfloat_answer *answer);
+
+/* The bits of a control word, of which the first two are of machines that can flush: .._X86, .._ARM and the three after
+ * it in name, and .._PTX. */
+typedef enum apfloat_control APFLOAT_CODE {
+    /* Tiny results, exact ones too, are zeros of their sign, with APFLOAT_UNDERFLOW, and with APFLOAT_INEXACT but on
+     * .._ARM and .._ARM_DEFAULT_NAN (FTZ, FPCR.FZ). */
+    APFLOAT_FLUSH_RESULTS = 1,
+    APFLOAT_DENORMALS_ARE_ZEROS = 2, /* denormal operands are zeros of their sign (DAZ, FPCR.FIZ, FPCR.FZ) */
+    APFLOAT_TELL_ROUNDED_UP = 4,     /* computes the result twice, if it has to */
+    APFLOAT_CONTROL_BITS = 0x7fffffff
+} apfloat_control;
+
+/* What `number` is a sum of. */
+#define APFLOAT_DENORMAL_OPERAND 1
+#define APFLOAT_ROUNDED_UP 2
+
+/* apfloat_machine for an interpreter of instructions, with what a control word asks for, a sum of the bits above. Also
+ * in the mode APFLOAT_TO_ODD: an inexact result is the one of its two neighbours whose last digit is odd, of integers
+ * the odd one, and past the largest value that value, with the flags of APFLOAT_TOWARD_ZERO; then it may be flushed.
+ * `number` is the sum of
+ *
+ * - APFLOAT_DENORMAL_OPERAND: with APFLOAT_DENORMALS_ARE_ZEROS, if an operand was denormal (IDC of Arm with FPCR.FZ);
+ *   without it, if an operand is denormal, none is a NaN, and neither APFLOAT_INVALID_OP nor APFLOAT_DIV_BY_ZERO is
+ *   raised (DE of x86, IDC with FPCR.AH). Which instructions have the flag is left to the caller.
+ * - APFLOAT_ROUNDED_UP, if the control word asks for it: the result is inexact, and its magnitude is greater than that
+ *   of the exact one (C1 of x87, FR of POWER): it differs from the result toward zero.
+ *
+ * The errors are those of apfloat_machine, in its order, but that of the machine, and then APFLOAT_WRONG_CONTROL, come
+ * before those of the operation. */
+apfloat_error apfloat_instruction(apfloat_machine_kind machine, apfloat_operation operation, apfloat_format format,
+                                  apfloat_mode mode, apfloat_control control, uint32_t to, apfloat_halves x,
+                                  apfloat_halves y, apfloat_halves z, apfloat_answer *answer);
 
 /* ---- arrays
  *

@@ -144,7 +144,8 @@ enum class errc : std::uint32_t {
     unknown_machine = APFLOAT_UNKNOWN_MACHINE,
     wide_operand = APFLOAT_WIDE_OPERAND,
     lacking_operation = APFLOAT_LACKING_OPERATION,
-    overlapping_arrays = APFLOAT_OVERLAPPING_ARRAYS
+    overlapping_arrays = APFLOAT_OVERLAPPING_ARRAYS,
+    wrong_control = APFLOAT_WRONG_CONTROL
 };
 
 /// An error in words: those of apfloat_error_text.
@@ -160,6 +161,7 @@ constexpr const char *message(errc error) noexcept {
     case errc::wide_operand: return "an operand is wider than its format";
     case errc::lacking_operation: return "the machine does not have the operation";
     case errc::overlapping_arrays: return "arrays overlap";
+    case errc::wrong_control: return "wrong control word";
     }
     return "unknown error code";
 }

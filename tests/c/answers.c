@@ -421,6 +421,8 @@ static void call(size_t kind) {
         uint32_t made_to = operation == APFLOAT_CONVERT ? to : operation < APFLOAT_LEAST ? width : below(8);
         CALL(apfloat_machine, below(17), operation, format, mode, made_to, within(format, x), within(format, y),
              within(format, z));
+        CALL(apfloat_instruction, below(17), operation, format, below(4) ? mode : APFLOAT_TO_ODD, below(9), made_to,
+             within(format, x), within(format, y), within(format, z));
         break;
     }
     case 44:

@@ -112,7 +112,7 @@ static void remember(void) {
 
 /* What a call returned: only the results that it may write differ from before. */
 static void returned(const char *name, uint32_t error, const area *results, const area *more, const area *table) {
-    if (error > APFLOAT_OVERLAPPING_ARRAYS || error == APFLOAT_UNKNOWN_ERROR) {
+    if (error > APFLOAT_WRONG_CONTROL || error == APFLOAT_UNKNOWN_ERROR) {
         fail(name);
     }
     answered += error == APFLOAT_ANSWERED;
@@ -149,7 +149,7 @@ static size_t width_of(uint32_t of) {
         memset(&before, (int)below(256), sizeof before);                                                               \
         answer = before;                                                                                               \
         uint32_t error = name(__VA_ARGS__, &answer);                                                                   \
-        if (error > APFLOAT_OVERLAPPING_ARRAYS || error == APFLOAT_UNKNOWN_ERROR ||                                    \
+        if (error > APFLOAT_WRONG_CONTROL || error == APFLOAT_UNKNOWN_ERROR ||                                    \
             (error && memcmp(&answer, &before, sizeof answer)) || (!error && answer.status > 31)) {                    \
             fail(#name);                                                                                               \
         }                                                                                                              \
@@ -166,7 +166,7 @@ static apfloat_p3109 constants(void) {
 static void values(void) {
     uint32_t f = format(), m = mode();
     apfloat_halves x = bits(), y = bits(), z = bits();
-    switch (below(55)) {
+    switch (below(56)) {
     case 0: ONE(apfloat_add, f, m, x, y); break;
     case 1: ONE(apfloat_sub, f, m, x, y); break;
     case 2: ONE(apfloat_mul, f, m, x, y); break;
@@ -244,6 +244,10 @@ static void values(void) {
         ONE(apfloat_storage_operation, below(2) ? 32 + below(3) : format(), m, code(17), a, b, c);
         break;
     }
+    case 53:
+        ONE(apfloat_instruction, code(17), code(17), f, below(4) ? m : APFLOAT_TO_ODD, code(9),
+            below(2) ? format() : code(130), x, y, z);
+        break;
     default: ONE(apfloat_machine, code(17), code(17), f, m, below(2) ? format() : code(130), x, y, z);
     }
 }

@@ -279,7 +279,7 @@ void check_errors() {
     CHECK(refused.value_or({number(2.0), {}}).value == number(2.0));
     CHECK(std::string(message(errc::refused_text)) == "the text was refused");
     // The code of a number that is no code has a text too.
-    for (std::uint32_t code = APFLOAT_UNKNOWN_FORMAT; code <= APFLOAT_OVERLAPPING_ARRAYS; code++) {
+    for (std::uint32_t code = APFLOAT_UNKNOWN_FORMAT; code <= APFLOAT_WRONG_CONTROL; code++) {
         apfloat_text text = {{0}, 0};
         CHECK(apfloat_error_text(static_cast<apfloat_error>(code), &text) == APFLOAT_ANSWERED);
         CHECK(std::string(message(static_cast<errc>(code))) == text.bytes);

@@ -4,6 +4,7 @@ use Rattle.apfloat_c.specs.{declared.decimals.DecimalText.DecimalText, ArrayCall
 use Rattle.coded_calls.specs.KnownCalls.{answered, no_such_operation, refused_text, unknown_format, unknown_mode}
 use Rattle.coded_calls.specs.KnownCalls.{wrong_width}
 use Rattle.coded_calls.specs.MachineCalls.{lacking_operation, unknown_machine, wide_operand}
+use Rattle.coded_calls.specs.Instructions.{wrong_control}
 
 -- the error for a number that no export returns
 abbrev pub unknown_error : ℕ
@@ -14,7 +15,7 @@ abbrev pub overlapping_arrays : ℕ
 overlapping_arrays = 11
 
 abbrev pub greatest_code : ℕ
-greatest_code = overlapping_arrays
+greatest_code = wrong_control
 
 abbrev pub error_text : ℕ → List ℕ
 error_text error =
@@ -29,6 +30,7 @@ error_text error =
     else if error == wide_operand then codes "an operand is wider than its format"
     else if error == lacking_operation then codes "the machine does not have the operation"
     else if error == overlapping_arrays then codes "arrays overlap"
+    else if error == wrong_control then codes "wrong control word"
     else codes "unknown error code"
 
 -- the code 0 and the text of a code, or the error and the previous contents

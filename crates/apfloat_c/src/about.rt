@@ -4,7 +4,7 @@ ghost use Rattle.std.specs.Prelude.{◌≡◌, ◌<◌, length};
 ghost use Rattle.apfloat_c.specs.About.{IsErrorText, error_text, made_by, version};
 
 use crate::decimals::{DecimalText, text_of};
-use coded_calls::codes::{ANSWERED, UNKNOWN_ERROR};
+use coded_calls::codes::{ANSWERED, UNKNOWN_ERROR, WRONG_CONTROL};
 
 /// The version of the library, as `apfloat_version` returns it.
 const VERSION: u32 = 1_000;
@@ -12,16 +12,12 @@ const VERSION: u32 = 1_000;
 /// The toolchain that proves the library, as `apfloat_made_by` returns it.
 const PROVER: u32 = 1;
 
-/// The code for arrays of which one is a part of the other. No export returns it: `include/apfloat.h` does, in calls in
-/// place.
-const OVERLAPPING_ARRAYS: u32 = 11;
-
 /// A text for a code of an error.
 #[unsafe(no_mangle)]
 pub extern "C" fn apfloat_error_text(error: u32, text: &mut DecimalText) -> u32
     ensures { IsErrorText error text.old text.new result }
 {
-    if error > OVERLAPPING_ARRAYS {
+    if error > WRONG_CONTROL {
         return UNKNOWN_ERROR;
     }
     *text = text_of(error_text(error));
@@ -60,7 +56,8 @@ fn error_text(error: u32) -> &'static str
         8 => "unknown machine",
         9 => "an operand is wider than its format",
         10 => "the machine does not have the operation",
-        11 => "arrays overlap",
+        11 => "arrays overlap", // which `include/apfloat.h` returns, in calls in place
+        12 => "wrong control word",
         _ => "unknown error code",
     }
 }

@@ -1,7 +1,8 @@
 //! The result of an export is determined by its arguments.
 
 ghost use Rattle.coded_calls.specs.OneReply.{AreAugmentedCallsOnce, IsFlaglessReplyOnce, IsIeeeReplyOnce};
-ghost use Rattle.coded_calls.specs.OneReply.{IsInAnotherReplyOnce, IsMachineReplyOnce, IsP3109ReplyOnce, IsReplyOnce};
+ghost use Rattle.coded_calls.specs.OneReply.{IsInAnotherReplyOnce, IsInstructionReplyOnce, IsMachineReplyOnce};
+ghost use Rattle.coded_calls.specs.OneReply.{IsP3109ReplyOnce, IsReplyOnce};
 ghost use Rattle.apfloat_c.specs.Digits.{AreDigitsWrittenOnce, IsCountGivenOnce, IsHexPutOnce, IsRoundedHexPutOnce};
 ghost use Rattle.apfloat_c.specs.{Facts.AreFactsOnce, OneAnswer.IsConvertedArrayOnce, OneAnswer.IsDequantizedCallOnce};
 ghost use Rattle.apfloat_c.specs.OneAnswer.{IsErrorTextOnce, IsMappedArrayOnce, IsPackedCallOnce, IsParsedOnce};
@@ -45,6 +46,7 @@ pub fn one_answer()
     ensures augmented { AreAugmentedCallsOnce }
     ensures pairs { ArePairCallsOnce }
     ensures machine { IsMachineReplyOnce }
+    ensures instruction { IsInstructionReplyOnce }
     ensures p3109 { IsP3109ReplyOnce }
     ensures facts { AreFactsOnce }
     ensures error { IsErrorTextOnce }

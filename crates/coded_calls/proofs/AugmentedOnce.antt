@@ -14,7 +14,7 @@ use Rattle.coded_calls.specs.OneReply.{AreAugmentedCallsOnce, SameAnswer}
 use Rattle.coded_calls.proofs.ExportsOnce.{format_determined, unchanged}
 
 -- a datum has one encoding
-encoding_once : (format : BuiltInFormat) (datum other : Datum) (a b : ℕ) → datum ≡ other
+pub encoding_once : (format : BuiltInFormat) (datum other : Datum) (a b : ℕ) → datum ≡ other
     → IsEncodedBy (format_with (constants_in format)) (layout_with (constants_in format)) a datum
     → IsEncodedBy (format_with (constants_in format)) (layout_with (constants_in format)) b other → a ≡ b
 encoding_once format datum other a b same x y =

@@ -15,4 +15,6 @@ pub mod FlaglessOnce
 pub mod P3109Once
 pub mod RandomDigits
 pub mod AugmentedOnce
+pub mod MadeInstructions
+pub mod InstructionsOnce
 pub mod FactsOnce

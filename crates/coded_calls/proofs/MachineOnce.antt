@@ -73,7 +73,7 @@ machine_answer_once c has machine mode (Greatest rule x y) =
     in_format_once c has mode _ (gives_once _ (answer_once _ _))
 
 -- a call on a machine has one result
-machine_call_once : (machine : CodedMachine) (m : MachineFormat) (mode : Round) (call : MachineCall)
+pub machine_call_once : (machine : CodedMachine) (m : MachineFormat) (mode : Round) (call : MachineCall)
     → OnceAnswer (IsMachineCallAnswer machine m mode call)
 machine_call_once machine m mode (Operation operation) =
     let format = format_on machine m in

@@ -4,6 +4,7 @@ pub mod Augmented
 pub mod FlaglessCalls
 pub mod IeeeCalls
 pub mod MachineCalls
+pub mod Instructions
 pub mod P3109
 pub mod OneReply
 pub mod Facts

@@ -5,9 +5,11 @@ use Rattle.formats_at_run_time.specs.declared.FlaggedKind.{FlaggedKind}
 use Rattle.coded_calls.specs.declared.{data.Answer.Answer, data.Halves.Halves, exported_call.ExportedCall.ExportedCall}
 use Rattle.coded_calls.specs.declared.{flagless_call.FlaglessCall.FlaglessCall, ieee_call.IeeeCall.IeeeCall}
 use Rattle.coded_calls.specs.declared.{ieee_call.InAnotherCall.InAnotherCall, p3109.P3109Call.P3109Call}
+use Rattle.coded_calls.specs.declared.instructions.{Instruction.Instruction, Operands.Operands}
 use Rattle.coded_calls.specs.{Answers.IsReturned, Answers.whole, Augmented.IsAugmentedCall, Augmented.IsPayloadCall}
 use Rattle.coded_calls.specs.{Augmented.KnownAugmentation, Augmented.KnownPayload, FlaglessCalls.IsFlaglessReply}
-use Rattle.coded_calls.specs.{IeeeCalls.IsIeeeReply, IeeeCalls.IsInAnotherReply, KnownCalls.known_call}
+use Rattle.coded_calls.specs.{IeeeCalls.IsIeeeReply, IeeeCalls.IsInAnotherReply, Instructions.IsInstructionReply}
+use Rattle.coded_calls.specs.KnownCalls.{known_call}
 use Rattle.coded_calls.specs.{MachineCalls.IsMachineReply, MachineCalls.MachineRequest, P3109.IsP3109Reply}
 
 -- two results with the same number of 128 bits, the same flags, and the same extra number
@@ -54,6 +56,14 @@ abbrev pub IsMachineReplyOnce : Type 0
 IsMachineReplyOnce =
     (known : Result MachineRequest ℕ) (old first second : Answer) (code other : ℕ)
     → IsMachineReply known old first code → IsMachineReply known old second other
+    → (code ≡ other) × SameAnswer first second
+
+-- what a machine delivers with a control word
+abbrev pub IsInstructionReplyOnce : Type 0
+IsInstructionReplyOnce =
+    (known : Result Instruction ℕ) (operation to : ℕ) (of : Operands) (old first second : Answer) (code other : ℕ)
+    → IsInstructionReply known operation to of old first code
+    → IsInstructionReply known operation to of old second other
     → (code ≡ other) × SameAnswer first second
 
 -- a conversion into a format of P3109 or out of it

@@ -36,8 +36,11 @@ pub const UNKNOWN_MACHINE: u32 = 8;
 /// The error for an operand with bits at or above the width of its format.
 pub const WIDE_OPERAND: u32 = 9;
 
-/// The error for an operation that the machine does not have, and the greatest code.
+/// The error for an operation that the machine does not have.
 pub const LACKING_OPERATION: u32 = 10;
+
+/// The error for a control word with unknown bits, or with some that the machine does not have, and the greatest code.
+pub const WRONG_CONTROL: u32 = 12;
 
 /// The mode of calls that take no mode.
 pub const NEAREST_EVEN: u32 = 0;

@@ -20,6 +20,7 @@ pub mod flagless;
 pub mod flagless_call;
 pub mod ieee_answers;
 pub mod ieee_call;
+pub mod instructions;
 pub mod machine_call;
 pub mod machine_operations;
 pub mod operations;

@@ -6,16 +6,20 @@ ghost use Rattle.formats_at_run_time.specs.FlaggedKinds.{flagged_constants, flag
 ghost use Rattle.formats_at_run_time.specs.{Modes.mode_coded, ValueKinds.of_format};
 ghost use Rattle.coded_calls.specs.{Answers.whole, declared.machine_call.MachineCall.TheVariants.Operation};
 ghost use Rattle.coded_calls.specs.declared.machine_call.MachineOperation.TheVariants.{OfTwo};
-ghost use Rattle.coded_calls.specs.MachineCalls.{choices, conversion_call, format_on, is_tiny_before, machine_call};
-ghost use Rattle.coded_calls.specs.MachineCalls.{machine_coded, machine_format, machine_operation, of_one};
-ghost use Rattle.coded_calls.specs.MachineCalls.{operation_call, rule_coded};
+ghost use Rattle.coded_calls.specs.MachineCalls.{choices, conversion_call, format_on, is_tiny_before};
+ghost use Rattle.coded_calls.specs.MachineCalls.{kind_without_rule, machine_call, machine_coded, machine_format};
+ghost use Rattle.coded_calls.specs.MachineCalls.{machine_operation, of_one, operation_call, rule_coded};
 
 use crate::codes::{NO_SUCH_OPERATION, UNKNOWN_FORMAT};
 use apfloat_machines::{Machine, MinimumRule};
 use formats_at_run_time::{
-    Arithmetic, BuiltInKind, FillsInFormat, FlaggedFormat, FlaggedKind, IeeeFormat, mode_coded,
+    Arithmetic, BuiltInKind, FillsInFormat, FlaggedFormat, FlaggedKind, IeeeFormat,
+    InFlaggedFormat, mode_coded,
 };
 use rustc_apfloat::Round;
+use rustc_apfloat::ieee::{
+    BFloatS, DoubleS, Float8E5M2S, HalfS, QuadS, SingleS, X87DoubleExtendedS,
+};
 
 /// The code of conversions to another format.
 const CONVERSION: u32 = 11;
@@ -209,6 +213,38 @@ impl MachineFormat {
             place.old place.new result }
     {
         self.on(machine).fill(call, place)
+    }
+
+    /// Makes a call in the format without its rule of flags, which bits do not depend on.
+    #[inline(always)]
+    pub fn run_without_rule<C: InFlaggedFormat>(self, call: C) -> C::Output
+        ensures { C.gives call (kind_without_rule self) result }
+    {
+        match self.format {
+            IeeeFormat::Half => call.in_flagged_format::<HalfS>(),
+            IeeeFormat::Single => call.in_flagged_format::<SingleS>(),
+            IeeeFormat::Double => call.in_flagged_format::<DoubleS>(),
+            IeeeFormat::Quad => call.in_flagged_format::<QuadS>(),
+            IeeeFormat::BFloat => call.in_flagged_format::<BFloatS>(),
+            IeeeFormat::E5M2 => call.in_flagged_format::<Float8E5M2S>(),
+            IeeeFormat::X87 => call.in_flagged_format::<X87DoubleExtendedS>(),
+        }
+    }
+
+    /// Makes a call that fills a lent place, in the format without its rule of flags.
+    #[inline(always)]
+    pub fn fill_without_rule<C: FillsInFormat>(self, call: C, place: &mut C::Place) -> C::Output
+        ensures { C.gives call (kind_without_rule self) place.old place.new result }
+    {
+        match self.format {
+            IeeeFormat::Half => call.fill_in_format::<HalfS>(place),
+            IeeeFormat::Single => call.fill_in_format::<SingleS>(place),
+            IeeeFormat::Double => call.fill_in_format::<DoubleS>(place),
+            IeeeFormat::Quad => call.fill_in_format::<QuadS>(place),
+            IeeeFormat::BFloat => call.fill_in_format::<BFloatS>(place),
+            IeeeFormat::E5M2 => call.fill_in_format::<Float8E5M2S>(place),
+            IeeeFormat::X87 => call.fill_in_format::<X87DoubleExtendedS>(place),
+        }
     }
 
     /// The format with its rule of flags on a machine.

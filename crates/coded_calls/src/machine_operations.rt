@@ -48,7 +48,7 @@ use apfloat_machines::{
     settled_signed, settled_unary, settled_unsigned,
 };
 use fast_bits::{add_normal, convert_normal, subtract_normal};
-use formats_at_run_time::{Arithmetic, FillsInFormat, FlaggedFormat, FlaggedKind, mode_coded};
+use formats_at_run_time::{Arithmetic, FillsInFormat, FlaggedKind, mode_coded};
 use ieee_operations::round_to_integral_in;
 use rustc_apfloat::ieee::{
     BFloatS, DoubleS, Flagged, Float8E5M2S, HalfS, IeeeFlags, IeeeFloat, QuadS, SingleS,
@@ -1704,7 +1704,7 @@ fn reply(
 /// Makes a call, and returns 0, or the error for an operand that is too wide, for a width that no integer may have, or
 /// for an operation that the machine does not have.
 #[inline(always)]
-fn made(
+pub fn made(
     machine: CodedMachine,
     format: MachineFormat,
     round: Round,
@@ -1717,16 +1717,13 @@ fn made(
     match call {
         MachineCall::Operation(operation) => operated(machine, format, round, operation, answer),
         MachineCall::Conversion(x, target) => {
-            let source = FlaggedFormat::AfterRounding(format.format).built_in();
-            source.fill(
-                ConversionTo {
-                    target,
-                    machine,
-                    round,
-                    x,
-                },
-                answer,
-            )
+            let call = ConversionTo {
+                target,
+                machine,
+                round,
+                x,
+            };
+            format.fill_without_rule(call, answer)
         }
     }
 }

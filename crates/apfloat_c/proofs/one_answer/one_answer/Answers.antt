@@ -5,7 +5,8 @@ use Rattle.coded_calls.specs.{declared.facts.Facts.Facts, Facts.SameFacts}
 use Rattle.coded_calls.proofs.{AugmentedOnce.augmented_calls_once, ExportsOnce.reply_once, FactsOnce.facts_of_once}
 use Rattle.coded_calls.proofs.{FactsOnce.same_facts, FlaglessOnce.flagless_reply_once}
 use Rattle.coded_calls.proofs.IeeeOnce.{EachHasOne, ieee_reply_once, in_another_reply_once}
-use Rattle.coded_calls.proofs.{MachineOnce.machine_reply_once, P3109Once.p3109_reply_once}
+use Rattle.coded_calls.proofs.{InstructionsOnce.instruction_reply_once, MachineOnce.machine_reply_once}
+use Rattle.coded_calls.proofs.P3109Once.{p3109_reply_once}
 use Rattle.apfloat_c.specs.Facts.{AreFactsOnce}
 use Rattle.apfloat_c.proofs.ArraysOnce.{converted_array_once, mapped_array_once}
 use Rattle.apfloat_c.proofs.BlocksOnce.{dequantized_call_once, packed_call_once, quantized_call_once}
@@ -61,6 +62,7 @@ returns c =
       pairs = pair_calls_once pairs.fused_sum pairs.from_format pairs.to_format
           c.pair_shortest_reads_back.ensures.once;
       machine = machine_reply_once;
+      instruction = instruction_reply_once;
       p3109 = p3109_reply_once c.projections_by_mode_have_one_answer.ensures;
       facts = facts_once;
       error = error_text_once;
