@@ -58,12 +58,12 @@ converted_under c d tiny ieee mode bits answer x =
       given = x.given;
       loses = x.loses;
       holds =
-      subst
-        (λ (v : Datum). IsConversion (format_with under) (format_with d) mode v x.given.value
-        (bits_of x.given.status) x.loses)
-        (value_under c tiny ieee bits)
-        (conversion_under c tiny ieee (format_with d) mode (value_of c bits) x.given.value (bits_of x.given.status)
-        x.loses x.holds);
+          subst
+          (λ (v : Datum). IsConversion (format_with under) (format_with d) mode v x.given.value
+          (bits_of x.given.status) x.loses)
+          (value_under c tiny ieee bits)
+          (conversion_under c tiny ieee (format_with d) mode (value_of c bits) x.given.value (bits_of x.given.status)
+          x.loses x.holds);
       is_written = x.is_written;
     }
 
