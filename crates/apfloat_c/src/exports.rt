@@ -14,7 +14,7 @@ ghost use Rattle.coded_calls.specs.declared.exported_call.ExportedCall.TheVarian
 ghost use Rattle.coded_calls.specs.{declared.exported_call.ExportedCall.TheVariants.Text, KnownCalls.known_call};
 ghost use Rattle.coded_calls.specs.Answers.{IsReturned, whole};
 
-use coded_calls::by_code::{reply, reply_in_kind};
+use coded_calls::by_code::{reply, reply_converted, reply_in_kind};
 use coded_calls::codes::NEAREST_EVEN;
 use coded_calls::data::{Answer, Halves};
 use coded_calls::operations::{
@@ -151,7 +151,7 @@ pub extern "C" fn apfloat_convert(
     ensures { IsReturned (known_call (flagged_kind_coded format) (mode_coded mode)
         (Conversion (whole x) (flagged_kind_coded to))) answer.old answer.new result }
 {
-    reply_in_kind(format, mode, ConversionCall { x: x.number(), to }, answer)
+    reply_converted(format, mode, ConversionCall { x: x.number(), to }, answer)
 }
 
 /// An integer as a value, rounded once.

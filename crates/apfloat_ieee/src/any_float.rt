@@ -74,7 +74,7 @@ impl AnyFloat {
     }
 
     /// The value, as an operation that delivers in the format of a shape sees it.
-    #[inline(never)]
+    #[inline(always)]
     fn operand_for(self, into: Shape) -> Operand
         ensures operand { IsOperand into result }
         ensures is { StandsFor into (seen (format_in self) (format_at into) self.datum) result }

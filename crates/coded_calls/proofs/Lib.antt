@@ -8,6 +8,8 @@ pub mod KnownRequests
 pub mod NumberAnswers
 pub mod EncodedNumbers
 pub mod ExportsOnce
+pub mod AnyOperands
+pub mod RulesOfSources
 pub mod IeeeOnce
 pub mod MachineOnce
 pub mod FlaglessOnce

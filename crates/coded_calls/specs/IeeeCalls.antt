@@ -5,6 +5,7 @@ use Rattle.rustc_apfloat.specs.{Flags.bits_of, Format.Format, Lawful.Constants, 
 use Rattle.apfloat_conversions.specs.Scalings.{IsScaled}
 use Rattle.apfloat_arithmetic.specs.other_formats.FormatOf.{IsSumTo, IsDifferenceTo, IsProductTo, IsQuotientTo}
 use Rattle.apfloat_arithmetic.specs.other_formats.{FormatOf.IsFusedSumTo, RootsOf.IsRootTo}
+use Rattle.apfloat_ieee.specs.AnyFloats.{AnyDatum, format_in}
 use Rattle.ieee_operations.specs.declared.extrema.Extremum.{Extremum, TheVariants.Minimum}
 use Rattle.ieee_operations.specs.declared.extrema.Extremum.TheVariants.{Maximum, MinimumMagnitude, MaximumMagnitude}
 use Rattle.ieee_operations.specs.declared.predicates.OnNan.{OnNan, TheVariants.Quiet, TheVariants.Signaling}
@@ -14,8 +15,7 @@ use Rattle.ieee_operations.specs.declared.predicates.Predicate.TheVariants.{Grea
 use Rattle.ieee_operations.specs.declared.predicates.Predicate.TheVariants.{NotLess, LessUnordered, GreaterUnordered}
 use Rattle.ieee_operations.specs.{Comparisons.IsComparison, Exponents.IsLogB, Extrema.IsExtremum}
 use Rattle.ieee_operations.specs.{Extrema.IsExtremumNumber, TotalOrder.total_cmp, WholeNumbers.IsRoundedToIntegral}
-use Rattle.formats_at_run_time.specs.declared.{FlaggedFormat.FlaggedFormat, FlaggedKind.FlaggedKind}
-use Rattle.formats_at_run_time.specs.declared.FlaggedKind.TheVariants.{OfFormat, Pairs}
+use Rattle.formats_at_run_time.specs.declared.FlaggedKind.{FlaggedKind, TheVariants.OfFormat, TheVariants.Pairs}
 use Rattle.formats_at_run_time.specs.BuiltIns.{constants_in}
 use Rattle.formats_at_run_time.specs.FlaggedKinds.{flagged_constants, flagged_kind_of, format_without_rule}
 use Rattle.formats_at_run_time.specs.Relations.{in_format}
@@ -101,6 +101,11 @@ IsIeeeReply (Some kind) mode call old new code = IsIeeeReplyIn (flagged_kind_of 
 
 -- ---- results in another format
 
+-- the value of bits in the format of these constants, with that format
+pub record HasValue (c : Constants) (bits : ℕ) (x : AnyDatum) : Type 0 where
+  pub format : format_in x ≡ format_with c
+  pub datum : x.datum ≡ value_of c bits
+
 -- the result in d of an operation on two values of c
 abbrev pub IsOfTwoTo : (Format → Format → Format → Round → Datum → Datum → Datum → ℕ → Type 0)
     → Constants → Constants → Round → ℕ → ℕ → Answer → Type 0
@@ -126,11 +131,6 @@ IsInAnotherFormat c d mode (RootTo x) answer =
 abbrev pub IsInAnother : Constants → Kind → Round → InAnotherCall → Answer → Type 0
 IsInAnother c of_pairs mode call answer = ⊥
 IsInAnother c (of_format d) mode call answer = IsInAnotherFormat c d mode call answer
-
-abbrev pub IsInAnotherKind : Kind → FlaggedFormat → Round → InAnotherCall → Answer → Type 0
-IsInAnotherKind of_pairs target mode call answer = ⊥
-IsInAnotherKind (of_format c) target mode call answer =
-    IsInAnotherFormat c (flagged_constants target) mode call answer
 
 -- The faults in their order: both formats, the mode, the operation. Operands are read in the format without its rule of
 -- flags.

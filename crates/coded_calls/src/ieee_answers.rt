@@ -2,22 +2,25 @@
 
 ghost use Rattle.std.specs.Prelude.{◌≡◌, ◌<◌, pos};
 ghost use Rattle.rustc_apfloat.specs.{Flags.bits_of, FlaggedTypes.constants_of};
-ghost use Rattle.formats_at_run_time.specs.{Relations.in_format, ValueKinds.value_of};
+ghost use Rattle.formats_at_run_time.specs.{BuiltIns.constants_in, FormatKinds.IfFormat, Relations.in_format};
+ghost use Rattle.formats_at_run_time.specs.ValueKinds.{value_of};
 ghost use Rattle.coded_calls.specs.declared.ieee_call.IeeeCall.TheVariants.{Predicated, TotalOrder, ExtremumOf, LogB};
 ghost use Rattle.coded_calls.specs.declared.ieee_call.IeeeCall.TheVariants.{ScaleB, Integral};
 ghost use Rattle.coded_calls.specs.declared.ieee_call.InAnotherCall.TheVariants.{SumTo, DifferenceTo, ProductTo};
 ghost use Rattle.coded_calls.specs.declared.ieee_call.InAnotherCall.TheVariants.{QuotientTo, FusedSumTo, RootTo};
 ghost use Rattle.coded_calls.specs.Answers.{IsValueWritten, one_if, whole};
-ghost use Rattle.coded_calls.specs.IeeeCalls.{IsExtremumBy, IsIeeeAnswer, IsInAnotherFormat};
+ghost use Rattle.coded_calls.specs.IeeeCalls.{HasValue, IsExtremumBy, IsIeeeAnswer, IsInAnotherFormat};
 
 use crate::codes::{one_if, order_code};
 use crate::data::Answer;
+use apfloat_ieee::AnyFloat;
 use fast_bits::{compare_bits, has_ordered_words};
+use formats_at_run_time::{BuiltInFormat, InFormat};
 use ieee_operations::{
     Extremum, OnNan, Predicate, compare, extremum_number_of, extremum_of, log_b,
     round_to_integral_in, total_cmp,
 };
-use rustc_apfloat::ieee::{Flagged, IeeeFloat};
+use rustc_apfloat::ieee::{Flagged, IeeeFloat, Semantics};
 use rustc_apfloat::{Float, Round, Status, StatusAnd};
 
 /// Whether a predicate holds of two values, in any mode. Two values that are in an order raise no flag.
@@ -109,69 +112,94 @@ pub fn integral<S: Flagged>(round: Round, x: u128) -> Answer
     written(round_to_integral_in(x, round))
 }
 
+/// Bits that are read in a format.
+#[derive(Clone, Copy)]
+struct Reading {
+    bits: u128,
+}
+
+impl InFormat for Reading {
+    type Output = AnyFloat;
+
+    ghost gives = { λ it kind x. IfFormat kind (λ c. HasValue c it.bits x) };
+
+    #[inline(always)]
+    fn in_format<S: Semantics>(self) -> AnyFloat {
+        value::<S>(self.bits).with_format()
+    }
+}
+
+/// The value of bits in a format.
+#[inline(never)]
+fn value_in(format: BuiltInFormat, bits: u128) -> AnyFloat
+    ensures { HasValue (constants_in format) bits result }
+{
+    format.run(Reading { bits })
+}
+
 /// A sum in the format `T`.
-pub fn sum_to<S: Flagged, T: Flagged>(round: Round, x: u128, y: u128) -> Answer
-    requires source { S.PRECISION < S.BITS }
-    requires target { T.PRECISION < T.BITS }
-    ensures { IsInAnotherFormat (constants_of S.Flagged) (constants_of T.Flagged) round
+pub fn sum_to<T: Flagged>(source: BuiltInFormat, round: Round, x: u128, y: u128) -> Answer
+    requires { T.PRECISION < T.BITS }
+    ensures { IsInAnotherFormat (constants_in source) (constants_of T.Flagged) round
         (SumTo x y) result }
 {
-    let (x, y) = (value::<S>(x), value::<S>(y));
+    let (x, y) = (value_in(source, x), value_in(source, y));
     written(x.add_to::<T>(y, round))
 }
 
 /// A difference in the format `T`.
-pub fn difference_to<S: Flagged, T: Flagged>(round: Round, x: u128, y: u128) -> Answer
-    requires source { S.PRECISION < S.BITS }
-    requires target { T.PRECISION < T.BITS }
-    ensures { IsInAnotherFormat (constants_of S.Flagged) (constants_of T.Flagged) round
+pub fn difference_to<T: Flagged>(source: BuiltInFormat, round: Round, x: u128, y: u128) -> Answer
+    requires { T.PRECISION < T.BITS }
+    ensures { IsInAnotherFormat (constants_in source) (constants_of T.Flagged) round
         (DifferenceTo x y) result }
 {
-    let (x, y) = (value::<S>(x), value::<S>(y));
+    let (x, y) = (value_in(source, x), value_in(source, y));
     written(x.sub_to::<T>(y, round))
 }
 
 /// A product in the format `T`.
-pub fn product_to<S: Flagged, T: Flagged>(round: Round, x: u128, y: u128) -> Answer
-    requires source { S.PRECISION < S.BITS }
-    requires target { T.PRECISION < T.BITS }
-    ensures { IsInAnotherFormat (constants_of S.Flagged) (constants_of T.Flagged) round
+pub fn product_to<T: Flagged>(source: BuiltInFormat, round: Round, x: u128, y: u128) -> Answer
+    requires { T.PRECISION < T.BITS }
+    ensures { IsInAnotherFormat (constants_in source) (constants_of T.Flagged) round
         (ProductTo x y) result }
 {
-    let (x, y) = (value::<S>(x), value::<S>(y));
+    let (x, y) = (value_in(source, x), value_in(source, y));
     written(x.mul_to::<T>(y, round))
 }
 
 /// A quotient in the format `T`.
-pub fn quotient_to<S: Flagged, T: Flagged>(round: Round, x: u128, y: u128) -> Answer
-    requires source { S.PRECISION < S.BITS }
-    requires target { T.PRECISION < T.BITS }
-    ensures { IsInAnotherFormat (constants_of S.Flagged) (constants_of T.Flagged) round
+pub fn quotient_to<T: Flagged>(source: BuiltInFormat, round: Round, x: u128, y: u128) -> Answer
+    requires { T.PRECISION < T.BITS }
+    ensures { IsInAnotherFormat (constants_in source) (constants_of T.Flagged) round
         (QuotientTo x y) result }
 {
-    let (x, y) = (value::<S>(x), value::<S>(y));
+    let (x, y) = (value_in(source, x), value_in(source, y));
     written(x.div_to::<T>(y, round))
 }
 
 /// A product plus a third value, in the format `T`.
-pub fn fused_sum_to<S: Flagged, T: Flagged>(round: Round, x: u128, y: u128, z: u128) -> Answer
-    requires source { S.PRECISION < S.BITS }
-    requires target { T.PRECISION < T.BITS }
-    ensures { IsInAnotherFormat (constants_of S.Flagged) (constants_of T.Flagged) round
+pub fn fused_sum_to<T: Flagged>(
+    source: BuiltInFormat,
+    round: Round,
+    x: u128,
+    y: u128,
+    z: u128,
+) -> Answer
+    requires { T.PRECISION < T.BITS }
+    ensures { IsInAnotherFormat (constants_in source) (constants_of T.Flagged) round
         (FusedSumTo x y z) result }
 {
-    let (x, y, z) = (value::<S>(x), value::<S>(y), value::<S>(z));
+    let (x, y, z) = (value_in(source, x), value_in(source, y), value_in(source, z));
     written(x.mul_add_to::<T>(y, z, round))
 }
 
 /// A square root in the format `T`.
-pub fn root_to<S: Flagged, T: Flagged>(round: Round, x: u128) -> Answer
-    requires source { S.PRECISION < S.BITS }
-    requires target { T.PRECISION < T.BITS }
-    ensures { IsInAnotherFormat (constants_of S.Flagged) (constants_of T.Flagged) round
+pub fn root_to<T: Flagged>(source: BuiltInFormat, round: Round, x: u128) -> Answer
+    requires { T.PRECISION < T.BITS }
+    ensures { IsInAnotherFormat (constants_in source) (constants_of T.Flagged) round
         (RootTo x) result }
 {
-    let x = value::<S>(x);
+    let x = value_in(source, x);
     written(x.sqrt_to::<T>(round))
 }
 

@@ -2,9 +2,9 @@
 
 ghost use Rattle.std.specs.Prelude.{◌<◌};
 ghost use Rattle.rustc_apfloat.specs.FlaggedTypes.{constants_of};
-ghost use Rattle.formats_at_run_time.specs.{FlaggedKinds.flagged_kind_coded, Modes.mode_coded};
-ghost use Rattle.coded_calls.specs.IeeeCalls.{IsIeeeAnswer, IsIeeeReply, IsIeeeReplyIn, IsInAnother, IsInAnotherKind};
-ghost use Rattle.coded_calls.specs.IeeeCalls.{IsInAnotherReply, IsInAnotherFormat};
+ghost use Rattle.formats_at_run_time.specs.{BuiltIns.constants_in, FlaggedKinds.flagged_kind_coded, Modes.mode_coded};
+ghost use Rattle.coded_calls.specs.IeeeCalls.{IsIeeeAnswer, IsIeeeReply, IsIeeeReplyIn, IsInAnother, IsInAnotherReply};
+ghost use Rattle.coded_calls.specs.IeeeCalls.{IsInAnotherFormat};
 
 use crate::codes::{ANSWERED, NO_SUCH_OPERATION, UNKNOWN_FORMAT, UNKNOWN_MODE};
 use crate::data::Answer;
@@ -13,10 +13,9 @@ use crate::ieee_answers::{
     product_to, quotient_to, root_to, scaled_by, sum_to,
 };
 use crate::ieee_call::{IeeeCall, InAnotherCall};
-use formats_at_run_time::{FillsInFormat, FillsInKind, FlaggedFormat, FlaggedKind, mode_coded};
+use formats_at_run_time::{BuiltInFormat, FillsInFormat, FillsInKind, FlaggedKind, mode_coded};
 use rustc_apfloat::Round;
 use rustc_apfloat::ieee::Flagged;
-use std::marker::PhantomData;
 
 /// A call, if its code is known, with the code of its rounding mode.
 #[derive(Clone, Copy)]
@@ -87,10 +86,10 @@ fn ieee_answer<S: Flagged>(round: Round, call: IeeeCall) -> Answer
     }
 }
 
-/// A call whose result is of another format, which may be any.
+/// A call on values of a format, whose result is of another.
 #[derive(Clone, Copy)]
 struct InAnother {
-    target: FlaggedFormat,
+    source: BuiltInFormat,
     round: Round,
     call: InAnotherCall,
 }
@@ -100,56 +99,28 @@ impl FillsInFormat for InAnother {
 
     type Output = ();
 
-    ghost gives = { λ it kind old new _. IsInAnotherKind kind it.target it.round it.call new };
-
-    fn fill_in_format<S: Flagged>(self, answer: &mut Answer) {
-        let call = OnFormat::<S> {
-            source: PhantomData,
-            round: self.round,
-            call: &self.call,
-        };
-        self.target.fill(call, answer);
-    }
-}
-
-/// A call on values of the format `S`, whose result is of another.
-#[derive(Drop)]
-struct OnFormat<'a, S: Flagged> {
-    source: PhantomData<S>,
-    round: Round,
-    call: &'a InAnotherCall,
-    ghost has_bits: { S.PRECISION < S.BITS },
-}
-
-impl<S: Flagged> FillsInFormat for OnFormat<'_, S> {
-    type Place = Answer;
-
-    type Output = ();
-
     ghost gives = { λ it kind old new _.
-        IsInAnother (constants_of S.Flagged) kind it.round it.call.now new };
+        IsInAnother (constants_in it.source) kind it.round it.call new };
 
     // As parts of one function for all formats, these would take a compiler minutes.
     #[inline(never)]
     fn fill_in_format<T: Flagged>(self, answer: &mut Answer) {
-        *answer = in_another::<S, T>(self.round, *self.call);
+        *answer = in_another::<T>(self.source, self.round, self.call);
     }
 }
 
-/// The result in the format `T` of a call on values of the format `S`.
-fn in_another<S: Flagged, T: Flagged>(round: Round, call: InAnotherCall) -> Answer
-    requires source { S.PRECISION < S.BITS }
-    requires target { T.PRECISION < T.BITS }
-    ensures { IsInAnotherFormat (constants_of S.Flagged) (constants_of T.Flagged) round call
-        result }
+/// The result in the format `T` of a call on values of a format.
+fn in_another<T: Flagged>(source: BuiltInFormat, round: Round, call: InAnotherCall) -> Answer
+    requires { T.PRECISION < T.BITS }
+    ensures { IsInAnotherFormat (constants_in source) (constants_of T.Flagged) round call result }
 {
     match call {
-        InAnotherCall::SumTo(x, y) => sum_to::<S, T>(round, x, y),
-        InAnotherCall::DifferenceTo(x, y) => difference_to::<S, T>(round, x, y),
-        InAnotherCall::ProductTo(x, y) => product_to::<S, T>(round, x, y),
-        InAnotherCall::QuotientTo(x, y) => quotient_to::<S, T>(round, x, y),
-        InAnotherCall::FusedSumTo(x, y, z) => fused_sum_to::<S, T>(round, x, y, z),
-        InAnotherCall::RootTo(x) => root_to::<S, T>(round, x),
+        InAnotherCall::SumTo(x, y) => sum_to::<T>(source, round, x, y),
+        InAnotherCall::DifferenceTo(x, y) => difference_to::<T>(source, round, x, y),
+        InAnotherCall::ProductTo(x, y) => product_to::<T>(source, round, x, y),
+        InAnotherCall::QuotientTo(x, y) => quotient_to::<T>(source, round, x, y),
+        InAnotherCall::FusedSumTo(x, y, z) => fused_sum_to::<T>(source, round, x, y, z),
+        InAnotherCall::RootTo(x) => root_to::<T>(source, round, x),
     }
 }
 
@@ -181,9 +152,10 @@ pub fn reply_in_another(
         FlaggedKind::OfFormat(format) => match target {
             FlaggedKind::Pairs => NO_SUCH_OPERATION,
             FlaggedKind::OfFormat(target) => {
-                format.built_in().fill(
+                let source = format.built_in();
+                target.fill(
                     InAnother {
-                        target,
+                        source,
                         round,
                         call,
                     },

@@ -1,7 +1,11 @@
-use Rattle.std.proofs.Common.{sym}
+use Rattle.apfloat_arithmetic.specs.other_formats.FormatOf.{IsSumTo}
+use Rattle.rustc_apfloat.specs.FlaggedTypes.{constants_of}
+use Rattle.formats_at_run_time.specs.BuiltIns.{constants_in}
+use Rattle.coded_calls.proofs.AnyOperands.{of_two_in}
 use Rattle.coded_calls.proofs.ieee_answers.sum_to.Goals as goal
 
 pub returns : goal.returns
 returns g c =
-    rw (sym c.value-x.ensures, sym c.value-y.ensures)
-    (record { given = c.add_to.result; holds = c.add_to.ensures; is_written = c.written.ensures })
+    of_two_in IsSumTo (constants_in c.args.source) (constants_of g.T.Flagged) c.args.round c.args.x c.args.y
+    c.value_in-x.result c.value_in-y.result c.add_to.result c.written.result c.value_in-x.ensures
+    c.value_in-y.ensures c.add_to.ensures c.written.ensures
