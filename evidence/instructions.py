@@ -71,6 +71,9 @@ def valued(form, target, machine, call, rule, mode, control, data):
         return (given, flags) if is_nan(x) else (value, flags)
     if call in ("least", "greatest"):
         result = machines.extremum(form, machine, rule, call == "least", *data)
+        # MINSS, and FMIN with FPCR.AH, do not flush.
+        if rule == "second":
+            return result
     elif call in REMAINDERS:
         result = machines.settled(form, machine, data, REMAINDERS[call](form, *data))
     elif call == "round_to_integral":

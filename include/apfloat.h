@@ -638,7 +638,8 @@ apfloat_error apfloat_machine(apfloat_machine_kind machine, apfloat_operation op
  * it in name, and .._PTX. */
 typedef enum apfloat_control APFLOAT_CODE {
     /* Tiny results, exact ones too, are zeros of their sign, with APFLOAT_UNDERFLOW, and with APFLOAT_INEXACT but on
-     * .._ARM and .._ARM_DEFAULT_NAN (FTZ, FPCR.FZ). */
+     * .._ARM and .._ARM_DEFAULT_NAN (FTZ, FPCR.FZ); not those of APFLOAT_RULE_SECOND, which are operands. On .._X86
+     * instructions in half do neither. */
     APFLOAT_FLUSH_RESULTS = 1,
     APFLOAT_DENORMALS_ARE_ZEROS = 2, /* denormal operands are zeros of their sign (DAZ, FPCR.FIZ, FPCR.FZ) */
     APFLOAT_TELL_ROUNDED_UP = 4,     /* computes the result twice, if it has to */

@@ -1,5 +1,5 @@
-// Compares lines of `instructions.c` with apfloat_machine, called as docs/MACHINES.md says: with what is flushed, and
-// the flag of a denormal operand.
+// Compares lines of `instructions.c` with apfloat_instruction, and those of the x87 with apfloat_machine, called as
+// docs/MACHINES.md says: with what is flushed, and the flag of a denormal operand.
 //
 //     cc -O2 -Iinclude -o JUDGE evidence/processor/judge.c LIBRARY && ./RUN 1 100000 | ./JUDGE
 //
@@ -78,6 +78,29 @@ static apfloat_answer compared(const Line *line, apfloat_halves x, apfloat_halve
     return equal;
 }
 
+// By apfloat_instruction, which flushes, and tells of denormal operands itself.
+static apfloat_answer instructed(const Line *line, uint32_t to) {
+    const apfloat_halves *of = line->operands;
+    uint32_t control = 0;
+    apfloat_answer answer = {{0, 0}, 0, 0};
+    if (is_flushed(line, line->format, FLUSHES_OPERANDS)) control |= APFLOAT_DENORMALS_ARE_ZEROS;
+    if (is_flushed(line, to, FLUSHES_RESULTS)) control |= APFLOAT_FLUSH_RESULTS;
+    if (apfloat_instruction(line->machine, line->operation, line->format, line->mode, control, line->to, of[0], of[1],
+                            of[2], &answer)) {
+        answer.status = ~UINT32_C(0);
+        return answer;
+    }
+    if (answer.number & APFLOAT_DENORMAL_OPERAND) {
+        const bool is_told = control & APFLOAT_DENORMALS_ARE_ZEROS
+                                 ? is_arm(line) && !is_half(line->format)
+                                 : line->machine == APFLOAT_MACHINE_X86 && tells_denormal(line);
+        if (is_told) answer.status |= DENORMAL_OPERAND;
+    }
+    if (!has_values(line)) // a negative integer has more bits
+        answer.bits = (apfloat_halves){answer.bits.low & UINT64_MAX >> (64 - line->to), 0};
+    return answer;
+}
+
 // VCVTNEPS2BF16 takes and delivers no denormal numbers, in nearest even, without flags.
 static apfloat_answer to_bfloat_of_x86(const Line *line) {
     apfloat_halves x = line->operands[0];
@@ -97,6 +120,8 @@ static apfloat_answer expected(const Line *line) {
     bool denormal = false, nan = false;
     uint32_t flags = 0;
     if (is_x86 && line->operation == APFLOAT_CONVERT && to == APFLOAT_BFLOAT) return to_bfloat_of_x86(line);
+    // On the x87 pseudo-denormal numbers are denormal too.
+    if (line->operation < COMPARE_QUIET && line->machine != APFLOAT_MACHINE_X87) return instructed(line, to);
     for (int i = 0; i < 3; i++) {
         operands[i] = line->operands[i];
         nan |= is_nan(line->format, operands[i]);
@@ -115,13 +140,6 @@ static apfloat_answer expected(const Line *line) {
                                operands[1], operands[2], &answer)) {
         answer.status = ~UINT32_C(0);
         return answer;
-    }
-    const bool is_extremum = line->operation == APFLOAT_LEAST || line->operation == APFLOAT_GREATEST;
-    const bool is_tiny = has_values(line) && line->operation < COMPARE_QUIET && !is_extremum &&
-                         ((answer.status & APFLOAT_UNDERFLOW) || is_denormal(to, answer.bits));
-    if (is_tiny && is_flushed(line, to, FLUSHES_RESULTS)) {
-        answer.bits = zero_like(to, answer.bits);
-        answer.status = is_x86 ? APFLOAT_UNDERFLOW | APFLOAT_INEXACT : APFLOAT_UNDERFLOW;
     }
     if (is_x86 && denormal && !nan && tells_denormal(line) &&
         !(answer.status & (APFLOAT_INVALID_OP | APFLOAT_DIV_BY_ZERO)))

@@ -12,7 +12,7 @@ use Rattle.apfloat_model.specs.rounding.Rounding.{inexact_bit}
 use Rattle.apfloat_model.specs.whole_numbers.WholeNumbersOut.{Whole, to_signed}
 use Rattle.round_to_odd.specs.Odd.{IsAnswerMadeOdd}
 use Rattle.apfloat_machines.specs.{declared.flushing.Flush.Flush, Flushing.IsFlushed, Flushing.without_denormal}
-use Rattle.apfloat_machines.specs.Operations.{is_nan_of_three}
+use Rattle.apfloat_machines.specs.{declared.minima.MinimumRule.TheVariants.Second, Operations.is_nan_of_three}
 use Rattle.formats_at_run_time.specs.{declared.FlaggedKind.FlaggedKind, Modes.mode_coded, BuiltIns.constants_in}
 use Rattle.formats_at_run_time.specs.{FlaggedKinds.format_of_ieee, Relations.in_format, ValueKinds.Kind}
 use Rattle.formats_at_run_time.specs.ValueKinds.{of_format, of_pairs, value_of}
@@ -20,7 +20,7 @@ use Rattle.coded_calls.specs.declared.{data.Answer.Answer, machine_call.CodedMac
 use Rattle.coded_calls.specs.declared.machine_call.{MachineCall.MachineCall, MachineFormat.MachineFormat}
 use Rattle.coded_calls.specs.declared.machine_call.MachineCall.TheVariants.{Operation, Conversion}
 use Rattle.coded_calls.specs.declared.machine_call.MachineOperation.TheVariants.{IntegralExact, Integral, ToUnsigned}
-use Rattle.coded_calls.specs.declared.machine_call.MachineOperation.TheVariants.{ToSigned}
+use Rattle.coded_calls.specs.declared.machine_call.MachineOperation.TheVariants.{ToSigned, Least, Greatest}
 use Rattle.coded_calls.specs.declared.instructions.{Control.Control, Instruction.Instruction, Operands.Operands}
 use Rattle.coded_calls.specs.declared.instructions.{ReadOperands.ReadOperands, Rounding.Rounding}
 use Rattle.coded_calls.specs.Answers.{IsLeftBy, IsValue, whole}
@@ -162,9 +162,16 @@ pub record IsFinishedBy (c : Constants) (rounding : Rounding) (control : Control
   pub is_told : IsTold c given plain
   pub is_value : IsValue (in_format c) (IsFinished (format_with c) rounding control plain) answer
 
+-- whether the result is an operand as it is, as those of MINSS are, and of FMIN with FPCR.AH
+abbrev pub keeps_operand : MachineCall → Bool
+keeps_operand (Operation (Least Second x y)) = true
+keeps_operand (Operation (Greatest Second x y)) = true
+keeps_operand call = false
+
 -- whether anything may become of a result; integers and integral values are odd by the mode, and never tiny
 abbrev pub finishes : Control → Rounding → MachineCall → Bool
-finishes control rounding call = is_none (whole_operand call) && (rounding.to_odd || is_some control.flush)
+finishes control rounding call =
+    is_none (whole_operand call) && not (keeps_operand call) && (rounding.to_odd || is_some control.flush)
 
 -- the format of the result, if it has one
 abbrev pub result_format : MachineFormat → MachineCall → MachineFormat

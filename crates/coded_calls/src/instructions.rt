@@ -8,8 +8,9 @@ ghost use Rattle.coded_calls.specs.Instructions.{AreFinished, AreRead, IsCarried
 ghost use Rattle.coded_calls.specs.Instructions.{IsFinishedBy, IsInstructionAnswer, IsInstructionReply, IsSaidOf};
 ghost use Rattle.coded_calls.specs.Instructions.{IsTaken, IsTold, IsUpTold, any_is_denormal, any_is_nan};
 ghost use Rattle.coded_calls.specs.Instructions.{constants_for, control_coded, finishes, has_bit, has_denormal};
-ghost use Rattle.coded_calls.specs.Instructions.{is_above_even, is_denormal_in, known_instruction, mode_by, notes};
-ghost use Rattle.coded_calls.specs.Instructions.{odd_mode, operands_of, result_format, rounding_coded, whole_operand};
+ghost use Rattle.coded_calls.specs.Instructions.{is_above_even, is_denormal_in, keeps_operand, known_instruction};
+ghost use Rattle.coded_calls.specs.Instructions.{mode_by, notes, odd_mode, operands_of, result_format};
+ghost use Rattle.coded_calls.specs.Instructions.{rounding_coded, whole_operand};
 ghost use Rattle.coded_calls.specs.MachineCalls.{machine_fault};
 
 use crate::codes::{
@@ -22,7 +23,7 @@ use crate::machine_call::{
 };
 use crate::machine_operations::made;
 use crate::usual_operands::fits;
-use apfloat_machines::{Flush, flushed, without_denormal};
+use apfloat_machines::{Flush, MinimumRule, flushed, without_denormal};
 use formats_at_run_time::{FlaggedKind, InFlaggedFormat, mode_coded};
 use round_to_odd::to_odd;
 use rustc_apfloat::ieee::{Flagged, IeeeFloat};
@@ -316,11 +317,24 @@ impl InFlaggedFormat for Finishing {
     }
 }
 
+/// Whether the result is an operand as it is, as those of MINSS are, and of FMIN with FPCR.AH.
+fn keeps_operand(call: MachineCall) -> bool
+    ensures { result ≡ keeps_operand call }
+{
+    match call {
+        MachineCall::Operation(MachineOperation::Least(MinimumRule::Second, _, _)) => true,
+        MachineCall::Operation(MachineOperation::Greatest(MinimumRule::Second, _, _)) => true,
+        _ => false,
+    }
+}
+
 /// Whether anything may become of a result.
 fn finishes(control: Control, rounding: Rounding, call: MachineCall) -> bool
     ensures { result ≡ finishes control rounding call }
 {
-    whole_operand(call).is_none() && (rounding.to_odd || control.flush.is_some())
+    whole_operand(call).is_none()
+        && !keeps_operand(call)
+        && (rounding.to_odd || control.flush.is_some())
 }
 
 /// The format of the result, if it has one.
