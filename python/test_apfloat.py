@@ -1002,8 +1002,8 @@ class ArrayTests(unittest.TestCase):
         texts = ['unknown format', 'unknown rounding mode', 'the format does not have the operation',
                  'an integer cannot have this width', 'the text was refused', 'wrong length of an array',
                  'unknown error code', 'unknown machine', 'an operand is wider than its format',
-                 'the machine does not have the operation', 'arrays overlap', 'code 12']
-        self.assertEqual([str(apfloat.Refused(code)) for code in range(1, 13)], texts)
+                 'the machine does not have the operation', 'arrays overlap', 'wrong control word', 'code 13']
+        self.assertEqual([str(apfloat.Refused(code)) for code in range(1, 14)], texts)
         again = pickle.loads(pickle.dumps(apfloat.Refused(5)))
         self.assertEqual((str(again), again.code), ('the text was refused', 5))
 

@@ -956,7 +956,8 @@ static unsigned error_texts(void) {
                                         "unknown machine",
                                         "an operand is wider than its format",
                                         "the machine does not have the operation",
-                                        "arrays overlap"};
+                                        "arrays overlap",
+                                        "wrong control word"};
     unsigned count = 0;
     for (uint32_t error = 0; error <= COUNT(texts); error++) {
         apfloat_text text, wanted;
