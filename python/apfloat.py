@@ -3112,7 +3112,7 @@ class Blocks:
         # Blocks that a shorter length divides, with the same scale in several of them.
         length = math.gcd(self.block, count)
         scales, codes = self.scales._moved(place, last), self.codes._moved(place, last)
-        vectors = []
+        vectors: list[tuple[Any, ...]] = []
         for by, row in zip(scales._last_rows(), codes._last_rows()):
             each = bytes(scale for scale in by for _ in range(self.block // length))[:count // length]
             vectors.append((*self._scaling(), length, each, len(each), row[:count], count))
