@@ -28,7 +28,7 @@ PLAIN = {'self', 'if', 'up', 'down', 'neg_ℤ', 'ltb', 'eqb', 'bits', 'pos', 'fi
          'true', 'false', '2', 'target', 'width', 'found', 'with_status', 'narrowed', 'fields_of'}
 LIBRARIES = ('apfloat_ieee', 'rustc_apfloat', 'apfloat_decimals', 'apfloat_digits', 'ieee_operations', 'round_to_odd',
              'apfloat_machines', 'fast_bits', 'small_formats', 'p3109_formats', 'apfloat_arrays', 'apfloat_c',
-             'commands')
+             'arrays_for_c', 'commands')
 HEAD = re.compile(r'^( *)pub (?:const )?(?:extern "C" )?fn (\w+)', re.M)
 RELATION = re.compile(r'\b((?:Is|Are|Has|Gives|Leads|Stays)[A-Z]\w*)')
 

@@ -3,7 +3,7 @@
     python3 evidence/instructions.py | diff - tests/c/instructions
 
 Results are those of the tables in evidence/exact/machines.py. Whether a magnitude was rounded up is decided by the
-exact result, a fraction: nothing is computed twice.
+exact result, a fraction: nothing is computed twice, and a result with fewer digits is a fraction that is rounded once.
 """
 
 from fractions import Fraction
@@ -14,7 +14,7 @@ from exact.calls import converted_to_odd
 from exact.conversions import convert
 from exact.data import Finite, Infinite, is_nan, number
 from exact.drawing import Encoding, Generator
-from exact.formats import FORMATS, with_ieee_flags
+from exact.formats import FORMATS, X87_DOUBLE, X87_SINGLE, with_ieee_flags
 from exact.machines import MACHINES, RULES
 from exact.rounding import Mode
 from exact.status import DIV_BY_ZERO, INEXACT, INVALID_OP, names
@@ -23,10 +23,14 @@ from row_files import MODES, hexes
 FORMS = ("half", "single", "double", "quad", "bfloat", "e5m2", "x87")
 ARITHMETIC = {"add": "Sum", "sub": "Difference", "mul": "Product", "div": "Quotient", "fma": "FusedSum", "sqrt": "Root"}
 REMAINDERS = {"rem": remainders.nearest_remainder, "mod": remainders.truncated_remainder}
-COUNTS = {"sqrt": 1, "fma": 3, "round_to_integral": 1, "integral": 1, "convert": 1, "to_u128": 1, "to_i128": 1}
+COUNTS = {"sqrt": 1, "fma": 3, "round_to_integral": 1, "integral": 1, "convert": 1, "to_u128": 1, "to_i128": 1,
+          "to_i128_modulo": 1}
 CALLS = (*ARITHMETIC, *REMAINDERS, "round_to_integral", "integral", "convert", "to_u128", "to_i128", "least",
          "greatest")
+LATER = {"to_i128_modulo": machines.MODULO, "mul_extended": machines.EXTENDED}
 FLUSH, ZEROS, UP = 1, 2, 4
+# What the bits of a precision round to.
+PRECISIONS = {8: X87_SINGLE, 16: X87_DOUBLE}
 
 
 def is_denormal(form, x):
@@ -44,13 +48,15 @@ def exact_magnitude(form, call, data):
     values = [format_of.value_of(form, x) for x in data]
     if call in ("add", "sub"):
         return abs(values[0] + values[1] if call == "add" else values[0] - values[1])
-    if call in ("mul", "fma"):
+    if call in ("mul", "mul_extended", "fma"):
         return abs(values[0] * values[1] + (values[2] if call == "fma" else 0))
     return abs(values[0] / values[1]) if call == "div" else abs(values[0])
 
 
 def integer_on(form, machine, call, mode, x, width):
     """An integer with its flags."""
+    if call == "to_i128_modulo":
+        return machines.to_integer_modulo(form, x, width)
     signed = call == "to_i128"
     if mode != odd.ODD:
         return machines.to_integer(form, machine, signed, x, width, mode)
@@ -59,6 +65,18 @@ def integer_on(form, machine, call, mode, x, width):
     if flags != INVALID_OP:
         return integer, flags
     return machines.to_integer(form, machine, signed, x, width, Mode.DOWN if x.negative else Mode.UP)
+
+
+def computed(form, call, mode, control, data):
+    """An operation, with the digits of the precision that is asked for."""
+    narrow = PRECISIONS.get(control & sum(PRECISIONS))
+    if narrow is None or call == "fma":
+        return format_of.computed(form, form, ARITHMETIC[call], mode, data)
+    narrow = with_ieee_flags(narrow)[form.tiny_before_rounding]
+    value, flags = format_of.computed(form, narrow, ARITHMETIC[call], mode, data)
+    if isinstance(value, Finite):
+        value = Finite(value.negative, value.quanta << form.scale - narrow.scale)
+    return value, flags
 
 
 def valued(form, target, machine, call, rule, mode, control, data):
@@ -82,23 +100,26 @@ def valued(form, target, machine, call, rule, mode, control, data):
     elif call == "integral":
         plain = odd.integral(form, *data) if mode == odd.ODD else operations.round_to_integral_in(form, *data, mode)
         result = machines.settled(form, machine, data, (plain[0], plain[1] & ~INEXACT))
+    elif call == "mul_extended":
+        product = format_of.computed(form, form, "Product", mode, data)
+        result = machines.extended_product(form, machine, data, product)
     else:
         settle = machines.settled_fused if call == "fma" else machines.settled
-        result = settle(form, machine, data, format_of.computed(form, form, ARITHMETIC[call], mode, data))
+        result = settle(form, machine, data, computed(form, call, mode, control, data))
     return machines.flushed(form, machine, result) if control & FLUSH else result
 
 
 def line(call, name, machine_name, mode, control, to, drawn):
     """A row: the call, FORMAT@MACHINE, the mode, the control word, `to`, the operands, and the answer."""
     machine = MACHINES[machine_name]
-    form = with_ieee_flags(FORMATS[name])[machine.tiny_before_rounding]
+    form = FORMATS[name] if "+" in name else with_ieee_flags(FORMATS[name])[machine.tiny_before_rounding]
     data = [decoded(form, bits) for bits in drawn]
     denormal = any(is_denormal(form, x) for x in data)
     none_is_nan = not any(map(is_nan, data))
     if control & ZEROS:
         data = [number(form, x.negative, 0) if is_denormal(form, x) else x for x in data]
     target = form
-    if call in ("to_u128", "to_i128"):
+    if call.startswith("to_"):
         value, flags = integer_on(form, machine, call, mode, data[0], to)
         bits = f"{value % (1 << 128):x}"
         is_up = flags & INEXACT and not flags & INVALID_OP and abs(value) > fraction(form, data[0])
@@ -147,6 +168,43 @@ def operand(form, draw):
     return encoding.operand("normal", draw)
 
 
+def long_integer(form, width, draw):
+    """Bits of a number whose digits are around the ends of integers."""
+    greatest = min(form.greatest_exponent, width + form.precision + 1)
+    return Encoding(form).normal(draw.between(0, 1), draw.wide_word(), draw.between(-2, greatest))
+
+
+def infinity_and_zero(form, draw):
+    """Bits of an infinity and a zero in either order."""
+    first = draw.between(0, 1)
+    magnitudes = [encoded(form, Infinite(False)), 0]
+    return [draw.between(0, 1) << form.bits - 1 | magnitudes[first ^ place] for place in (0, 1)]
+
+
+def drawn_line(draw, call, machine_name, turn):
+    """A row of a call on a machine."""
+    name = FORMS[turn % len(FORMS)]
+    mode = (*MODES, odd.ODD)[draw.between(0, len(MODES))]
+    control = draw.between(0, 7)
+    if MACHINES[machine_name].flushed is None:
+        control &= UP
+    to = 0
+    if call == "convert":
+        to = FORMS[draw.between(0, len(FORMS) - 1)]
+    elif call.startswith("to_"):
+        to = (8, 16, 31, 32, 64, 128)[draw.between(0, 5)]
+    elif call in ("least", "greatest"):
+        to = RULES[draw.between(0, len(RULES) - 1)]
+    form = FORMATS[name]
+    if call == "to_i128_modulo" and turn >= len(FORMS):
+        drawn = [long_integer(form, to, draw)]
+    elif call == "mul_extended" and turn >= 3 * len(FORMS):
+        drawn = infinity_and_zero(form, draw)
+    else:
+        drawn = [operand(form, draw) for _ in range(COUNTS.get(call, 2))]
+    return line(call, name, machine_name, mode, control, to, drawn)
+
+
 def rows(draw):
     """Rows of each call, machine and format by turns."""
     for machine_name, machine in MACHINES.items():
@@ -154,27 +212,79 @@ def rows(draw):
             if call == "fma" and machine.order is None or call == "to_u128" and machine.unsigned_of_nan is None:
                 continue
             for turn in range(14):
-                name = FORMS[turn % len(FORMS)]
-                mode = (*MODES, odd.ODD)[draw.between(0, len(MODES))]
-                control = draw.between(0, 7)
-                if machine.flushed is None:
-                    control &= UP
-                to = 0
-                if call == "convert":
-                    to = FORMS[draw.between(0, len(FORMS) - 1)]
-                elif call in ("to_u128", "to_i128"):
-                    to = (8, 16, 31, 32, 64, 128)[draw.between(0, 5)]
-                elif call in ("least", "greatest"):
-                    to = RULES[draw.between(0, len(RULES) - 1)]
-                form = FORMATS[name]
-                drawn = [operand(form, draw) for _ in range(COUNTS.get(call, 2))]
-                yield line(call, name, machine_name, mode, control, to, drawn)
+                yield drawn_line(draw, call, machine_name, turn)
+    for call, names_of_machines in LATER.items():
+        for machine_name in names_of_machines:
+            for turn in range(28):
+                yield drawn_line(draw, call, machine_name, turn)
+
+
+def with_digits(form, draw, count, exponent):
+    """Bits of a number with up to so many digits and this exponent."""
+    lost = form.precision - count
+    trailing = draw.word() % (1 << form.precision - 1) >> lost << lost
+    return Encoding(form).normal(draw.between(0, 1), trailing, exponent)
+
+
+def near_points(form, call, count, draw):
+    """Bits of operands whose result is halfway between numbers of so many digits, or next to that."""
+    exponent = draw.between(-9, 9)
+    if call in ("add", "sub"):
+        above = draw.between(-1, 1)
+        trailing = above % (1 << form.precision - 1)
+        half = Encoding(form).normal(draw.between(0, 1), trailing, exponent - count - (above < 0))
+        return [with_digits(form, draw, count, exponent), half]
+    if call == "sqrt":
+        root = (draw.word() >> 64 - count | 1 << count - 1) << 1 | 1
+        square = root * root + draw.between(-1, 1)
+        lost = max(0, square.bit_length() - form.precision)
+        return [encoded(form, number(form, False, square >> lost << lost + form.scale - 2 * count))]
+    return [with_digits(form, draw, count, exponent), with_digits(form, draw, draw.between(2, 3), 1)]
+
+
+def near_end(form, call, count, draw):
+    """Bits of operands whose result is near the least or the greatest numbers."""
+    if draw.between(0, 1):
+        end = form.least_exponent - draw.between(-2, count + 2)
+    else:
+        end = form.greatest_exponent - draw.between(-2, 0)
+    if call in ("mul", "div"):
+        own = draw.between(end // 2 - 99, end // 2 + 99)
+        other = end - own if call == "mul" else own - end
+        return [with_digits(form, draw, form.precision - draw.between(0, 62), e) for e in (own, other)]
+    end = max(form.least_exponent, min(end, form.greatest_exponent))
+    other = max(form.least_exponent, end - draw.between(0, count + 2))
+    denormal = Encoding(form).denormal(draw.between(0, 1), draw.word(), draw)
+    first = with_digits(form, draw, count, end)
+    return [first, denormal if draw.between(0, 3) == 0 else with_digits(form, draw, form.precision, other)]
+
+
+def rows_of_precisions(draw):
+    """Rows of the precision control of x87."""
+    form = FORMATS["x87"]
+    for precision, narrow in PRECISIONS.items():
+        for call in CALLS:
+            if call in ("fma", "to_u128"):
+                continue
+            for turn in range(48 if call in ARITHMETIC else 2):
+                mode = (*MODES, odd.ODD)[turn % (len(MODES) + 1)]
+                to = {"convert": "double", "to_i128": 32, "least": RULES[0], "greatest": RULES[0]}.get(call, 0)
+                count = COUNTS.get(call, 2)
+                if call not in ARITHMETIC or turn % 4 == 3:
+                    drawn = [operand(form, draw) for _ in range(count)]
+                elif turn % 4 == 2 and call != "sqrt":
+                    drawn = near_end(form, call, narrow.precision, draw)
+                else:
+                    drawn = near_points(form, call, narrow.precision, draw)
+                name = "x87+ieee+before" if turn % 5 == 4 else "x87"
+                yield line(call, name, "x87", mode, precision | draw.between(0, 1) * UP, to, drawn)
 
 
 def main():
     """Prints the file."""
     print("# Operations of machines with control words. Computed by evidence/instructions.py.")
-    print("\n".join(rows(Generator())))
+    draw = Generator()
+    print("\n".join((*rows(draw), *rows_of_precisions(draw))))
 
 
 if __name__ == "__main__":

@@ -539,7 +539,7 @@ APFLOAT_INLINE const char *apfloat_format_name(apfloat_format format) {
  * Pairs of doubles do not have them. The rule of flags of the code makes no difference. */
 
 /* Operations: apfloat_map_array has the first eight, apfloat_augmented three of these, apfloat_storage_operation six of
- * them with the last two, and apfloat_machine all. */
+ * them with the minimum and the maximum, and apfloat_machine all. */
 typedef enum apfloat_operation APFLOAT_CODE {
     APFLOAT_ADD = 1,
     APFLOAT_SUB = 2,
@@ -557,6 +557,9 @@ typedef enum apfloat_operation APFLOAT_CODE {
     APFLOAT_TO_I128 = 13,          /* to a signed one, 2 to 128 */
     APFLOAT_LEAST = 14,            /* the minimum; of a machine by the rule `to` */
     APFLOAT_GREATEST = 15,         /* the maximum */
+    APFLOAT_TO_I128_MODULO = 16,   /* toward zero, modulo 2 to the power of `to`, in the range of APFLOAT_TO_I128 and
+                                      with its flags; 0 for infinities and NaNs (FJCVTZS, FCVTMOD.W.D) */
+    APFLOAT_MUL_EXTENDED = 17,     /* an infinity times a zero is 2 with the sign of the product, no flag (FMULX) */
     APFLOAT_OPERATION_BITS = 0x7fffffff
 } apfloat_operation;
 
@@ -629,7 +632,9 @@ typedef enum apfloat_rule APFLOAT_CODE {
  * format, for an unknown operation or rule, and for a conversion to another format, and APFLOAT_UNKNOWN_FORMAT for one
  * to an unknown format; APFLOAT_UNKNOWN_MACHINE; APFLOAT_WIDE_OPERAND if an operand has bits at or above the width of
  * its format, which other functions ignore; APFLOAT_WRONG_WIDTH; and APFLOAT_LACKING_OPERATION for fused sums of
- * APFLOAT_MACHINE_X87 and .._M68K, and for unsigned integers of these, .._MIPS_2008 and .._SPARC. */
+ * APFLOAT_MACHINE_X87 and .._M68K, for unsigned integers of these, .._MIPS_2008 and .._SPARC, and for
+ * APFLOAT_TO_I128_MODULO and APFLOAT_MUL_EXTENDED of machines other than those of AArch64, which both have, and
+ * .._RISC_V, which has the first. */
 apfloat_error apfloat_machine(apfloat_machine_kind machine, apfloat_operation operation, apfloat_format format,
                               apfloat_mode mode, uint32_t to, apfloat_halves x, apfloat_halves y, apfloat_halves z,
                               apfloat_answer *answer);
@@ -643,6 +648,10 @@ typedef enum apfloat_control APFLOAT_CODE {
     APFLOAT_FLUSH_RESULTS = 1,
     APFLOAT_DENORMALS_ARE_ZEROS = 2, /* denormal operands are zeros of their sign (DAZ, FPCR.FIZ, FPCR.FZ) */
     APFLOAT_TELL_ROUNDED_UP = 4,     /* computes the result twice, if it has to */
+    /* The precision control of .._X87, in APFLOAT_X87 alone, and one of the two alone: sums, differences, products,
+     * quotients and roots are rounded once to so many digits, with the exponents of the format. */
+    APFLOAT_ROUND_TO_24_DIGITS = 8,
+    APFLOAT_ROUND_TO_53_DIGITS = 16,
     APFLOAT_CONTROL_BITS = 0x7fffffff
 } apfloat_control;
 

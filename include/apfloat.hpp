@@ -1629,7 +1629,8 @@ enum class machine_operation : std::uint32_t {
     fma = APFLOAT_FMA,
     sqrt = APFLOAT_SQRT,
     round_to_integral = APFLOAT_ROUND_TO_INTEGRAL,
-    integral = APFLOAT_INTEGRAL
+    integral = APFLOAT_INTEGRAL,
+    mul_extended = APFLOAT_MUL_EXTENDED
 };
 
 /// What a minimum or a maximum of a machine is if an operand is a NaN, or both are zeros.

@@ -1,7 +1,7 @@
 // Compares how the library for C reads decimals with strtof and strtold of the C library, and with strtoflt128 of
 // libquadmath: c_library SEED COUNT
 //
-//     (cd crates/apfloat_c && rt lib)
+//     ./build apfloat_c
 //     cc -O2 -Iinclude evidence/decimal_peers/c_library.c crates/apfloat_c/out/libapfloat_c.a -lquadmath -lm -o PEERS
 //     ./PEERS 1 1000000
 //

@@ -9,6 +9,7 @@ from exact import conversions, integers
 from exact.data import Finite, Infinite, is_nan, is_signaling, number, qnan, quieted
 from exact.formats import FORMATS, with_ieee_flags
 from exact.operations import total_cmp
+from exact.rounding import Mode
 from exact.status import INEXACT, INVALID_OP, OK, UNDERFLOW
 
 
@@ -63,6 +64,12 @@ MACHINES = {
     ),
     "m68k": Machine("first", False, True, None, False, False, True, "by sign", None, False, False, None, True),
 }
+
+# Those that have integers modulo a power of two.
+MODULO = ("arm", "arm_default_nan", "arm_alternate", "arm_alternate_default_nan", "risc_v")
+
+# Those that have products of which an infinity times a zero is 2.
+EXTENDED = MODULO[:4]
 
 RULES = ("second", "second_quietly", "first_nan", "number_2008", "number_2019", "propagated")
 
@@ -141,6 +148,13 @@ def is_invalid_product(*factors):
     return any(isinstance(x, Infinite) for x in factors) and bool(zeros)
 
 
+def extended_product(form, machine, data, result):
+    """A product as the machine gives it, except that an infinity times a zero is 2."""
+    if is_invalid_product(*data):
+        return number(form, data[0].negative != data[1].negative, 2 << form.scale), OK
+    return settled(form, machine, data, result)
+
+
 def drops_addend(form, machine, data):
     """Whether the default takes the place of a NaN that is added to an infinity times a zero."""
     drops = machine.drops_signaling if is_signaling(form, data[2]) else machine.drops_quiet
@@ -171,6 +185,16 @@ def to_integer(form, machine, signed, x, width, mode):
     if machine.integer_is_inexact and not is_nan(x):
         flags |= INEXACT
     return value, flags
+
+
+def to_integer_modulo(form, x, width):
+    """The integer toward zero, modulo a power of two, with the flags of a signed integer of that width."""
+    end = 1 << width - 1
+    _, flags, _ = integers.to_integer(form, x, -end, end - 1, Mode.ZERO)
+    if not isinstance(x, Finite):
+        return 0, flags
+    integer = x.quanta // (1 << form.scale)
+    return ((-integer if x.negative else integer) + end) % (2 * end) - end, flags
 
 
 def converted(source, target, machine, x, mode, flushes):

@@ -1,8 +1,9 @@
 // Lines that a processor, or an emulator of one, computes: RUN SEED COUNT [NAME]
 //
-// Draws operands and controls (the mode, what is flushed, default NaNs) from a seed, and writes for each instruction,
-// or for that of a name, COUNT lines of `instructions.h`, which `judge.c` compares with apfloat_machine. On this
-// computer, and under qemu for aarch64 (-march=armv8.6-a+fp16+bf16), riscv64, powerpc64le (-mcpu=power9) and s390x:
+// Draws operands and controls (the mode, what is flushed, default NaNs, the precision of x87) from a seed, and writes
+// for each instruction, or for that of a name, COUNT lines of `instructions.h`, which `judge.c` compares with the
+// library. On this computer, and under qemu for aarch64 (-march=armv8.6-a+fp16+bf16), riscv64, powerpc64le
+// (-mcpu=power9) and s390x:
 //
 //     gcc -O1 -march=native -Iinclude -o RUN evidence/processor/instructions.c && ./RUN 1 100000 | ./JUDGE
 //     s390x-linux-gnu-gcc -O1 -march=z14 -static -Iinclude -o RUN evidence/processor/instructions.c
@@ -118,7 +119,8 @@ static struct {
 #define UNIT(NAME, STEPS)                                                                                              \
     static uint64_t NAME(Setting setting, const uint64_t x[3], uint32_t *flags) {                                      \
         static const uint16_t ROUNDING[] = {0, 2, 1, 3};                                                               \
-        uint16_t control = (uint16_t)(0x37f | ROUNDING[setting.mode] << 10), status;                                   \
+        uint16_t digits = setting.controls & DIGITS_24 ? 0 : setting.controls & DIGITS_53 ? 0x200 : 0x300, status;     \
+        uint16_t control = (uint16_t)(0x7f | digits | ROUNDING[setting.mode] << 10);                                   \
         memset(&unit[3], 0, sizeof unit[3]);                                                                           \
         unit[0].low = x[0], unit[1].low = x[1], unit[0].high = upper[0], unit[1].high = upper[1];                      \
         __asm__ volatile("fninit\n\tfldcw %[control]\n\t" STEPS "\n\tfnstsw %[status]\n\tfninit"                     \
@@ -241,12 +243,14 @@ static Setting drawn_setting(void) {
 #define ORDER(NAME)                                                                                                    \
     STEP(NAME##_h, COMPARE(#NAME " h1, h2")) STEP(NAME##_s, COMPARE(#NAME " s1, s2"))                                  \
     STEP(NAME##_d, COMPARE(#NAME " d1, d2"))
-TWO(fadd) TWO(fsub) TWO(fmul) TWO(fdiv) TWO(fminnm) TWO(fmaxnm) TWO(fmin) TWO(fmax) ONE(fsqrt) ONE(frinti) ONE(frintx)
+TWO(fadd) TWO(fsub) TWO(fmul) TWO(fmulx) TWO(fdiv) TWO(fminnm) TWO(fmaxnm) TWO(fmin) TWO(fmax)
+ONE(fsqrt) ONE(frinti) ONE(frintx)
 WHOLE(fcvtns) WHOLE(fcvtzs) WHOLE(fcvtzu) WHOLE(fcvtau) ORDER(fcmp) ORDER(fcmpe)
 #define THREE(NAME)                                                                                                    \
     STEP(NAME##_h, #NAME " h0, h1, h2, h3") STEP(NAME##_s, #NAME " s0, s1, s2, s3")                                    \
     STEP(NAME##_d, #NAME " d0, d1, d2, d3")
 THREE(fmadd) THREE(fmsub) THREE(fnmadd) THREE(fnmsub) TWO(fnmul)
+STEP(fjcvtzs, "fjcvtzs w0, d1")
 STEP(fcvt_h_s, "fcvt s0, h1") STEP(fcvt_h_d, "fcvt d0, h1") STEP(fcvt_s_h, "fcvt h0, s1") STEP(fcvt_s_d, "fcvt d0, s1")
 STEP(fcvt_d_h, "fcvt h0, d1") STEP(fcvt_d_s, "fcvt s0, d1") STEP(bfcvt, "bfcvt h0, s1")
 #define EACH(NAME, OPERATION, TO, MODE)                                                                                \
@@ -254,6 +258,7 @@ STEP(fcvt_d_h, "fcvt h0, d1") STEP(fcvt_d_s, "fcvt s0, d1") STEP(bfcvt, "bfcvt h
 #define CONVERSION(NAME, FROM, TO) {#NAME, NAME, APFLOAT_CONVERT, FROM, TO, ANY_MODE}
 static const Instruction INSTRUCTIONS[] = {
     EACH(fadd, APFLOAT_ADD, 0, ANY_MODE), EACH(fsub, APFLOAT_SUB, 0, ANY_MODE), EACH(fmul, APFLOAT_MUL, 0, ANY_MODE),
+    EACH(fmulx, APFLOAT_MUL_EXTENDED, 0, ANY_MODE),
     EACH(fdiv, APFLOAT_DIV, 0, ANY_MODE), EACH(fsqrt, APFLOAT_SQRT, 0, ANY_MODE), EACH(fmadd, APFLOAT_FMA, 0, ANY_MODE),
     {"fmsub_h", fmsub_h, APFLOAT_FMA, APFLOAT_HALF, 0, ANY_MODE, FACTOR}, NEGATED(fmsub, FACTOR),
     NEGATED(fnmadd, FACTOR | ADDEND), NEGATED(fnmsub, ADDEND),
@@ -266,6 +271,7 @@ static const Instruction INSTRUCTIONS[] = {
     EACH(frinti, APFLOAT_INTEGRAL, 0, ANY_MODE), EACH(frintx, APFLOAT_ROUND_TO_INTEGRAL, 0, ANY_MODE),
     EACH(fcvtns, APFLOAT_TO_I128, 32, EVEN), EACH(fcvtzs, APFLOAT_TO_I128, 32, ZERO),
     EACH(fcvtzu, APFLOAT_TO_U128, 32, ZERO), EACH(fcvtau, APFLOAT_TO_U128, 32, AWAY),
+    {"fjcvtzs", fjcvtzs, APFLOAT_TO_I128_MODULO, APFLOAT_DOUBLE, 32, ZERO},
     EACH(fcmp, COMPARE_QUIET, 0, ANY_MODE), EACH(fcmpe, COMPARE_SIGNALING, 0, ANY_MODE),
     CONVERSION(fcvt_h_s, APFLOAT_HALF, APFLOAT_SINGLE), CONVERSION(fcvt_h_d, APFLOAT_HALF, APFLOAT_DOUBLE),
     CONVERSION(fcvt_s_h, APFLOAT_SINGLE, APFLOAT_HALF), CONVERSION(fcvt_s_d, APFLOAT_SINGLE, APFLOAT_DOUBLE),
@@ -486,14 +492,19 @@ static int operand_count(uint32_t operation) {
     case APFLOAT_INTEGRAL:
     case APFLOAT_CONVERT:
     case APFLOAT_TO_U128:
-    case APFLOAT_TO_I128: return 1;
+    case APFLOAT_TO_I128:
+    case APFLOAT_TO_I128_MODULO: return 1;
     default: return 2;
     }
 }
 
 static int result_width(const Instruction *made) {
-    if (made->operation == APFLOAT_TO_U128 || made->operation == APFLOAT_TO_I128) return (int)made->to;
     if (made->operation >= COMPARE_QUIET) return 64;
+    switch (made->operation) {
+    case APFLOAT_TO_U128:
+    case APFLOAT_TO_I128:
+    case APFLOAT_TO_I128_MODULO: return (int)made->to;
+    }
     const Format *f = format_of(made->operation == APFLOAT_CONVERT ? made->to : made->format);
     return 1 + f->field_bits + f->trailing;
 }
@@ -518,6 +529,7 @@ static void write_word(int place, uint64_t bits) {
 }
 
 static void write_line(const Instruction *made) {
+    static const uint32_t PRECISIONS[] = {0, 0, DIGITS_24, DIGITS_53};
     const Format *f = format_of(made->format);
     const bool is_unit = made->format == APFLOAT_X87 || made->to == APFLOAT_X87;
     Setting setting = drawn_setting();
@@ -528,7 +540,7 @@ static void write_line(const Instruction *made) {
     for (int k = 1; k < operand_count(made->operation); k++) x[k] = value(f, x[0]);
     for (int k = 0; k < operand_count(made->operation) && made->format == APFLOAT_X87; k++)
         upper[k] = (uint16_t)(x[k] >> 48), x[k] = lower_word(x[k]);
-    if (is_unit) setting.machine = APFLOAT_MACHINE_X87, setting.controls = 0;
+    if (is_unit) setting.machine = APFLOAT_MACHINE_X87, setting.controls = PRECISIONS[word() % 4];
     uint64_t result = made->made(setting, x, &flags) & UINT64_MAX >> (64 - result_width(made));
     if (made->negated & FACTOR) x[0] = negated(f, x[0]);
     if (made->negated & ADDEND) x[2] = negated(f, x[2]);

@@ -1,5 +1,5 @@
-// Compares lines of `instructions.c` with apfloat_instruction, and those of the x87 with apfloat_machine, called as
-// docs/MACHINES.md says: with what is flushed, and the flag of a denormal operand.
+// Compares lines of `instructions.c` with apfloat_instruction, and those of the x87 that have all digits with
+// apfloat_machine, called as docs/MACHINES.md says: with what is flushed, and the flag of a denormal operand.
 //
 //     cc -O2 -Iinclude -o JUDGE evidence/processor/judge.c LIBRARY && ./RUN 1 100000 | ./JUDGE
 //
@@ -54,7 +54,8 @@ static bool is_flushed(const Line *line, uint32_t format, uint32_t control) {
 }
 
 static bool has_values(const Line *line) {
-    return line->operation != APFLOAT_TO_I128 && line->operation != APFLOAT_TO_U128;
+    return line->operation != APFLOAT_TO_I128 && line->operation != APFLOAT_TO_U128 &&
+           line->operation != APFLOAT_TO_I128_MODULO;
 }
 
 // Whether an instruction of x86 raises the flag of a denormal operand.
@@ -113,6 +114,16 @@ static apfloat_answer to_bfloat_of_x86(const Line *line) {
     return answer;
 }
 
+// By apfloat_machine, or with fewer digits by apfloat_instruction.
+static apfloat_error delivered(const Line *line, const apfloat_halves of[3], apfloat_answer *answer) {
+    const uint32_t digits = line->controls & (DIGITS_24 | DIGITS_53);
+    if (digits && line->format == APFLOAT_X87)
+        return apfloat_instruction(line->machine, line->operation, line->format, line->mode, digits, line->to, of[0],
+                                   of[1], of[2], answer);
+    return apfloat_machine(line->machine, line->operation, line->format, line->mode, line->to, of[0], of[1], of[2],
+                           answer);
+}
+
 static apfloat_answer expected(const Line *line) {
     const bool is_x86 = line->machine == APFLOAT_MACHINE_X86 || line->machine == APFLOAT_MACHINE_X87;
     const uint32_t to = line->operation == APFLOAT_CONVERT ? line->to & 0xff : line->format;
@@ -136,8 +147,7 @@ static apfloat_answer expected(const Line *line) {
     apfloat_answer answer = {{0, 0}, 0, 0};
     if (line->operation >= COMPARE_QUIET) {
         answer = compared(line, operands[0], operands[1]);
-    } else if (apfloat_machine(line->machine, line->operation, line->format, line->mode, line->to, operands[0],
-                               operands[1], operands[2], &answer)) {
+    } else if (delivered(line, operands, &answer)) {
         answer.status = ~UINT32_C(0);
         return answer;
     }

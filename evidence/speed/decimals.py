@@ -3,7 +3,7 @@
 
     python3 evidence/speed/decimals.py [--crate FILE.rlib] [--library FILE.a] [--rounds N]
 
-FILE.a is the library for C, which `rt lib` builds in crates/apfloat_c. FILE.rlib is the Rust crate
+FILE.a is the library for C, which `./build apfloat_c` makes. FILE.rlib is the Rust crate
 as rustc or cargo built it, with the libraries that it needs next to it or in `deps`; with it, Rust's
 own `parse` and `{:e}` are timed too. The others are the C library and libquadmath. Each cell has the
 fastest of N rounds; a round runs all programs cell by cell. The operands are drawn from a seed:

@@ -41,7 +41,7 @@ pub const LIBRARY: &[&str] = &[
 ];
 
 /// The crates that the library for C has above those.
-pub const FOR_C: &[&str] = &["coded_calls", "apfloat_c"];
+pub const FOR_C: &[&str] = &["coded_calls", "apfloat_c", "arrays_for_c"];
 
 /// The crates that the program `vectors` is made of, lowest first: those of the library up to `rustc_apfloat`, and two
 /// above them, of which the last one is the program but for its `main`.

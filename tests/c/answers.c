@@ -417,8 +417,9 @@ static void call(size_t kind) {
     case 41: CALL(apfloat_integral, format, mode, x); break;
     case 42: CALL(apfloat_to_format, below(7), format, mode, to, x, y, z); break;
     case 43: {
-        uint32_t operation = below(17);
-        uint32_t made_to = operation == APFLOAT_CONVERT ? to : operation < APFLOAT_LEAST ? width : below(8);
+        uint32_t operation = below(19);
+        int has_rule = operation == APFLOAT_LEAST || operation == APFLOAT_GREATEST;
+        uint32_t made_to = operation == APFLOAT_CONVERT ? to : has_rule ? below(8) : width;
         CALL(apfloat_machine, below(17), operation, format, mode, made_to, within(format, x), within(format, y),
              within(format, z));
         CALL(apfloat_instruction, below(17), operation, format, below(4) ? mode : APFLOAT_TO_ODD, below(9), made_to,

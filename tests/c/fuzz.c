@@ -245,10 +245,10 @@ static void values(void) {
         break;
     }
     case 53:
-        ONE(apfloat_instruction, code(17), code(17), f, below(4) ? m : APFLOAT_TO_ODD, code(9),
+        ONE(apfloat_instruction, code(17), code(19), f, below(4) ? m : APFLOAT_TO_ODD, code(25),
             below(2) ? format() : code(130), x, y, z);
         break;
-    default: ONE(apfloat_machine, code(17), code(17), f, m, below(2) ? format() : code(130), x, y, z);
+    default: ONE(apfloat_machine, code(17), code(19), f, m, below(2) ? format() : code(130), x, y, z);
     }
 }
 

@@ -112,8 +112,7 @@ read_odd_sum least base e unit k m n s t negative q d h =
     let a : h.amount ≡ magnitude (signed s m +ℤ signed t n) * 2 ^ k =
     read_amount negative h.amount (2 ^ k) (signed s m +ℤ signed t n) w b in
     record {
-      rounded =
-          read_to_odd least base e unit k h.amount (magnitude (signed s m +ℤ signed t n)) q h.above d a h.rounded;
+      rounded = read_to_odd least base e unit k h.amount (magnitude (signed s m +ℤ signed t n)) q h.above d a h.rounded;
       is = read_signed negative h.amount (2 ^ k) (signed s m +ℤ signed t n) w b;
     }
 
@@ -140,22 +139,19 @@ odd_sign least of_zero negative answer (suc q) (suc amount) w unit p u h f g =
     let k = λ (x : suc q ≡ 0). absurd (omega arith) in g k ∙ sign_of_some of_zero negative amount
 
 pub read_odd_sign : (least : ℕ) (of_zero : Bool) (exact unit : ℤ) (negative answer : Bool) (significand : ℕ)
-    → IsRepresentedToOdd least exact negative unit significand
-    → (significand ≡ 0 → answer ≡ of_zero) → ((significand ≡ 0 → ⊥) → answer ≡ negative)
-    → answer ≡ sign_of of_zero exact
+    → IsRepresentedToOdd least exact negative unit significand → (significand ≡ 0 → answer ≡ of_zero)
+    → ((significand ≡ 0 → ⊥) → answer ≡ negative) → answer ≡ sign_of of_zero exact
 read_odd_sign least of_zero exact unit negative answer significand r f g =
     let u : 0 < 1 * 2 ^ up unit = let k : 0 < 2 ^ up unit = pow_pos (up unit) in omega (arith, k) in
     odd_sign least of_zero negative answer significand (magnitude exact) (2 ^ down unit) (1 * 2 ^ up unit)
     (pow_pos (down unit)) u r.rounded f g ∙ ap (λ (z : ℤ). sign_of of_zero z) r.is
 
 -- the sum of the terms of two numbers, rounded to odd, represents the sum of their numbers of quanta
-pub odd_sum_read : (least digits precision scale : ℕ) (min xe ye tx ty e unit : ℤ)
-    (left right negative : Bool) (mx my m n q : ℕ)
-    → ((min +ℤ pos 1) -ℤ pos precision) ≤ℤ xe → ((min +ℤ pos 1) -ℤ pos precision) ≤ℤ ye
+pub odd_sum_read : (least digits precision scale : ℕ) (min xe ye tx ty e unit : ℤ) (left right negative : Bool)
+    (mx my m n q : ℕ) → ((min +ℤ pos 1) -ℤ pos precision) ≤ℤ xe → ((min +ℤ pos 1) -ℤ pos precision) ≤ℤ ye
     → (tx +ℤ pos precision) ≡ (xe +ℤ pos 1) → (ty +ℤ pos precision) ≡ (ye +ℤ pos 1)
     → (pos scale +ℤ min) +ℤ pos 1 ≡ pos precision → unit ≡ (e +ℤ pos scale) → IsQuantaAt min mx xe m
-    → IsQuantaAt min my ye n
-    → ((base : ℤ) → (base +ℤ pos digits) ≤ℤ tx → (base +ℤ pos digits) ≤ℤ ty
+    → IsQuantaAt min my ye n → ((base : ℤ) → (base +ℤ pos digits) ≤ℤ tx → (base +ℤ pos digits) ≤ℤ ty
     → IsSignedToOdd least base (counted base left tx mx +ℤ counted base right ty my) negative e q)
     → IsRepresentedToOdd least (signed left m +ℤ signed right n) negative unit q
 odd_sum_read least digits precision scale min xe ye tx ty e unit s t negative mx my m n q lx ly ax ay w u ix

@@ -147,10 +147,9 @@ beside_normal : (shape : Shape) (y : Unpacked) (negative : Bool) → IsStored sh
 beside_normal shape y b h e = number_beside y.category shape y b h e
 
 -- a stored number and a value on its side of 0 are two numbers of its sign
-pub beside_number : (negative : Bool) (shape : Shape) (x y : Unpacked) → x.category ≡ Normal
-    → x.negative ≡ negative
-    → IsStored shape x → IsStored shape y → side (datum_at shape x) ≡ side (datum_at shape y)
-    → (IsNormal shape x) × (IsNormal shape y)
+pub beside_number : (negative : Bool) (shape : Shape) (x y : Unpacked)
+    → x.category ≡ Normal → x.negative ≡ negative → IsStored shape x
+    → IsStored shape y → side (datum_at shape x) ≡ side (datum_at shape y) → (IsNormal shape x) × (IsNormal shape y)
     × (int_cmp (signed negative (quanta_of shape x)) (signed negative (quanta_of shape y))
     ≡ int_cmp (number (datum_at shape x)) (number (datum_at shape y)))
 beside_number b shape x y e f h k s =
@@ -207,8 +206,7 @@ parts_same x y a b c d = rw (sym a, sym b, sym c, sym d) refl
 stored_same : (shape : Shape) (x y : Unpacked) → IsStored shape x → IsStored shape y
     → same_datum (datum_at shape x) (datum_at shape y) ≡ true → x ≡ y
 stored_same shape x y h k e =
-    sym (comes_back shape x h) ∙
-    ap (unpacked_of shape) {x = datum_at shape x} {y = datum_at shape y}
+    sym (comes_back shape x h) ∙ ap (unpacked_of shape) {x = datum_at shape x} {y = datum_at shape y}
     (same_is (datum_at shape x) (datum_at shape y) e) ∙ comes_back shape y k
 
 abbrev pub IsSameClass : Unpacked → Unpacked → Type 0

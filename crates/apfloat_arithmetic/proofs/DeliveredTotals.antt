@@ -19,9 +19,8 @@ pub record IsOddTotal (precision parts : ℕ) (exact : ℤ) (negative : Bool) (u
 
 -- the total of the terms of two numbers is their sum
 pub sum_total : (s : Shape) (kept digits : ℕ) (xe ye tx ty e : ℤ) (left right negative : Bool) (mx my q : ℕ)
-    → s.precision + 1 ≤ kept → IsNormalAt s mx xe → IsNormalAt s my ye
-    → (tx +ℤ pos s.precision) ≡ (xe +ℤ pos 1) → (ty +ℤ pos s.precision) ≡ (ye +ℤ pos 1)
-    → ((base : ℤ) → (base +ℤ pos digits) ≤ℤ tx → (base +ℤ pos digits) ≤ℤ ty
+    → s.precision + 1 ≤ kept → IsNormalAt s mx xe → IsNormalAt s my ye → (tx +ℤ pos s.precision) ≡ (xe +ℤ pos 1)
+    → (ty +ℤ pos s.precision) ≡ (ye +ℤ pos 1) → ((base : ℤ) → (base +ℤ pos digits) ≤ℤ tx → (base +ℤ pos digits) ≤ℤ ty
     → IsSignedToOdd (2 ^ kept) base (counted base left tx mx +ℤ counted base right ty my) negative e q)
     → IsOddTotal s.precision 1 (signed left (quanta_at s.min_exp mx xe) +ℤ signed right (quanta_at s.min_exp my ye))
     negative (e +ℤ pos (format_at s).scale) q
@@ -29,8 +28,7 @@ sum_total s kept digits xe ye tx ty e left right negative mx my q few x y ax ay 
     let least : 2 ^ (s.precision + 1) ≤ 2 ^ kept = pow-le-pow_right two_pos few in
     let scale = (format_at s).scale in
     let r = odd_sum_read (2 ^ kept) digits s.precision scale s.min_exp xe ye tx ty e (e +ℤ pos scale) left right
-    negative
-    mx my (quanta_at s.min_exp mx xe) (quanta_at s.min_exp my ye) q x.operand.least y.operand.least ax ay
+    negative mx my (quanta_at s.min_exp mx xe) (quanta_at s.min_exp my ye) q x.operand.least y.operand.least ax ay
     (scale_is s.precision s.min_exp s.parameters.precision_low s.parameters.min_exp_high) refl x.whole y.whole total in
     record { rounded = to_odd_least (2 ^ kept) (2 ^ (s.precision + 1)) q _ _ least r.rounded; is = r.is }
 
@@ -53,10 +51,9 @@ fused_total s kept digits x z e left right a b negative p w m n q few product ad
     record { rounded = to_odd_least (2 ^ kept) (2 ^ (s.precision + 1)) q _ _ least h; is = r.is }
 
 -- what delivers each amount that was rounded to odd delivers the exact total
-pub total_delivered : (f : Format) (mode : Round) (of_zero negative : Bool) (precision parts q : ℕ) (exact unit : ℤ)
-    (value : Datum) (status : ℕ) → 0 < parts → IsOddTotal precision parts exact negative unit q
-    → ((amount n : ℕ) → 0 < n
-    → IsRoundedToOdd (2 ^ (precision + 1)) q (amount * 2 ^ down unit) (n * 2 ^ up unit)
+pub total_delivered : (f : Format) (mode : Round) (of_zero negative : Bool) (precision parts q : ℕ)
+    (exact unit : ℤ) (value : Datum) (status : ℕ) → 0 < parts → IsOddTotal precision parts exact negative unit q
+    → ((amount n : ℕ) → 0 < n → IsRoundedToOdd (2 ^ (precision + 1)) q (amount * 2 ^ down unit) (n * 2 ^ up unit)
     → IsRounded f mode of_zero (signed negative amount) n value status)
     → IsRounded f mode of_zero exact parts value status
 total_delivered f mode of_zero negative precision parts q exact unit value status some total deliver =

@@ -53,8 +53,7 @@ inverted_normal shape m e n i =
       operand = record {
         fits = n.operand.fits;
         full = n.operand.full;
-        least =
-            omega (arith, ints, i.inverse_normal, shape.parameters.precision_low);
+        least = omega (arith, ints, i.inverse_normal, shape.parameters.precision_low);
         greatest = i.inverse_within;
       };
       whole = whole_is shape.min_exp m (neg_ℤ e) (m * 2 ^ steps_of shape (neg_ℤ e))
@@ -86,8 +85,7 @@ inverted_product shape m e n i =
     ap (λ (x : ℕ). x * 2 ^ k) i.power in
     let c = scale_is shape in
     let d : ((shape.precision - 1) + j) + ((shape.precision - 1) + k)
-    ≡ (format_at shape).scale + (format_at shape).scale =
-    omega (arith, ints, i.normal, i.inverse_normal) in
+    ≡ (format_at shape).scale + (format_at shape).scale = omega (arith, ints, i.normal, i.inverse_normal) in
     record {
       normal = rw a (power_full half j);
       inverse_normal = rw b (power_full half k);
@@ -157,18 +155,15 @@ invertible_from shape m i e n h =
     let q : quanta_at shape.min_exp m e ≡ 2 ^ (shape.precision - 1) * 2 ^ steps_of shape e =
     quanta_high_is shape m e l ∙ ap (λ (x : ℕ). x * 2 ^ steps_of shape e) p in
     let g : 2 ^ (shape.precision - 1) * 2 ^ steps_of shape e * i
-    ≡ 2 ^ (format_at shape).scale * 2 ^ (format_at shape).scale =
-    ap (λ (x : ℕ). x * i) (sym q) ∙ h.product in
+    ≡ 2 ^ (format_at shape).scale * 2 ^ (format_at shape).scale = ap (λ (x : ℕ). x * i) (sym q) ∙ h.product in
     let c = scale_is shape in
     let short = short_inverse (shape.precision - 1) (steps_of shape e) (format_at shape).scale i h.inverse_normal g in
     let t : greatest_significand shape.nonfinite shape.precision * 2 ^ (format_at shape).span
     < 2 ^ shape.precision * 2 ^ (format_at shape).span =
     mul-lt-mul_of_pos_right (greatest_fits shape.nonfinite shape.precision) (pow_pos (format_at shape).span) in
     let b = h.within in
-    let long =
-    long_inverse (shape.precision - 1) (steps_of shape e)
-    (format_at shape).scale i shape.precision (format_at shape).span
-    (omega arith) g in
+    let long = long_inverse (shape.precision - 1) (steps_of shape e)
+    (format_at shape).scale i shape.precision (format_at shape).span (omega arith) g in
     record {
       power = p;
       normal = l;
@@ -177,8 +172,7 @@ invertible_from shape m i e n h =
     }
 
 -- the opposite of an exponent fits in the type of exponents
-pub opposite_word : (shape : Shape) (m : ℕ) (e : ℤ) → IsNormalAt shape m e
-    → to_z w32 (of_z w32 (pos 0 -ℤ e)) ≡ neg_ℤ e
+pub opposite_word : (shape : Shape) (m : ℕ) (e : ℤ) → IsNormalAt shape m e → to_z w32 (of_z w32 (pos 0 -ℤ e)) ≡ neg_ℤ e
 opposite_word shape m e n =
     let x = normal_near shape m e n in
     let z : pos 0 -ℤ e ≡ neg_ℤ e = omega (arith, ints) in
@@ -186,8 +180,7 @@ opposite_word shape m e n =
 
 -- the inverse of an invertible number is the one with the opposite exponent
 pub inverse_answer : (shape : Shape) (negative : Bool) (m : ℕ) (e : ℤ) → IsNormalAt shape m e
-    → IsInvertibleAt shape m e
-    → IsExactInverse (format_at shape) (finite negative (quanta_at shape.min_exp m e))
+    → IsInvertibleAt shape m e → IsExactInverse (format_at shape) (finite negative (quanta_at shape.min_exp m e))
     (Some (finite negative (quanta_at shape.min_exp m (neg_ℤ e))))
 inverse_answer shape b m e n i = (quanta_at shape.min_exp m (neg_ℤ e), inverted_product shape m e n i, refl)
 

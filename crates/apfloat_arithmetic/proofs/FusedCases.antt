@@ -16,9 +16,8 @@ addend_alone : (left right : Bool) (m n : ℕ) → m ≡ 0 → (signed left m +�
 addend_alone s d m n z = rw z (zero_and s (signed d n))
 
 -- the fused sum of a nonzero product and a zero is the product, rounded
-pub product_rounded : (format : Format) (mode : Round) (left right addend : Bool) (l m : ℕ) (value : Datum)
-    (status : ℕ) → 0 < l → 0 < m
-    → IsDelivered format mode (product_sign left right) (l * m) (2 ^ format.scale) value status
+pub product_rounded : (format : Format) (mode : Round) (left right addend : Bool) (l m : ℕ) (value : Datum) (status : ℕ)
+    → 0 < l → 0 < m → IsDelivered format mode (product_sign left right) (l * m) (2 ^ format.scale) value status
     → IsFusedSum format mode (finite left l) (finite right m) (finite addend 0) value status
 product_rounded format mode b c d l m value status p q h =
     rounded_signed format mode (zero_sum_sign mode (product_sign b c) d) (product_sign b c) (l * m) (2 ^ format.scale)

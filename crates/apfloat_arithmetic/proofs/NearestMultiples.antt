@@ -20,10 +20,8 @@ upper r s odd = takes_above NearestTiesToEven false r s odd
 pub upper_level : (r d w s t : ℕ) (odd odd2 : Bool) → 0 < w → r * w ≡ s → d * w ≡ t → odd ≡ odd2
     → upper r (d - r) odd ≡ upper s (t - s) odd2
 upper_level r d w s t odd odd2 p e f o =
-    takes_scaled NearestTiesToEven false odd r (d - r) w p
-    ∙ ap (λ (x : ℕ). upper (r * w) x odd) (less_scaled d r w)
-    ∙ ap (λ (x : ℕ). upper x (d * w - x) odd) e
-    ∙ ap (λ (x : ℕ). upper s (x - s) odd) f
+    takes_scaled NearestTiesToEven false odd r (d - r) w p ∙ ap (λ (x : ℕ). upper (r * w) x odd) (less_scaled d r w)
+    ∙ ap (λ (x : ℕ). upper x (d * w - x) odd) e ∙ ap (λ (x : ℕ). upper s (x - s) odd) f
     ∙ ap (λ (x : Bool). upper s (t - s) x) o
 
 -- if a rest is below half of the divisor, the lower multiple is the nearest
@@ -113,8 +111,7 @@ truncated_value kind negative a b n e =
     rest_within kind negative a (b * (a / b)) n l (omega arith)
 
 -- comparing the distances from both multiples is comparing the rest with the divisor less the rest
-upper_is : (a b : ℕ)
-    → upper (a - a / b * b) ((a / b + 1) * b - a) (eqb (a / b / (a / b + 1 - a / b) % 2) 1)
+upper_is : (a b : ℕ) → upper (a - a / b * b) ((a / b + 1) * b - a) (eqb (a / b / (a / b + 1 - a / b) % 2) 1)
     ≡ upper (a % b) (b - a % b) (eqb (a / b % 2) 1)
 upper_is a b =
     let m = mod-add-div' a b in
@@ -135,10 +132,8 @@ nearest_is a b past e =
 -- the upper multiple is nearest only if the rest is at least half of the divisor
 pub upper_far : (r d : ℕ) (odd : Bool) → true ≡ upper r (d - r) odd → d - r ≤ r
 upper_far r d odd e =
-    ⊎_elim
-    (λ (l : r < d - r). absurd (false≢true (sym (takes_less NearestTiesToEven false odd r (d - r) l) ∙ sym e)))
-    (λ (l : d - r ≤ r). l)
-    (cases_lt r (d - r))
+    ⊎_elim (λ (l : r < d - r). absurd (false≢true (sym (takes_less NearestTiesToEven false odd r (d - r) l) ∙ sym e)))
+    (λ (l : d - r ≤ r). l) (cases_lt r (d - r))
 
 -- if the upper multiple is nearest, the remainder is the distance from it, with the opposite sign
 nearest_past : (kind : NonfiniteBehavior) (negative : Bool) (a b n : ℕ) → 0 < b
@@ -180,8 +175,7 @@ pub past_in : (past : Bool) (x y a b w : ℕ) → 0 < w → x ≡ a * w → y �
     → past ≡ upper (x % y) (y - x % y) (eqb (x / y % 2) 1) → past ≡ upper (a % b) (b - a % b) (eqb (a / b % 2) 1)
 past_in past x y a b w p e f h =
     let r : a % b * w ≡ x % y = sym (rest_in x y a b w (x % y) p e f refl) in
-    let o : eqb (a / b % 2) 1 ≡ eqb (x / y % 2) 1 =
-    sym (ap (λ (z : ℕ). eqb (z % 2) 1) (quotient_in x y a b w p e f)) in
+    let o : eqb (a / b % 2) 1 ≡ eqb (x / y % 2) 1 = sym (ap (λ (z : ℕ). eqb (z % 2) 1) (quotient_in x y a b w p e f)) in
     h ∙ sym (upper_level (a % b) b w (x % y) y (eqb (a / b % 2) 1) (eqb (x / y % 2) 1) p r (sym f) o)
 
 -- scaling the operands scales the distance from the nearest multiple

@@ -61,8 +61,7 @@ factor_of_power (suc k) a b e =
 
 -- a power of two with exactly that many digits is the least number with that many digits
 pub power_with_digits : (precision m : ℕ) → 0 < precision → 2 ^ (precision - 1) ≤ m → m < 2 ^ precision
-    → IsPowerFactor m
-    → m ≡ 2 ^ (precision - 1)
+    → IsPowerFactor m → m ≡ 2 ^ (precision - 1)
 power_with_digits precision m p l h i =
     let e : m ≡ 2 ^ i.place = i.is in
     ⊎_elim

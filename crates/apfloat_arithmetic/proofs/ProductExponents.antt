@@ -44,23 +44,20 @@ balanced_quotient : (precision places scale : ℕ) (min_exp x y r : ℤ) → 3 �
 balanced_quotient precision places scale min_exp x y r t l e = omega (arith, ints)
 
 -- the product of the significands represents the product of the numbers, both in quanta
-pub product_is : (shape : Shape) (x y r : ℤ) (m n p : ℕ) → IsNormalAt shape m x → IsNormalAt shape n y
-    → p ≡ m * n
-    → r ≡ ((x +ℤ y) -ℤ pos (2 * (shape.precision - 1)))
+pub product_is : (shape : Shape) (x y r : ℤ) (m n p : ℕ)
+    → IsNormalAt shape m x → IsNormalAt shape n y → p ≡ m * n → r ≡ ((x +ℤ y) -ℤ pos (2 * (shape.precision - 1)))
     → quanta_at shape.min_exp m x * quanta_at shape.min_exp n y * 2 ^ down (r +ℤ pos (format_at shape).scale)
     ≡ p * (2 ^ (format_at shape).scale * 2 ^ up (r +ℤ pos (format_at shape).scale))
 product_is shape x y r m n p hx hy v e =
     let unit : ℤ = r +ℤ pos (format_at shape).scale in
     product_stands m n (quanta_at shape.min_exp m x) (quanta_at shape.min_exp n y) (up (x -ℤ shape.min_exp))
     (up (y -ℤ shape.min_exp)) (down (x -ℤ shape.min_exp)) (down (y -ℤ shape.min_exp)) (format_at shape).scale (up unit)
-    (down unit)
-    hx.whole hy.whole (balanced_product shape.precision (format_at shape).scale shape.min_exp x y r
-    shape.parameters.precision_low
-    (scale_is shape) e) ∙ ap (λ (z : ℕ). z * (2 ^ (format_at shape).scale * 2 ^ up unit)) (sym v)
+    (down unit) hx.whole hy.whole (balanced_product shape.precision (format_at shape).scale shape.min_exp x y r
+    shape.parameters.precision_low (scale_is shape) e)
+    ∙ ap (λ (z : ℕ). z * (2 ^ (format_at shape).scale * 2 ^ up unit)) (sym v)
 
 -- a product that is counted in each small unit, 2 ^ k of which are the square of the quantum, is so many quanta
-pub counted_product_is : (scale amount p : ℕ) (e : ℤ)
-    → CountsSquares scale amount e p
+pub counted_product_is : (scale amount p : ℕ) (e : ℤ) → CountsSquares scale amount e p
     → amount * 2 ^ down (e +ℤ pos scale) ≡ p * (2 ^ scale * 2 ^ up (e +ℤ pos scale))
 counted_product_is scale amount p e counted =
     let k = down e in
@@ -78,13 +75,10 @@ counted_product_is scale amount p e counted =
     eq_of_mul-eq-mul_right (2 ^ k) (pow_pos k) (amount * 2 ^ down unit) (p * (2 ^ scale * 2 ^ up unit)) (omega arith)
 
 -- the exponents of a product, counted from the base, balance
-product_balanced : (precision scale moved k : ℕ) (min_exp x y r e base : ℤ) → 3 ≤ precision
-    → pos scale ≡ pos (precision - 1) -ℤ min_exp → r ≡ ((x +ℤ y) -ℤ pos (2 * (precision - 1)))
-    → e ≡ r -ℤ pos moved
-    → base ≤ℤ e
-    → pos k ≡ neg_ℤ (base +ℤ pos (2 * scale))
-    → up (x -ℤ min_exp) + up (y -ℤ min_exp) + k
-    ≡ down (x -ℤ min_exp) + down (y -ℤ min_exp) + (moved + up (e -ℤ base))
+product_balanced : (precision scale moved k : ℕ) (min_exp x y r e base : ℤ)
+    → 3 ≤ precision → pos scale ≡ pos (precision - 1) -ℤ min_exp → r ≡ ((x +ℤ y) -ℤ pos (2 * (precision - 1)))
+    → e ≡ r -ℤ pos moved → base ≤ℤ e → pos k ≡ neg_ℤ (base +ℤ pos (2 * scale))
+    → up (x -ℤ min_exp) + up (y -ℤ min_exp) + k ≡ down (x -ℤ min_exp) + down (y -ℤ min_exp) + (moved + up (e -ℤ base))
 product_balanced precision scale moved k min_exp x y r e base t l v w b h =
     let z : down (e -ℤ base) ≡ 0 = no_down (e -ℤ base) (omega (arith, ints)) in
     omega (arith, ints)
@@ -92,9 +86,7 @@ product_balanced precision scale moved k min_exp x y r e base t l v w b h =
 -- a product, counted from a base, is the product in squares of the quantum, scaled
 pub product_counted : (shape : Shape) (x y r e base : ℤ) (m n p moved k : ℕ) → IsNormalAt shape m x
     → IsNormalAt shape n y → p ≡ m * n * 2 ^ moved → r ≡ ((x +ℤ y) -ℤ pos (2 * (shape.precision - 1)))
-    → e ≡ r -ℤ pos moved
-    → base ≤ℤ e
-    → pos k ≡ neg_ℤ (base +ℤ pos (2 * (format_at shape).scale))
+    → e ≡ r -ℤ pos moved → base ≤ℤ e → pos k ≡ neg_ℤ (base +ℤ pos (2 * (format_at shape).scale))
     → p * 2 ^ up (e -ℤ base) ≡ quanta_at shape.min_exp m x * quanta_at shape.min_exp n y * 2 ^ k
 product_counted shape x y r e base m n p moved k hx hy v w z b h =
     let a : quanta_at shape.min_exp m x * quanta_at shape.min_exp n y * 2 ^ k
@@ -117,16 +109,14 @@ quotient_says : (shape : Shape) (Says : ℕ → ℕ → Type 0) (x y r : ℤ) (p
 quotient_says shape Says x y r places m n times cancel hx hy e h =
     let unit : ℤ = r +ℤ pos (format_at shape).scale in
     quotient_carries Says m n (quanta_at shape.min_exp m x)
-    (quanta_at shape.min_exp n y) places (up (x -ℤ shape.min_exp))
-    (up (y -ℤ shape.min_exp)) (down (x -ℤ shape.min_exp)) (down (y -ℤ shape.min_exp)) (format_at shape).scale (up unit)
-    (down unit) times cancel
+    (quanta_at shape.min_exp n y) places (up (x -ℤ shape.min_exp)) (up (y -ℤ shape.min_exp))
+    (down (x -ℤ shape.min_exp)) (down (y -ℤ shape.min_exp)) (format_at shape).scale (up unit) (down unit) times cancel
     hx.whole hy.whole (balanced_quotient shape.precision places (format_at shape).scale shape.min_exp x y r
     shape.parameters.precision_low (scale_is shape) e) h
 
 -- the quotient of the significands represents the quotient of the numbers
 pub quotient_is : (shape : Shape) (x y r : ℤ) (places q : ℕ) (loss : Loss) (m n : ℕ)
-    → IsNormalAt shape m x
-    → IsNormalAt shape n y → r ≡ ((x -ℤ y) -ℤ pos places) → StandsFor q loss (m * 2 ^ places) n
+    → IsNormalAt shape m x → IsNormalAt shape n y → r ≡ ((x -ℤ y) -ℤ pos places) → StandsFor q loss (m * 2 ^ places) n
     → StandsFor q loss (quanta_at shape.min_exp m x * 2 ^ (format_at shape).scale * 2 ^ down
     (r +ℤ pos (format_at shape).scale)) (quanta_at shape.min_exp n y * 2 ^ up (r +ℤ pos (format_at shape).scale))
 quotient_is shape x y r places q loss m n hx hy e h =
@@ -134,8 +124,7 @@ quotient_is shape x y r places q loss m n hx hy e h =
     (λ a u w p k. stands_times q loss a u w p k) (λ a u w p k. stands_cancel q loss a u w p k) hx hy e h
 
 -- the quotient of the significands, rounded to odd, is the quotient of the numbers, rounded to odd
-pub odd_quotient_is : (shape : Shape) (x y r : ℤ) (places least q m n : ℕ)
-    → IsNormalAt shape m x
+pub odd_quotient_is : (shape : Shape) (x y r : ℤ) (places least q m n : ℕ) → IsNormalAt shape m x
     → IsNormalAt shape n y → r ≡ ((x -ℤ y) -ℤ pos places) → IsRoundedToOdd least q (m * 2 ^ places) n
     → IsRoundedToOdd least q (quanta_at shape.min_exp m x * 2 ^ (format_at shape).scale * 2 ^ down
     (r +ℤ pos (format_at shape).scale)) (quanta_at shape.min_exp n y * 2 ^ up (r +ℤ pos (format_at shape).scale))

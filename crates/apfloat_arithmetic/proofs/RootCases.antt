@@ -9,12 +9,9 @@ use Rattle.apfloat_model.specs.arithmetic.Roots.{IsDeliveredRoot, IsRoot}
 pub positive_root : (format : Format) (mode : Round) (negative : Bool) (n : ℕ) (value : Datum) (status : ℕ)
     → 0 < n → negative ≡ false → IsDeliveredRoot format mode (n * 2 ^ format.scale) 1 value status
     → IsRoot format mode (finite negative n) value status
-positive_root format mode b n value status p e h =
-    rw (ne_eqb n 0 (λ z. omega (arith, z, p)), e) h
+positive_root format mode b n value status p e h = rw (ne_eqb n 0 (λ z. omega (arith, z, p)), e) h
 
 -- the root of a negative number is invalid
-pub negative_root : (format : Format) (mode : Round) (negative : Bool) (n : ℕ) (value : Datum) (status : ℕ)
-    → 0 < n
+pub negative_root : (format : Format) (mode : Round) (negative : Bool) (n : ℕ) (value : Datum) (status : ℕ) → 0 < n
     → negative ≡ true → IsInvalid format value status → IsRoot format mode (finite negative n) value status
-negative_root format mode b n value status p e h =
-    rw (ne_eqb n 0 (λ z. omega (arith, z, p)), e) h
+negative_root format mode b n value status p e h = rw (ne_eqb n 0 (λ z. omega (arith, z, p)), e) h

@@ -27,24 +27,20 @@ same_places n s a b x y e l =
 
 -- the exponents of a root, with that of its operand, balance
 balanced_root : (precision places scale odd : ℕ) (min_exp x half r : ℤ) → 3 ≤ precision
-    → pos scale ≡ pos (precision - 1) -ℤ min_exp → x ≡ (half +ℤ half) +ℤ pos odd
-    → places ≡ precision - 1 + odd → r ≡ half -ℤ pos (precision - 1)
-    → up (x -ℤ min_exp) + (scale + (down (r +ℤ pos scale) + down (r +ℤ pos scale)))
+    → pos scale ≡ pos (precision - 1) -ℤ min_exp → x ≡ (half +ℤ half) +ℤ pos odd → places ≡ precision - 1 + odd
+    → r ≡ half -ℤ pos (precision - 1) → up (x -ℤ min_exp) + (scale + (down (r +ℤ pos scale) + down (r +ℤ pos scale)))
     ≡ (places + (up (r +ℤ pos scale) + up (r +ℤ pos scale))) + down (x -ℤ min_exp)
 balanced_root precision places scale odd min_exp x half r t l h p e = omega (arith, ints)
 
 -- the square of the root in quanta is the significand with its zeros, in squares of the root's unit
-pub root_is : (shape : Shape) (x half r : ℤ) (m places odd : ℕ) → IsNormalAt shape m x
-    → x ≡ (half +ℤ half) +ℤ pos odd → places ≡ shape.precision - 1 + odd
-    → r ≡ half -ℤ pos (shape.precision - 1)
-    → quanta_at shape.min_exp m x * 2 ^ (format_at shape).scale
-    * (2 ^ down (r +ℤ pos (format_at shape).scale) * 2 ^ down (r +ℤ pos (format_at shape).scale))
-    ≡ m * 2 ^ places
+pub root_is : (shape : Shape) (x half r : ℤ) (m places odd : ℕ) → IsNormalAt shape m x → x ≡ (half +ℤ half) +ℤ pos odd
+    → places ≡ shape.precision - 1 + odd
+    → r ≡ half -ℤ pos (shape.precision - 1) → quanta_at shape.min_exp m x * 2 ^ (format_at shape).scale
+    * (2 ^ down (r +ℤ pos (format_at shape).scale) * 2 ^ down (r +ℤ pos (format_at shape).scale)) ≡ m * 2 ^ places
     * (2 ^ up (r +ℤ pos (format_at shape).scale) * 2 ^ up (r +ℤ pos (format_at shape).scale))
 root_is shape x half r m places odd n h p e =
     let unit : ℤ = r +ℤ pos (format_at shape).scale in
-    power_of_both (quanta_at shape.min_exp m x) (format_at shape).scale (down unit) ∙
-    same_places (quanta_at shape.min_exp m x) m (down (x -ℤ shape.min_exp)) (up (x -ℤ shape.min_exp)) _ _ n.whole
+    power_of_both (quanta_at shape.min_exp m x) (format_at shape).scale (down unit)
+    ∙ same_places (quanta_at shape.min_exp m x) m (down (x -ℤ shape.min_exp)) (up (x -ℤ shape.min_exp)) _ _ n.whole
     (balanced_root shape.precision places (format_at shape).scale odd shape.min_exp x half r
-    shape.parameters.precision_low (scale_is shape) h p e) ∙
-    sym (power_of_both m places (up unit))
+    shape.parameters.precision_low (scale_is shape) h p e) ∙ sym (power_of_both m places (up unit))

@@ -57,19 +57,16 @@ module _ (square radicand over under amount parts : ℕ) (some : 0 < over)
 
 -- If each fraction that a significand and its loss represent is delivered as a value, the root that they represent is
 -- delivered as that value. The unit is over / under quanta.
-pub delivered_of_standing : (f : Format) (mode : Round) (square parts radicand over under whole : ℕ) (loss : Loss)
-    (value : Datum) (status : ℕ) → 0 < parts → 0 < over → 0 < under
-    → square * (under * under) ≡ radicand * ((over * parts) * (over * parts))
-    → RootStandsFor whole loss radicand
+pub delivered_of_standing : (f : Format) (mode : Round) (square parts radicand over under whole : ℕ)
+    (loss : Loss) (value : Datum) (status : ℕ) → 0 < parts → 0 < over → 0 < under
+    → square * (under * under) ≡ radicand * ((over * parts) * (over * parts)) → RootStandsFor whole loss radicand
     → ((amount pieces : ℕ) → 0 < pieces → StandsFor whole loss (amount * under) (pieces * over)
-    → IsDelivered f mode false amount pieces value status)
-    → IsDeliveredRoot f mode square parts value status
+    → IsDelivered f mode false amount pieces value status) → IsDeliveredRoot f mode square parts value status
 delivered_of_standing f mode square parts radicand over under whole loss value status r p q e s delivered =
     let g = agreeing square (4 * under) (omega (arith, q)) in
     let d : 4 * under ≡ 2 * under * 2 = omega arith in
-    let a : AgreesWithRoot square (2 * under) g.amount g.parts =
-    coarser square (2 * under) 2 g.amount g.parts (omega arith)
-    (subst (λ (x : ℕ). AgreesWithRoot square x g.amount g.parts) d g.agrees) in
+    let a : AgreesWithRoot square (2 * under) g.amount g.parts = coarser square (2 * under) 2 g.amount g.parts
+    (omega arith) (subst (λ (x : ℕ). AgreesWithRoot square x g.amount g.parts) d g.agrees) in
     let b : AgreesWithRoot square 4 g.amount g.parts = coarser square 4 under g.amount g.parts q g.agrees in
     let h : StandsFor whole loss (g.amount * under) (g.parts * (over * parts)) =
     stands square radicand (over * parts) under g.amount g.parts (mul-pos p r) e a whole loss s in

@@ -19,9 +19,8 @@ not_finite shape x (inl e) = subst (λ (k : Category). is_finite (datum_by k sha
 not_finite shape x (inr e) = subst (λ (k : Category). is_finite (datum_by k shape x) ≡ false) (sym e) refl
 
 -- an infinity or a NaN is no nonzero number, so not both values are
-pub not_both : (x y : Category) → ((x ≡ Infinity) ⊎ (x ≡ NaN)) ⊎ ((y ≡ Infinity) ⊎ (y ≡ NaN))
-    → x ≡ Normal
-    → y ≡ Normal → ⊥
+pub not_both : (x y : Category) → ((x ≡ Infinity) ⊎ (x ≡ NaN)) ⊎ ((y ≡ Infinity) ⊎ (y ≡ NaN)) → x ≡ Normal → y ≡ Normal
+    → ⊥
 not_both x y (inl (inl e)) f g = cc
 not_both x y (inl (inr e)) f g = cc
 not_both x y (inr (inl e)) f g = cc
@@ -41,8 +40,7 @@ no_number format mode b false value status h = is_given _ value _ status refl h
 
 -- a product with a factor that is not finite is not finite
 product_of_special : (format : Format) (mode : Round) (x y value : Datum) (status : ℕ)
-    → (is_finite x ≡ false) ⊎ (is_finite y ≡ false) → IsProduct format mode x y value status
-    → is_finite value ≡ false
+    → (is_finite x ≡ false) ⊎ (is_finite y ≡ false) → IsProduct format mode x y value status → is_finite value ≡ false
 product_of_special format mode (nan b s) y value status e h = is_given _ value _ status refl h
 product_of_special format mode (infinite b) (nan c t) value status e h = is_given _ value _ status refl h
 product_of_special format mode (infinite b) (infinite c) value status e h = is_given _ value _ status refl h

@@ -14,8 +14,7 @@ use Rattle.apfloat_rounding.specs.Stored.{IsStoredBy, datum_by, quanta_at}
 use Rattle.apfloat_rounding.proofs.StoredBack.{quanta_some}
 
 abbrev pub Says : Shape → (ℕ → ℕ → ℕ) → Category → Category → Unpacked → Unpacked → Datum → ℕ → Type 0
-Says s quotient k l x y value status =
-    IsRemainder (format_at s) quotient (datum_by k s x) (datum_by l s y) value status
+Says s quotient k l x y value status = IsRemainder (format_at s) quotient (datum_by k s x) (datum_by l s y) value status
 
 -- the remainder of a finite dividend by a nonzero number
 pub by_number : (shape : Shape) (quotient : ℕ → ℕ → ℕ) (x y : Unpacked) (m : ℕ) (value : Datum) (status : ℕ)
@@ -34,9 +33,8 @@ zero_rest kind b n q e z = let w : n * 0 ≡ 0 = omega arith in rw (e, w) (ap (�
 
 -- the remainder of a zero by a nonzero number is that zero
 zero_by_number : (shape : Shape) (quotient : ℕ → ℕ → ℕ) (x y : Unpacked) (value : Datum) (status : ℕ)
-    → IsStoredBy Zero shape x → IsStoredBy Normal shape y
-    → ((n : ℕ) → 0 < n → quotient 0 n ≡ 0) → IsAnswer (finite x.negative 0) ok_bits value status
-    → Says shape quotient Zero Normal x y value status
+    → IsStoredBy Zero shape x → IsStoredBy Normal shape y → ((n : ℕ) → 0 < n → quotient 0 n ≡ 0)
+    → IsAnswer (finite x.negative 0) ok_bits value status → Says shape quotient Zero Normal x y value status
 zero_by_number shape quotient x y value status u t q h =
     let n : ℕ = quanta_at shape.min_exp y.significand y.exponent in
     let e = zero_rest shape.nonfinite x.negative n (quotient 0 n) (q n (quanta_some shape y.significand y.exponent t))

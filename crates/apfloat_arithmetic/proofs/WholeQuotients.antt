@@ -57,14 +57,12 @@ below_divisor precision r p t q z f l g =
     let c' : 2 ^ (precision - 1) * 2 ^ (p + 1) ≡ 2 ^ (precision - 1) * (2 * 2 ^ p) =
     ap (λ (x : ℕ). 2 ^ (precision - 1) * x) c in
     let d : 2 ^ (p + 1) ≤ 2 ^ q = pow-le-pow_right two_pos h in
-    let e : 2 ^ (precision - 1) * 2 ^ (p + 1) ≤ 2 ^ (precision - 1) * 2 ^ q =
-    mul-le-mul_left (2 ^ (precision - 1)) d in
+    let e : 2 ^ (precision - 1) * 2 ^ (p + 1) ≤ 2 ^ (precision - 1) * 2 ^ q = mul-le-mul_left (2 ^ (precision - 1)) d in
     let k : 2 ^ (precision - 1) * 2 ^ q ≤ t * 2 ^ q = mul-le-mul_right (2 ^ q) l in
     omega arith
 
 -- a number at a place below the divisor's is less than it
-pub is_less : (precision : ℕ) (x y : Magnitude) → AreDivided precision x y → x.place < y.place
-    → units_of x < units_of y
+pub is_less : (precision : ℕ) (x y : Magnitude) → AreDivided precision x y → x.place < y.place → units_of x < units_of y
 is_less precision x y h l =
     below_divisor precision x.significand x.place y.significand y.place h.some h.dividend.fits h.divisor.full l
 

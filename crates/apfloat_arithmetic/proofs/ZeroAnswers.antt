@@ -30,9 +30,8 @@ zero_product format mode b c sign m n value status e z h =
 
 -- a nonzero number times an infinity is an infinity, with no flag
 pub number_by_infinity : (s : Shape) (mode : Round) (x y : Unpacked) (sign : Bool) (value : Datum) (status : ℕ)
-    → x.category ≡ Normal → y.category ≡ Infinity → IsStored s x
-    → sign ≡ product_sign x.negative y.negative
-    → IsAnswer (infinite sign) ok_bits value status
+    → x.category ≡ Normal → y.category ≡ Infinity
+    → IsStored s x → sign ≡ product_sign x.negative y.negative → IsAnswer (infinite sign) ok_bits value status
     → IsProduct (format_at s) mode (datum_at s x) (datum_at s y) value status
 number_by_infinity s mode x y sign value status d e stored g h =
     rw (datum_is Normal s x d, datum_is Infinity s y e, some_quanta s x d stored)
@@ -40,9 +39,8 @@ number_by_infinity s mode x y sign value status d e stored g h =
 
 -- an infinity times a nonzero number is an infinity, with no flag
 pub infinity_by_number : (s : Shape) (mode : Round) (x y : Unpacked) (sign : Bool) (value : Datum) (status : ℕ)
-    → x.category ≡ Infinity → y.category ≡ Normal → IsStored s y
-    → sign ≡ product_sign x.negative y.negative
-    → IsAnswer (infinite sign) ok_bits value status
+    → x.category ≡ Infinity → y.category ≡ Normal
+    → IsStored s y → sign ≡ product_sign x.negative y.negative → IsAnswer (infinite sign) ok_bits value status
     → IsProduct (format_at s) mode (datum_at s x) (datum_at s y) value status
 infinity_by_number s mode x y sign value status d e stored g h =
     rw (datum_is Infinity s x d, datum_is Normal s y e, some_quanta s y e stored)

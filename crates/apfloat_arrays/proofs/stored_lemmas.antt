@@ -6,3 +6,4 @@ pub mod ByModeOnce
 pub mod CodeTables
 pub mod Numbers
 pub mod NumberCodes
+pub mod E3M4Codes

@@ -73,7 +73,7 @@ pub(crate) fn all_counts(few: FewCounts, values: usize) -> Counts
 
 /// Converts the values of a block, each to its place. With `specials`, infinities and NaNs may be among them.
 #[inline(always)]
-fn convert_halves<P: SinglesPlan, const N: usize>(
+pub(crate) fn convert_halves<P: SinglesPlan, const N: usize>(
     plan: P,
     specials: bool,
     width: usize,

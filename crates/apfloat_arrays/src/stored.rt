@@ -3,6 +3,7 @@
 mod array;
 mod by_mode;
 mod code_tables;
+mod e3m4_arrays;
 mod formats;
 mod loading;
 mod number_arrays;

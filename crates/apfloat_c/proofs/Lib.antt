@@ -1,16 +1,6 @@
 pub mod TextsOnce
-pub mod ArrayCalls
-pub mod ElementCalls
-pub mod ArraysOnce
-pub mod BlocksOnce
 pub mod ParsedOnce
-pub mod OperationTables
-pub mod NormalElements
 pub mod DecimalReadings
 pub mod FlaggedReadings
 pub mod DigitsOnce
 pub mod PairsOnce
-pub mod StorageModes
-pub mod StorageOnce
-pub mod StorageModesOnce
-pub mod ExactSums

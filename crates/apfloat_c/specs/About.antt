@@ -1,8 +1,8 @@
 -- What the library says of itself: a text for each code of an error, its version, and what made it.
 use Rattle.std.specs.Prelude.{◌≡◌, ℕ, ◌==◌, nat_le, Bool, true, false, if◌then◌else◌, List, codes}
-use Rattle.apfloat_c.specs.{declared.decimals.DecimalText.DecimalText, ArrayCalls.wrong_length, Decimals.IsText}
+use Rattle.apfloat_c.specs.{declared.decimals.DecimalText.DecimalText, Decimals.IsText}
 use Rattle.coded_calls.specs.KnownCalls.{answered, no_such_operation, refused_text, unknown_format, unknown_mode}
-use Rattle.coded_calls.specs.KnownCalls.{wrong_width}
+use Rattle.coded_calls.specs.KnownCalls.{wrong_length, wrong_width}
 use Rattle.coded_calls.specs.MachineCalls.{lacking_operation, unknown_machine, wide_operand}
 use Rattle.coded_calls.specs.Instructions.{wrong_control}
 

@@ -10,9 +10,8 @@ use Rattle.formats_at_run_time.specs.declared.{BuiltInFormat.BuiltInFormat, Flag
 use Rattle.formats_at_run_time.specs.BuiltIns.{constants_in}
 use Rattle.formats_at_run_time.specs.ValueKinds.{Kind, of_format, of_pairs, value_of}
 use Rattle.coded_calls.specs.{declared.data.Answer.Answer, Answers.whole}
-use Rattle.coded_calls.specs.KnownCalls.{◌>>=◌, answered, text_format, unknown_format, unknown_mode}
+use Rattle.coded_calls.specs.KnownCalls.{◌>>=◌, answered, text_format, unknown_format, unknown_mode, wrong_length}
 use Rattle.coded_calls.specs.OneReply.{SameAnswer}
-use Rattle.apfloat_c.specs.ArrayCalls.{wrong_length}
 
 pub record KnownWriting : Type 0 where
   pub format : BuiltInFormat

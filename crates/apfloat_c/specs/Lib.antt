@@ -1,15 +1,7 @@
-pub mod ArrayCalls
-pub mod Arrays
 pub mod Decimals
 pub mod About
-pub mod Blocks
 pub mod OneAnswer
-pub mod OperationTables
 pub mod Readings
 pub mod Facts
 pub mod Digits
 pub mod Pairs
-pub mod StorageValues
-pub mod StorageModes
-pub mod StorageOperations
-pub mod Reductions

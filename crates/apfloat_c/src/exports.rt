@@ -229,7 +229,7 @@ pub extern "C" fn apfloat_round_to_integral(
     ensures { IsReturned (known_call (flagged_kind_coded format) (mode_coded mode)
         (RoundToIntegral (whole x))) answer.old answer.new result }
 {
-    reply(format, mode, RoundToIntegralCall { x: x.number() }, answer)
+    reply_in_kind(format, mode, RoundToIntegralCall { x: x.number() }, answer)
 }
 
 /// A value times 2 to the power of `power`, rounded once, without flags.

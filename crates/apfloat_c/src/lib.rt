@@ -5,27 +5,15 @@
 #![tactic(auto)]
 
 mod about;
-mod array_calls;
-mod array_data;
-mod arrays;
 mod augmented;
-mod blocks;
 mod decimals;
 mod digits;
-mod elements;
 mod exports;
 mod facts;
 mod flagless_exports;
 mod ieee_exports;
 mod machine_exports;
-mod maps;
-mod normal_elements;
 mod one_answer;
-mod operation_tables;
 mod p3109_exports;
 mod pairs;
 mod readings;
-mod reductions;
-mod storage_modes;
-mod storage_operations;
-mod storage_values;

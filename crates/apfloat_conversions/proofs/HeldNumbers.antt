@@ -59,8 +59,7 @@ held_within source target a h l =
     let v = span_is target in
     let f = h.fine in
     let p = h.precise in
-    ⊎_elim
-    (λ o. higher a (greatest_significand source.nonfinite source.precision)
+    ⊎_elim (λ o. higher a (greatest_significand source.nonfinite source.precision)
     (greatest_significand target.nonfinite target.precision)
     (format_at source).span (format_at target).span (finer source target) source.precision (target.precision - 1)
     l (greatest_fits source.nonfinite source.precision)
@@ -68,16 +67,13 @@ held_within source target a h l =
     (omega (arith, ints, target.parameters.precision_low)))
     (λ (o : IsReachedLevel source target). level a (greatest_significand source.nonfinite source.precision)
     (greatest_significand target.nonfinite target.precision) (format_at source).span (format_at target).span
-    (finer source target)
-    (target.precision - source.precision)
-    l o.significands (let e = o.exponents in omega (arith, ints)))
-    h.reached
+    (finer source target) (target.precision - source.precision)
+    l o.significands (let e = o.exponents in omega (arith, ints))) h.reached
 
 -- ---- a number
 
 -- a number in quanta of the other shape, which are finer
-held_quanta : (source target : Shape) (m : ℕ) (e : ℤ) → IsHeld source target
-    → IsNormalAt source m e
+held_quanta : (source target : Shape) (m : ℕ) (e : ℤ) → IsHeld source target → IsNormalAt source m e
     → IsQuantaAt target.min_exp (m * 2 ^ (target.precision - source.precision)) e
     (quanta_at source.min_exp m e * 2 ^ finer source target)
 held_quanta source target m e h n =
@@ -85,18 +81,14 @@ held_quanta source target m e h n =
     let y = scale_is target in
     let f = h.fine in
     let p = h.precise in
-    let b : up (e -ℤ source.min_exp) + finer source target + down (e -ℤ target.min_exp)
-    ≡ down (e -ℤ source.min_exp) + (target.precision - source.precision) + up (e -ℤ target.min_exp) =
-    omega (arith, ints, source.parameters.precision_low) in
     let q = scaled_stands m (quanta_at source.min_exp m e) (down (e -ℤ source.min_exp)) (up (e -ℤ source.min_exp))
-    (finer source target)
-    (target.precision - source.precision) (up (e -ℤ target.min_exp)) (down (e -ℤ target.min_exp)) n.whole b in
+    (finer source target) (target.precision - source.precision) (up (e -ℤ target.min_exp))
+    (down (e -ℤ target.min_exp)) n.whole (omega (arith, ints, source.parameters.precision_low)) in
     omega (arith, q)
 
 -- a significand shifted up to the precision of the other shape has as many digits as that shape
 moved_up : (source target : Shape) (m : ℕ) (e : ℤ) → source.precision ≤ target.precision
-    → IsNormalAt source m e
-    → (m * 2 ^ (target.precision - source.precision) < 2 ^ target.precision)
+    → IsNormalAt source m e → (m * 2 ^ (target.precision - source.precision) < 2 ^ target.precision)
     × (2 ^ (target.precision - 1) ≤ m * 2 ^ (target.precision - source.precision))
 moved_up source target m e p n = (
   fits_shifted m source.precision (target.precision - source.precision) target.precision n.operand.fits (omega arith),
@@ -105,8 +97,7 @@ moved_up source target m e p n = (
 )
 
 -- a number with its significand shifted up is normal in the other shape
-held_normal : (source target : Shape) (m : ℕ) (e : ℤ) → IsHeld source target
-    → IsNormalAt source m e
+held_normal : (source target : Shape) (m : ℕ) (e : ℤ) → IsHeld source target → IsNormalAt source m e
     → IsNormalAt target (m * 2 ^ (target.precision - source.precision)) e
 held_normal source target m e h n =
     let q = held_quanta source target m e h n in
@@ -140,8 +131,7 @@ inside_quanta source target m e h =
     rw z (omega arith)
 
 -- a number whose exponent is inside the other shape is within its largest value
-inside_within : (source target : Shape) (m : ℕ) (e : ℤ) → IsInside source target e
-    → m < 2 ^ source.precision
+inside_within : (source target : Shape) (m : ℕ) (e : ℤ) → IsInside source target e → m < 2 ^ source.precision
     → m * 2 ^ (target.precision - source.precision) * 2 ^ up (e -ℤ target.min_exp) ≤ largest (format_at target)
 inside_within source target m e h f =
     let p = h.precise in
@@ -159,8 +149,7 @@ inside_within source target m e h f =
     omega (arith, q)
 
 -- a number whose exponent is inside the other shape, with its significand shifted up, is normal in that shape
-inside_normal : (source target : Shape) (m : ℕ) (e : ℤ) → IsInside source target e
-    → IsNormalAt source m e
+inside_normal : (source target : Shape) (m : ℕ) (e : ℤ) → IsInside source target e → IsNormalAt source m e
     → IsNormalAt target (m * 2 ^ (target.precision - source.precision)) e
 inside_normal source target m e h n =
     let q = inside_quanta source target m e h in
@@ -178,8 +167,7 @@ inside_normal source target m e h n =
     }
 
 -- in either case, the number with its significand shifted up is normal in the other shape
-pub normal_there : (source target : Shape) (m : ℕ) (e : ℤ)
-    → IsHeldAt source target e → IsNormalAt source m e
+pub normal_there : (source target : Shape) (m : ℕ) (e : ℤ) → IsHeldAt source target e → IsNormalAt source m e
     → IsNormalAt target (m * 2 ^ (target.precision - source.precision)) e
 normal_there source target m e h n =
     ⊎_elim (λ o. held_normal source target m e o n) (λ o. inside_normal source target m e o n) h
@@ -202,9 +190,8 @@ same_quanta m a b f g k d u d' u' h h' e =
     eq_of_mul-eq-mul_right (2 ^ d') (pow_pos d') (a * 2 ^ g) (b * 2 ^ f) (l ∙ sym (q ∙ r ∙ t))
 
 -- the number in quanta of either shape is the same number
-pub same_there : (source target : Shape) (m : ℕ) (e : ℤ)
-    → source.precision ≤ target.precision → IsNormalAt source m e
-    → IsNormalAt target (m * 2 ^ (target.precision - source.precision)) e
+pub same_there : (source target : Shape) (m : ℕ) (e : ℤ) → source.precision ≤ target.precision
+    → IsNormalAt source m e → IsNormalAt target (m * 2 ^ (target.precision - source.precision)) e
     → quanta_at source.min_exp m e * 2 ^ (format_at target).scale
     ≡ quanta_at target.min_exp (m * 2 ^ (target.precision - source.precision)) e * 2 ^ (format_at source).scale
 same_there source target m e p n o =
@@ -212,9 +199,8 @@ same_there source target m e p n o =
     let y = scale_is target in
     same_quanta m (quanta_at source.min_exp m e)
     (quanta_at target.min_exp (m * 2 ^ (target.precision - source.precision)) e)
-    (format_at source).scale (format_at target).scale (target.precision - source.precision)
-    (down (e -ℤ source.min_exp)) (up (e -ℤ source.min_exp))
-    (down (e -ℤ target.min_exp)) (up (e -ℤ target.min_exp)) n.whole o.whole
+    (format_at source).scale (format_at target).scale (target.precision - source.precision) (down (e -ℤ source.min_exp))
+    (up (e -ℤ source.min_exp)) (down (e -ℤ target.min_exp)) (up (e -ℤ target.min_exp)) n.whole o.whole
     (omega (arith, ints, source.parameters.precision_low))
 
 -- the shift loses no digit
@@ -228,16 +214,13 @@ held_shift s t m p q f =
 
 -- the conversion of the number rounds nothing, and raises no flag
 pub same_converted : (from into : Format) (mode : Round) (negative : Bool) (a b : ℕ) (value : Datum) (status : ℕ)
-    → 0 < a
-    → a * 2 ^ into.scale ≡ b * 2 ^ from.scale → value ≡ finite negative b → IsFiniteOf into negative b
-    → status ≡ ok_bits
-    → IsConvertedNumber from into mode negative a value status false
+    → 0 < a → a * 2 ^ into.scale ≡ b * 2 ^ from.scale → value ≡ finite negative b → IsFiniteOf into negative b
+    → status ≡ ok_bits → IsConvertedNumber from into mode negative a value status false
 same_converted from into mode negative a b v status p e d t s =
     let o : 0 < b = both_above_zero a b from.scale into.scale (sym e) p in
     record {
       is_delivered = rw (d, s, ← signed_some into.nonfinite negative b o)
           (exact_delivered into mode negative b (a * 2 ^ into.scale) (2 ^ from.scale) (pow_pos from.scale) t.on_grid
-          t.within
-          e);
+          t.within e);
       loses_is = rw s refl;
     }

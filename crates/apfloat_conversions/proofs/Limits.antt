@@ -60,8 +60,7 @@ pub in_range : (format : Format) (mode : Round) (width : ℕ) (negative : Bool) 
     → IsToUnsigned format mode width (finite negative n) mag st exact
 in_range format mode width b n mag st exact p i x h t =
     let z : eqb n 0 ≡ false = ne_eqb n 0 (λ e. omega (arith, e, p)) in
-    let r = ranged_in width b mag exact h in
-    rw (z, ← x, ← i, r) (record { number_is = refl; status_is = t; is_exact_is = refl })
+    rw (z, ← x, ← i, ranged_in width b mag exact h) (record { number_is = refl; status_is = t; is_exact_is = refl })
 
 -- a number out of range is replaced by the end of the range
 pub ranged_out : (width : ℕ) (negative : Bool) (mag : ℕ) (exact : Bool) → limit width negative < mag

@@ -31,9 +31,7 @@ stepped_down s a u d l h =
     let n : 2 ^ u ≤ a = le_of_mul-le-mul_right m (pow_pos d) in
     let a' : a ≡ (a - 2 ^ u) + 2 ^ u = omega arith in
     let s' : s ≡ (s - 2 ^ d) + 2 ^ d = omega arith in
-    let e : ((a - 2 ^ u) + 2 ^ u) * 2 ^ d ≡ ((s - 2 ^ d) + 2 ^ d) * 2 ^ u = ap (λ (x : ℕ). x * 2 ^ d) (sym a') ∙ h ∙
-    ap (λ (x : ℕ). x * 2 ^ u) s' in
-    omega (arith, e)
+    omega (arith, ap (λ (x : ℕ). x * 2 ^ d) (sym a') ∙ h ∙ ap (λ (x : ℕ). x * 2 ^ u) s')
 
 -- 2 ^ p is a multiple of 2 ^ d, for each d up to p
 power_split : (p d : ℕ) → d ≤ p → 2 ^ p ≡ 2 ^ (p - d) * 2 ^ d
@@ -46,8 +44,7 @@ step_within p s a u d l (inl z) f h =
     let e : 2 ^ u ≡ 1 = ap (λ (x : ℕ). 2 ^ x) z in
     let h' : a * 2 ^ d ≡ s = h ∙ ap (λ (x : ℕ). s * x) e ∙ omega arith in
     let w = power_split p d l in
-    let g : a * 2 ^ d < 2 ^ (p - d) * 2 ^ d = omega (arith, h', w) in
-    let k : (a + 1) * 2 ^ d ≤ 2 ^ (p - d) * 2 ^ d = next_multiple a (2 ^ (p - d)) (2 ^ d) g in
+    let k : (a + 1) * 2 ^ d ≤ 2 ^ (p - d) * 2 ^ d = next_multiple a (2 ^ (p - d)) (2 ^ d) (omega (arith, h', w)) in
     omega (arith, h', w, k)
 
 -- a step down from above a power of two stays at or above it
@@ -57,8 +54,7 @@ step_above p s a u d l (inl z) f h =
     let e : 2 ^ u ≡ 1 = ap (λ (x : ℕ). 2 ^ x) z in
     let h' : a * 2 ^ d ≡ s = h ∙ ap (λ (x : ℕ). s * x) e ∙ omega arith in
     let w = power_split p d l in
-    let g : 2 ^ (p - d) * 2 ^ d < a * 2 ^ d = omega (arith, h', w) in
-    let k : (2 ^ (p - d) + 1) * 2 ^ d ≤ a * 2 ^ d = next_multiple (2 ^ (p - d)) a (2 ^ d) g in
+    let k : (2 ^ (p - d) + 1) * 2 ^ d ≤ a * 2 ^ d = next_multiple (2 ^ (p - d)) a (2 ^ d) (omega (arith, h', w)) in
     omega (arith, h', w, k)
 
 -- ---- the neighbours
@@ -131,9 +127,7 @@ pub quanta_halved : (min_exp x : ℤ) (s h n : ℕ) → s ≡ 2 * h → IsQuanta
 quanta_halved min_exp x s h n e q =
     let g = scaled_stands s n (down (x -ℤ min_exp)) (up (x -ℤ min_exp)) 1 0 (up ((x +ℤ pos 1) -ℤ min_exp))
     (down ((x +ℤ pos 1) -ℤ min_exp)) q (omega (arith, ints)) in
-    let k : s * (2 ^ 0 * 2 ^ up ((x +ℤ pos 1) -ℤ min_exp)) ≡ 2 * h * (2 ^ 0 * 2 ^ up ((x +ℤ pos 1) -ℤ min_exp)) =
-    ap (λ (z : ℕ). z * (2 ^ 0 * 2 ^ up ((x +ℤ pos 1) -ℤ min_exp))) e in
-    omega (arith, g, k)
+    omega (arith, g, ap (λ (z : ℕ). z * (2 ^ 0 * 2 ^ up ((x +ℤ pos 1) -ℤ min_exp))) e)
 
 -- twice a significand, one exponent lower, is the same number
 pub quanta_doubled : (min_exp x : ℤ) (s h n : ℕ) → s ≡ 2 * h → IsQuantaAt min_exp h x n
@@ -141,9 +135,7 @@ pub quanta_doubled : (min_exp x : ℤ) (s h n : ℕ) → s ≡ 2 * h → IsQuant
 quanta_doubled min_exp x s h n e q =
     let g = scaled_stands h n (down (x -ℤ min_exp)) (up (x -ℤ min_exp)) 0 1 (up ((x -ℤ pos 1) -ℤ min_exp))
     (down ((x -ℤ pos 1) -ℤ min_exp)) q (omega (arith, ints)) in
-    let k : s * 2 ^ up ((x -ℤ pos 1) -ℤ min_exp) ≡ 2 * h * 2 ^ up ((x -ℤ pos 1) -ℤ min_exp) =
-    ap (λ (z : ℕ). z * 2 ^ up ((x -ℤ pos 1) -ℤ min_exp)) e in
-    omega (arith, g, k)
+    omega (arith, g, ap (λ (z : ℕ). z * 2 ^ up ((x -ℤ pos 1) -ℤ min_exp)) e)
 
 -- ---- below the largest value there is room
 
@@ -179,14 +171,9 @@ at_top format precision min_exp max_exp s a e g h c =
     let d : 2 ^ down (max_exp -ℤ min_exp) ≡ 1 = ap (λ (x : ℕ). 2 ^ x) w.1 in
     let i : 2 ^ precision ≤ s + 1 = omega (arith, c, d) in
     let k : greatest_significand format.nonfinite precision ≤ s = greatest_before format.nonfinite precision s i in
-    let k' : greatest_significand format.nonfinite format.precision ≤ s =
-    subst (λ (x : ℕ). greatest_significand format.nonfinite x ≤ s) (sym e) k in
     let m : greatest_significand format.nonfinite format.precision * 2 ^ format.span ≤ s * 2 ^ format.span =
-    mul-le-mul_right (2 ^ format.span) k' in
-    let g' : format.span ≡ up (max_exp -ℤ min_exp) = ap up g in
-    let n : s * 2 ^ format.span ≡ s * 2 ^ up (max_exp -ℤ min_exp) = ap (λ (x : ℕ). s * 2 ^ x) g' in
-    let q : a * 2 ^ down (max_exp -ℤ min_exp) ≡ a * 1 = ap (λ (x : ℕ). a * x) d in
-    omega (arith, m, n, q, h)
+    mul-le-mul_right (2 ^ format.span) (subst (λ (x : ℕ). greatest_significand format.nonfinite x ≤ s) (sym e) k) in
+    omega (arith, m, ap (λ (x : ℕ). s * 2 ^ x) (ap up g), ap (λ (x : ℕ). a * x) d, h)
 
 -- a number below the largest whose step carries has room for the next exponent
 pub room_above : (format : Format) (precision : ℕ) (min_exp max_exp x : ℤ) (s a : ℕ) → format.precision ≡ precision
@@ -209,8 +196,7 @@ largest_on_grid format h =
     record {
       significand = greatest_significand format.nonfinite format.precision;
       place = format.span;
-      fits =
-          greatest_fits format.nonfinite format.precision;
+      fits = greatest_fits format.nonfinite format.precision;
       is = refl;
     }
 
@@ -223,9 +209,7 @@ next_within format a next h b i = i.least (largest format) (largest_on_grid form
 pub step_room : (p s d : ℕ) → p ≤ 125 → s < 2 ^ p → d ≤ p - 1 → s + 2 ^ d < 2 ^ 128
 step_room p s d h f l =
     let l' : d ≤ 125 = omega arith in
-    let a : 2 ^ p ≤ 2 ^ 125 = pow-le-pow_right two_pos h in
-    let b : 2 ^ d ≤ 2 ^ 125 = pow-le-pow_right two_pos l' in
-    omega (arith, a, b, f)
+    omega (arith, pow-le-pow_right two_pos h, pow-le-pow_right two_pos l', f)
 
 -- ---- the results of steps
 
@@ -238,23 +222,18 @@ stays_operand p min max x s t o f g = record { fits = f; full = g; least = o.lea
 pub carries_operand : (p : ℕ) (min max x y : ℤ) (s t : ℕ) → 0 < p → IsOperandAt p min max s x → t ≡ 2 ^ (p - 1)
     → y ≡ (x +ℤ pos 1) → (x +ℤ pos 1) ≤ℤ max → IsOperandAt p min max t y
 carries_operand p min max x y s t q o e i r =
-    let h : 2 * 2 ^ (p - 1) ≡ 2 ^ p = twice_half p q in
-    let w : 0 < 2 ^ (p - 1) = pow_pos (p - 1) in
-    let l = o.least in
     record {
-      fits = omega (arith, e, h, w);
+      fits = omega (arith, e, twice_half p q, pow_pos (p - 1));
       full = omega (arith, e);
-      least = omega (arith, ints, l, i);
-      greatest =
-          omega (arith, ints, r, i);
+      least = omega (arith, ints, o.least, i);
+      greatest = omega (arith, ints, r, i);
     }
 
 -- a significand that was halved, one exponent higher, is the same number
 pub carried_quanta : (p : ℕ) (min x y : ℤ) (s t n : ℕ) → 0 < p → s ≡ 2 ^ p → t ≡ 2 ^ (p - 1) → y ≡ (x +ℤ pos 1)
     → IsQuantaAt min s x n → IsQuantaAt min t y n
 carried_quanta p min x y s t n q e i j h =
-    let w : 2 * 2 ^ (p - 1) ≡ 2 ^ p = twice_half p q in
-    let k : IsQuantaAt min t (x +ℤ pos 1) n = quanta_halved min x s t n (omega (arith, e, i, w)) h in
+    let k : IsQuantaAt min t (x +ℤ pos 1) n = quanta_halved min x s t n (omega (arith, e, i, twice_half p q)) h in
     subst (λ (z : ℤ). IsQuantaAt min t z n) (sym j) k
 
 -- a significand greater by t, which is 2 ^ d, makes a number of 2 ^ u more quanta
@@ -274,8 +253,7 @@ step_small p d l = pow-le-pow_right two_pos l
 pub lowered_quanta : (p : ℕ) (min x y : ℤ) (s t n : ℕ) → 0 < p → s ≡ 2 ^ (p - 1) → t ≡ 2 ^ p → y ≡ (x -ℤ pos 1)
     → IsQuantaAt min s x n → IsQuantaAt min t y n
 lowered_quanta p min x y s t n q e i j h =
-    let w : 2 * 2 ^ (p - 1) ≡ 2 ^ p = twice_half p q in
-    let k : IsQuantaAt min t (x -ℤ pos 1) n = quanta_doubled min x t s n (omega (arith, e, i, w)) h in
+    let k : IsQuantaAt min t (x -ℤ pos 1) n = quanta_doubled min x t s n (omega (arith, e, i, twice_half p q)) h in
     subst (λ (z : ℤ). IsQuantaAt min t z n) (sym j) k
 
 -- the greatest grid point that is not above 0 is 0
@@ -287,15 +265,12 @@ pub least_less : (p : ℕ) (min x : ℤ) (s a : ℕ) → 3 ≤ p → s ≡ 2 ^ (
     → IsQuantaAt min s x a → IsBelow p 0 (a - 1) 1
 least_less p min x s a t e f h =
     let n : (x -ℤ min) ≤ℤ neg_ℤ (pos (p - 1)) = omega (arith, ints) in
-    let m : neg_ℤ (pos (p - 1)) ≤ℤ (x -ℤ min) = omega (arith, ints) in
     let w = down_far (x -ℤ min) (p - 1) n in
-    let v : down (x -ℤ min) ≤ p - 1 = down_le (x -ℤ min) (p - 1) m in
+    let v : down (x -ℤ min) ≤ p - 1 = down_le (x -ℤ min) (p - 1) (omega (arith, ints)) in
     let g : down (x -ℤ min) ≡ p - 1 = let w₀ = w.0 in omega (arith, v, w₀) in
-    let i : a * 2 ^ (p - 1) ≡ s * 2 ^ 0 =
-    subst₂ (λ (z : ℕ) (y : ℕ). a * 2 ^ z ≡ s * 2 ^ y) g w.1 h in
+    let i : a * 2 ^ (p - 1) ≡ s * 2 ^ 0 = subst₂ (λ (z : ℕ) (y : ℕ). a * 2 ^ z ≡ s * 2 ^ y) g w.1 h in
     let j : a * 2 ^ (p - 1) ≡ 1 * 2 ^ (p - 1) = omega (arith, i, e) in
-    let k : a ≡ 1 = eq_of_mul-eq-mul_right (2 ^ (p - 1)) (pow_pos (p - 1)) a 1 j in
-    let r : a - 1 ≡ 0 = omega (arith, k) in
+    let r : a - 1 ≡ 0 = omega (arith, eq_of_mul-eq-mul_right (2 ^ (p - 1)) (pow_pos (p - 1)) a 1 j) in
     subst (λ (z : ℕ). IsBelow p 0 z 1) (sym r) (zero_below p)
 
 -- a step down from a power of two leaves a number with all digits
@@ -304,14 +279,11 @@ pub lowered_operand : (p : ℕ) (min max x y : ℤ) (s t w d : ℕ) → 0 < p �
 lowered_operand p min max x y s t w d q o e i j r l =
     let k : 2 * 2 ^ (p - 1) ≡ 2 ^ p = twice_half p q in
     let a : 2 ^ d ≤ 2 ^ (p - 1) = step_small (p - 1) d j in
-    let b : 0 < 2 ^ d = pow_pos d in
-    let g = o.greatest in
     record {
-      fits = omega (arith, e, i, a, b, k);
+      fits = omega (arith, e, i, a, pow_pos d, k);
       full = omega (arith, e, i, a, k);
       least = l;
-      greatest =
-          omega (arith, ints, g, r);
+      greatest = omega (arith, ints, o.greatest, r);
     }
 
 -- ---- the logarithm and the fraction
@@ -320,24 +292,21 @@ lowered_operand p min max x y s t w d q o e i j r l =
 logarithm_low : (q s a k u d : ℕ) → k + d ≡ q + u → 2 ^ q ≤ s → a * 2 ^ d ≡ s * 2 ^ u → 2 ^ k ≤ a
 logarithm_low q s a k u d e f h =
     let w : 2 ^ k * 2 ^ d ≡ 2 ^ q * 2 ^ u = sym (pow-add 2 k d) ∙ ap (λ (x : ℕ). 2 ^ x) e ∙ pow-add 2 q u in
-    let g : 2 ^ q * 2 ^ u ≤ s * 2 ^ u = mul-le-mul_right (2 ^ u) f in
-    let r : 2 ^ k * 2 ^ d ≤ a * 2 ^ d = omega (arith, w, g, h) in
+    let r : 2 ^ k * 2 ^ d ≤ a * 2 ^ d = omega (arith, w, mul-le-mul_right (2 ^ u) f, h) in
     le_of_mul-le-mul_right r (pow_pos d)
 
 -- a number with all digits is below the next power
 logarithm_high : (p s a k u d : ℕ) → k + d ≡ p + u → s < 2 ^ p → a * 2 ^ d ≡ s * 2 ^ u → a < 2 ^ k
 logarithm_high p s a k u d e f h =
     let w : 2 ^ k * 2 ^ d ≡ 2 ^ p * 2 ^ u = sym (pow-add 2 k d) ∙ ap (λ (x : ℕ). 2 ^ x) e ∙ pow-add 2 p u in
-    let g : s * 2 ^ u < 2 ^ p * 2 ^ u = mul-lt-mul_of_pos_right f (pow_pos u) in
-    let r : a * 2 ^ d < 2 ^ k * 2 ^ d = omega (arith, w, g, h) in
+    let r : a * 2 ^ d < 2 ^ k * 2 ^ d = omega (arith, w, mul-lt-mul_of_pos_right f (pow_pos u), h) in
     lt_of_mul-lt-mul_right (2 ^ d) r
 
 -- the exponent of a number with all digits is its logarithm
 pub logarithm_is : (format : Format) (p : ℕ) (min max x : ℤ) (s a : ℕ) → 3 ≤ p → pos format.scale ≡ pos (p - 1) -ℤ min
     → IsOperandAt p min max s x → IsQuantaAt min s x a → IsLogarithm format a x
 logarithm_is format p min max x s a t z o h =
-    let lo = o.least in
-    let n : pos 0 ≤ℤ (x +ℤ pos format.scale) = omega (arith, ints, z, lo, t) in
+    let n : pos 0 ≤ℤ (x +ℤ pos format.scale) = omega (arith, ints, z, o.least, t) in
     let q : pos (up (x +ℤ pos format.scale)) ≡ (x +ℤ pos format.scale) = up_of (x +ℤ pos format.scale) n in
     let e : up (x +ℤ pos format.scale) + down (x -ℤ min) ≡ p - 1 + up (x -ℤ min) = omega (arith, ints, z, q, t) in
     let e' : up (x +ℤ pos format.scale) + 1 + down (x -ℤ min) ≡ p + up (x -ℤ min) = omega (arith, e, t) in
@@ -365,10 +334,8 @@ fraction_quanta min s b =
 pub fraction_same : (min x y : ℤ) (s a : ℕ) → min ≤ℤ negsuc 0 → y ≡ (x +ℤ pos 1) → IsQuantaAt min s x a
     → a * 2 ^ down y ≡ s * 2 ^ up (negsuc 0 -ℤ min) * 2 ^ up y
 fraction_same min x y s a b e h =
-    let w = up_far (negsuc 0 -ℤ min) 0 (omega (arith, ints, b)) in
-    let w₁ = w.1 in
     let g = scaled_stands s a (down (x -ℤ min)) (up (x -ℤ min)) 0 (up (negsuc 0 -ℤ min)) (up y) (down y) h
-    (omega (arith, ints, e, w₁)) in
+    (omega (arith, ints, e, (up_far (negsuc 0 -ℤ min) 0 (omega (arith, ints, b))).1)) in
     omega (arith, g)
 
 -- a number with exponent -1 lies in [1/2, 1)

@@ -17,21 +17,17 @@ pub fraction_size : (shape : Shape) (m : ℕ) (e : ℤ) → IsNormalAt shape m e
 fraction_size shape m e n =
     let o = fraction_operand shape.precision shape.min_exp shape.max_exp e m
     shape.parameters.precision_low shape.parameters.min_exp_high shape.parameters.max_exp_low n.operand in
-    let q = fraction_quanta shape.min_exp m shape.parameters.min_exp_high in
     fraction_low (format_at shape) (fraction_at shape m)
     (logarithm_is (format_at shape) shape.precision shape.min_exp shape.max_exp (negsuc 0) m (fraction_at shape m)
-    shape.parameters.precision_low (scale_is shape) o q)
+    shape.parameters.precision_low (scale_is shape) o (fraction_quanta shape.min_exp m shape.parameters.min_exp_high))
 
 -- the fraction is a normal number of the shape
-pub fraction_number : (shape : Shape) (m : ℕ) (e : ℤ) → IsNormalAt shape m e
-    → IsNormalAt shape m (negsuc 0)
+pub fraction_number : (shape : Shape) (m : ℕ) (e : ℤ) → IsNormalAt shape m e → IsNormalAt shape m (negsuc 0)
 fraction_number shape m e n =
     let o = fraction_operand shape.precision shape.min_exp shape.max_exp e m
     shape.parameters.precision_low shape.parameters.min_exp_high shape.parameters.max_exp_low n.operand in
     let q = fraction_quanta shape.min_exp m shape.parameters.min_exp_high in
-    let b = fraction_size shape m e n in
-    let b₁ = b.1 in
-    let r = scale_in_span shape in
+    let b₁ = (fraction_size shape m e n).1 in
     let w : 1 * 2 ^ (format_at shape).scale ≤ largest (format_at shape) =
-    half_within shape 1 (format_at shape).scale (pow_pos (shape.precision - 1)) (omega (arith, r)) in
+    half_within shape 1 (format_at shape).scale (pow_pos (shape.precision - 1)) (omega (arith, scale_in_span shape)) in
     number_of shape m (negsuc 0) (fraction_at shape m) o q (omega (arith, w, b₁))

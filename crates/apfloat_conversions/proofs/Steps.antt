@@ -22,8 +22,7 @@ some : (shape : Shape) → 0 < shape.precision
 some shape = let t = shape.parameters.precision_low in omega (arith, t)
 
 -- a step at the last place of a stored number fits in the word
-pub step_fits : (shape : Shape) (m t : ℕ) (e : ℤ) → IsNormalAt shape m e
-    → t ≡ 2 ^ down (e -ℤ shape.min_exp)
+pub step_fits : (shape : Shape) (m t : ℕ) (e : ℤ) → IsNormalAt shape m e → t ≡ 2 ^ down (e -ℤ shape.min_exp)
     → m + t < 2 ^ 128
 step_fits shape m t e n i =
     let l = operand_down shape.precision shape.min_exp e shape.parameters.precision_low n.operand.least in
@@ -31,13 +30,11 @@ step_fits shape m t e n i =
     (step_room shape.precision m (down (e -ℤ shape.min_exp)) shape.parameters.precision_high n.operand.fits l)
 
 -- a step is no greater than the number
-pub step_below : (shape : Shape) (m t : ℕ) (e : ℤ)
-    → ((shape.min_exp +ℤ pos 1) -ℤ pos shape.precision) ≤ℤ e
+pub step_below : (shape : Shape) (m t : ℕ) (e : ℤ) → ((shape.min_exp +ℤ pos 1) -ℤ pos shape.precision) ≤ℤ e
     → 2 ^ (shape.precision - 1) ≤ m → t ≡ 2 ^ down (e -ℤ shape.min_exp) → t ≤ m
 step_below shape m t e l h i =
     let d = operand_down shape.precision shape.min_exp e shape.parameters.precision_low l in
-    let k = step_small (shape.precision - 1) (down (e -ℤ shape.min_exp)) d in
-    omega (arith, i, k, h)
+    omega (arith, i, step_small (shape.precision - 1) (down (e -ℤ shape.min_exp)) d, h)
 
 -- ---- up
 
@@ -57,8 +54,7 @@ above_of shape m e n =
     (some shape) (one_side (e -ℤ shape.min_exp)) n.operand.fits n.operand.full n.whole
 
 -- the next number above, if no digit is added
-pub after_stays : (shape : Shape) (m t : ℕ) (e : ℤ) → IsNormalAt shape m e
-    → t ≡ 2 ^ down (e -ℤ shape.min_exp)
+pub after_stays : (shape : Shape) (m t : ℕ) (e : ℤ) → IsNormalAt shape m e → t ≡ 2 ^ down (e -ℤ shape.min_exp)
     → m + t < 2 ^ shape.precision → IsAfter shape (quanta_at shape.min_exp m e) (m + t) e
 after_stays shape m t e n i f =
     let g = n.operand.full in
@@ -83,7 +79,6 @@ after_carries shape m t w e r n b i h j k =
     step_within shape.precision m a (up (e -ℤ shape.min_exp)) (down (e -ℤ shape.min_exp)) (omega (arith, l))
     (one_side (e -ℤ shape.min_exp)) n.operand.fits n.whole in
     let y : m + t ≡ 2 ^ shape.precision = omega (arith, i, h, z) in
-    let x : 2 ^ shape.precision ≤ m + 2 ^ down (e -ℤ shape.min_exp) = omega (arith, i, h) in
     let q = stepped_by m a (up (e -ℤ shape.min_exp)) (down (e -ℤ shape.min_exp)) t i n.whole in
     record {
       next = a + 2 ^ up (e -ℤ shape.min_exp);
@@ -91,13 +86,12 @@ after_carries shape m t w e r n b i h j k =
       operand =
           carries_operand shape.precision shape.min_exp shape.max_exp e r m w p n.operand j k
           (room_above (format_at shape) shape.precision shape.min_exp shape.max_exp e m a refl (span_is shape)
-          n.operand n.whole b x);
+          n.operand n.whole b (omega (arith, i, h)));
       quanta = carried_quanta shape.precision shape.min_exp e r (m + t) w (a + 2 ^ up (e -ℤ shape.min_exp)) p y j k q;
     }
 
 -- the number after n quanta is a normal number of the shape
-pub after_stored : (shape : Shape) (n m : ℕ) (e : ℤ) → n < largest (format_at shape)
-    → IsAfter shape n m e
+pub after_stored : (shape : Shape) (n m : ℕ) (e : ℤ) → n < largest (format_at shape) → IsAfter shape n m e
     → IsNormalAt shape m e
 after_stored shape n m e b h =
     number_of shape m e h.next h.operand h.quanta (next_within (format_at shape) n h.next (some shape) b h.is_above)
@@ -119,17 +113,14 @@ pub record IsBefore (shape : Shape) (n m : ℕ) (e : ℤ) : Type 0 where
   pub quanta : IsQuantaAt shape.min_exp m e next
 
 -- the number below, if no digit is lost
-pub before_stays : (shape : Shape) (m t : ℕ) (e : ℤ) → IsNormalAt shape m e
-    → t ≡ 2 ^ down (e -ℤ shape.min_exp)
+pub before_stays : (shape : Shape) (m t : ℕ) (e : ℤ) → IsNormalAt shape m e → t ≡ 2 ^ down (e -ℤ shape.min_exp)
     → 2 ^ (shape.precision - 1) < m → IsBefore shape (quanta_at shape.min_exp m e) (m - t) e
 before_stays shape m t e n i h =
     let a = quanta_at shape.min_exp m e in
     let f = n.operand.fits in
     let l = operand_down shape.precision shape.min_exp e shape.parameters.precision_low n.operand.least in
-    let k : 2 ^ (shape.precision - 1) + 2 ^ down (e -ℤ shape.min_exp) ≤ m =
-    step_above (shape.precision - 1) m a (up (e -ℤ shape.min_exp))
-    (down (e -ℤ shape.min_exp)) l (one_side (e -ℤ shape.min_exp))
-    h n.whole in
+    let k : 2 ^ (shape.precision - 1) + 2 ^ down (e -ℤ shape.min_exp) ≤ m = step_above (shape.precision - 1) m a
+    (up (e -ℤ shape.min_exp)) (down (e -ℤ shape.min_exp)) l (one_side (e -ℤ shape.min_exp)) h n.whole in
     record {
       next = a - 2 ^ up (e -ℤ shape.min_exp);
       is_below =
@@ -141,8 +132,7 @@ before_stays shape m t e n i h =
     }
 
 -- below a power of two the step is half as large
-pub before_lowers : (shape : Shape) (m w t : ℕ) (e r : ℤ) → IsNormalAt shape m e
-    → m ≡ 2 ^ (shape.precision - 1)
+pub before_lowers : (shape : Shape) (m w t : ℕ) (e r : ℤ) → IsNormalAt shape m e → m ≡ 2 ^ (shape.precision - 1)
     → w ≡ 2 ^ shape.precision → r ≡ (e -ℤ pos 1) → ((shape.min_exp +ℤ pos 1) -ℤ pos shape.precision) ≤ℤ r
     → t ≡ 2 ^ down (r -ℤ shape.min_exp) → IsBefore shape (quanta_at shape.min_exp m e) (w - t) r
 before_lowers shape m w t e r n i j k low h =
@@ -150,35 +140,30 @@ before_lowers shape m w t e r n i j k low h =
     let a = quanta_at shape.min_exp m e in
     let l = operand_down shape.precision shape.min_exp r shape.parameters.precision_low low in
     let q = lowered_quanta shape.precision shape.min_exp e r m w a p i j k n.whole in
-    let y = step_small (shape.precision - 1) (down (r -ℤ shape.min_exp)) l in
     let z = twice_half shape.precision p in
     let o : 0 < 2 ^ (shape.precision - 1) = pow_pos (shape.precision - 1) in
     record {
       next = a - 2 ^ up (r -ℤ shape.min_exp);
       is_below =
           less_is shape.precision w a (up (r -ℤ shape.min_exp))
-          (down (r -ℤ shape.min_exp)) p (one_side (r -ℤ shape.min_exp))
-          (omega (arith, j)) (omega (arith, j, z, o)) q;
+          (down (r -ℤ shape.min_exp)) p (one_side (r -ℤ shape.min_exp)) (omega (arith, j)) (omega (arith, j, z, o)) q;
       operand = lowered_operand shape.precision shape.min_exp shape.max_exp e r m w t (down (r -ℤ shape.min_exp)) p
           n.operand j h l k low;
-      quanta = stepped_down_by w a (up (r -ℤ shape.min_exp))
-          (down (r -ℤ shape.min_exp)) t h (omega (arith, y, j, z, o)) q;
+      quanta = stepped_down_by w a (up (r -ℤ shape.min_exp)) (down (r -ℤ shape.min_exp)) t h
+          (omega (arith, step_small (shape.precision - 1) (down (r -ℤ shape.min_exp)) l, j, z, o)) q;
     }
 
 -- the number before n quanta is a normal number of the shape
 pub before_stored : (shape : Shape) (n m : ℕ) (e : ℤ) → n ≤ largest (format_at shape) → IsBefore shape n m e
     → IsNormalAt shape m e
-before_stored shape n m e b h =
-    let l = h.is_below.not_above in
-    number_of shape m e h.next h.operand h.quanta (omega (arith, l, b))
+before_stored shape n m e b h = number_of shape m e h.next h.operand h.quanta (omega (arith, h.is_below.not_above, b))
 
 -- the number before n quanta is the neighbour that the model defines
 pub before_is : (shape : Shape) (n m : ℕ) (e : ℤ) → n ≤ largest (format_at shape) → IsBefore shape n m e
     → IsNextLess (format_at shape) n (finite true (quanta_at shape.min_exp m e)) 0
 before_is shape n m e b h =
     let q = quanta_is shape.min_exp m e h.next h.quanta in
-    let g = quanta_some shape m e (before_stored shape n m e b h) in
-    let p : 0 < h.next = omega (arith, q, g) in
+    let p : 0 < h.next = omega (arith, q, quanta_some shape m e (before_stored shape n m e b h)) in
     rw q (record {
       next = h.next;
       is_below = h.is_below;
@@ -243,9 +228,7 @@ below_top shape m e n h =
     half_within shape (2 ^ (shape.precision - 1)) (up (e -ℤ shape.min_exp) + 1) (omega arith) u in
     let x : 2 ^ (shape.precision - 1) * 2 ^ (up (e -ℤ shape.min_exp) + 1)
     ≡ 2 ^ (shape.precision - 1) * (2 ^ up (e -ℤ shape.min_exp) * 2) = ap (λ (z : ℕ). 2 ^ (shape.precision - 1) * z) l in
-    let y : 2 * 2 ^ (shape.precision - 1) * 2 ^ up (e -ℤ shape.min_exp)
-    ≡ 2 ^ shape.precision * 2 ^ up (e -ℤ shape.min_exp) =
-    ap (λ (z : ℕ). z * 2 ^ up (e -ℤ shape.min_exp)) t in
     let q = quanta_below shape.precision shape.min_exp e m (quanta_at shape.min_exp m e) n.operand.fits n.whole in
-    let v : quanta_at shape.min_exp m e < largest (format_at shape) = omega (arith, q, k, w, x, y) in
+    let v : quanta_at shape.min_exp m e < largest (format_at shape) =
+    omega (arith, q, k, w, x, ap (λ (z : ℕ). z * 2 ^ up (e -ℤ shape.min_exp)) t) in
     sym (ne_eqb (quanta_at shape.min_exp m e) (largest (format_at shape)) (λ z. omega (arith, v, z)))

@@ -26,9 +26,8 @@ pub whole_places : (shape : Shape) (m : ℕ) (e r : ℤ) → IsNormalAt shape m 
     → quanta_at shape.min_exp m e ≡ m * 2 ^ up r * 2 ^ (format_at shape).scale
 whole_places shape m e r n v l =
     let v' = rw (exponent_word shape m e n) at v in
-    let k : pos (up r) ≡ r = up_of r l in
     places_up (shape.precision - 1) (format_at shape).scale shape.min_exp e r m (quanta_at shape.min_exp m e) (up r)
-    (scale_is shape) v' (omega (arith, ints, k)) n.whole
+    (scale_is shape) v' (omega (arith, ints, up_of r l)) n.whole
 
 -- a number that may have a fraction, by its significand and the exponent of its last digit
 pub fraction_places : (shape : Shape) (m k : ℕ) (e r : ℤ) → IsNormalAt shape m e
@@ -44,28 +43,24 @@ pub word_places : (shape : Shape) (m k : ℕ) (e : ℤ) → IsNormalAt shape m e
     → pos k ≡ (pos 61 -ℤ e)
     → quanta_at shape.min_exp m e * 2 ^ k ≡ m * 2 ^ (62 - shape.precision) * 2 ^ (format_at shape).scale
 word_places shape m k e n l h =
-    let z = scale_is shape in
     let p = shape.parameters.precision_low in
     let g = scaled_stands m (quanta_at shape.min_exp m e) (down (e -ℤ shape.min_exp)) (up (e -ℤ shape.min_exp)) 0
-    (format_at shape).scale (62 - shape.precision) k n.whole (omega (arith, ints, z, h, l, p)) in
+    (format_at shape).scale (62 - shape.precision) k n.whole (omega (arith, ints, scale_is shape, h, l, p)) in
     omega (arith, g)
 
 -- a significand shifted up to 62 digits fits in the word
 pub top_fits : (precision m : ℕ) → precision ≤ 62 → m < 2 ^ precision → m * 2 ^ (62 - precision) < 2 ^ 62
 top_fits precision m l f =
     let e : precision + (62 - precision) ≡ 62 = omega (arith, l) in
-    let w : 2 ^ 62 ≡ 2 ^ precision * 2 ^ (62 - precision) =
-    ap (λ (x : ℕ). 2 ^ x) (sym e) ∙ pow-add 2 precision (62 - precision) in
     let a : m * 2 ^ (62 - precision) < 2 ^ precision * 2 ^ (62 - precision) =
     mul-lt-mul_of_pos_right f (pow_pos (62 - precision)) in
-    omega (arith, a, w)
+    omega (arith, a, ap (λ (x : ℕ). 2 ^ x) (sym e) ∙ pow-add 2 precision (62 - precision))
 
 -- ---- times a power of two
 
 abbrev pub DeliversOf : Shape → Round → Bool → ℕ → ℤ → Datum → ℕ → Type 0
 DeliversOf s mode negative m r v st =
-    (amount parts : ℕ) → 0 < parts
-    → StandsFor m ExactlyZero (amount * 2 ^ down (r +ℤ pos (format_at s).scale))
+    (amount parts : ℕ) → 0 < parts → StandsFor m ExactlyZero (amount * 2 ^ down (r +ℤ pos (format_at s).scale))
     (parts * 2 ^ up (r +ℤ pos (format_at s).scale)) → IsDelivered (format_at s) mode negative amount parts v st
 
 -- a number times a power of two is delivered with the clamped exponent
@@ -76,16 +71,13 @@ pub scale_delivered : (shape : Shape) (m : ℕ) (e j near r : ℤ) (mode : Round
 scale_delivered shape m e j near r mode negative v st n c i d =
     let a = quanta_at shape.min_exp m e in
     let k = scale_is shape in
-    let w = span_is shape in
     let o = n.operand in
     let g : (e -ℤ shape.min_exp) ≤ℤ pos span_bound = omega (arith, ints, shape.parameters, o) in
-    let g' = up_le (e -ℤ shape.min_exp) span_bound g in
-    let f : (format_at shape).span ≤ span_bound = omega (arith, ints, shape.parameters, w) in
-    clamp_kept (format_at shape) mode negative (quanta_at shape.min_exp m e)
-    (shape.precision + up (e -ℤ shape.min_exp)) scaling_bound j
-    near v st (omega (arith, shape.parameters)) (quanta_some shape m e n)
+    let f : (format_at shape).span ≤ span_bound = omega (arith, ints, shape.parameters, span_is shape) in
+    clamp_kept (format_at shape) mode negative (quanta_at shape.min_exp m e) (shape.precision + up (e -ℤ shape.min_exp))
+    scaling_bound j near v st (omega (arith, shape.parameters)) (quanta_some shape m e n)
     (quanta_below shape.precision shape.min_exp e m (quanta_at shape.min_exp m e) o.fits n.whole)
-    (omega (arith, f, shape.parameters)) (omega (arith, g', shape.parameters)) c
+    (omega (arith, f, shape.parameters)) (omega (arith, up_le (e -ℤ shape.min_exp) span_bound g, shape.parameters)) c
     (d (quanta_at shape.min_exp m e * 2 ^ up near) (2 ^ down near) (pow_pos (down near))
     (scaled_is (shape.precision - 1) (format_at shape).scale shape.min_exp e near r m (quanta_at shape.min_exp m e) k i
     n.whole))
@@ -98,19 +90,14 @@ pub half_within : (shape : Shape) (m k : ℕ) → m ≤ 2 ^ (shape.precision - 1
 half_within shape m k h l =
     let g : m ≤ greatest_significand shape.nonfinite shape.precision =
     let f = greatest_full shape.nonfinite shape.precision shape.parameters.precision_low in omega (arith, h, f) in
-    let a : m * 2 ^ k ≤ greatest_significand shape.nonfinite shape.precision * 2 ^ k = mul-le-mul_right (2 ^ k) g in
-    let b : 2 ^ k ≤ 2 ^ (format_at shape).span = pow-le-pow_right two_pos l in
     let c : greatest_significand shape.nonfinite shape.precision * 2 ^ k
     ≤ greatest_significand shape.nonfinite shape.precision * 2 ^ (format_at shape).span =
-    mul-le-mul_left (greatest_significand shape.nonfinite shape.precision) b in
-    omega (arith, a, c)
+    mul-le-mul_left (greatest_significand shape.nonfinite shape.precision) (pow-le-pow_right two_pos l) in
+    omega (arith, mul-le-mul_right (2 ^ k) g, c)
 
 -- the scale of a shape is less than its span
 pub scale_in_span : (shape : Shape) → (format_at shape).scale + 1 ≤ (format_at shape).span
-scale_in_span shape =
-    let a = scale_is shape in
-    let b = span_is shape in
-    omega (arith, ints, a, b, shape.parameters)
+scale_in_span shape = omega (arith, ints, scale_is shape, span_is shape, shape.parameters)
 
 -- a stored number represents its quanta
 pub number_of : (shape : Shape) (m : ℕ) (e : ℤ) (n : ℕ) → IsOperandAt shape.precision shape.min_exp shape.max_exp m e
@@ -122,8 +109,7 @@ number_of shape m e n o q l =
 
 -- a zero times a power of two is that zero
 pub zero_scaled : (format : Format) (mode : Round) (negative : Bool) (j : ℤ)
-    → negative ≡ zero_sign format.nonfinite negative
-    → IsScaling format mode (finite negative 0) j (finite negative 0)
+    → negative ≡ zero_sign format.nonfinite negative → IsScaling format mode (finite negative 0) j (finite negative 0)
 zero_scaled format mode negative j z =
     subst (λ (b : Bool). IsScaling format mode (finite negative 0) j (finite b 0)) (sym z)
     (scaling_zero format mode negative j)

@@ -36,8 +36,7 @@ to_signed_above format mode width (finite false n) number st exact z h =
     let a : int_lt (pos (whole_pick mode false n (2 ^ format.scale))) (pos 0) ≡ false =
     less_not (pos (whole_pick mode false n (2 ^ format.scale))) (pos 0) (omega (arith, ints)) in
     let b : int_lt (pos (whole_pick mode false n (2 ^ format.scale))) (neg_ℤ (pos (2 ^ (width - 1)))) ≡ false =
-    less_not (pos (whole_pick mode false n (2 ^ format.scale))) (neg_ℤ (pos (2 ^ (width - 1))))
-    (omega (arith, ints)) in
+    less_not (pos (whole_pick mode false n (2 ^ format.scale))) (neg_ℤ (pos (2 ^ (width - 1)))) (omega (arith, ints)) in
     rw b (rw a at h)
 
 -- ---- of a value with a minus sign: the magnitude, in the swapped mode
@@ -87,8 +86,7 @@ zero_unsigned_of format mode width number st b exact h =
       zero_ranged (pos 0) (pos (2 ^ width - 1)) (exact_or_not (pos 0) true (b && true)) (omega (arith, ints))
           (omega (arith, ints)),
     ) at h in
-    let n = h'.number_is in
-    (omega (arith, ints, n), h'.status_is)
+    (omega (arith, ints, h'.number_is), h'.status_is)
 
 -- for a negated -0, the unsigned integer is 0, with no flag
 zero_unsigned : (kind : NonfiniteBehavior) (format : Format) (mode : Round) (width number st : ℕ) (exact : Bool)
@@ -142,8 +140,7 @@ wider : (width : ℕ) → 2 ≤ width → 2 ^ (width - 1) < 2 ^ width - 1
 wider width h =
     let t : 2 * 2 ^ (width - 1) ≡ 2 ^ width = twice_half width (omega (arith, h)) in
     let l : 1 ≤ width - 1 = omega (arith, h) in
-    let a : 2 ^ 1 ≤ 2 ^ (width - 1) = pow-le-pow_right two_pos l in
-    omega (arith, t, a)
+    omega (arith, t, pow-le-pow_right two_pos l)
 
 -- a number below 0, by its magnitude in the swapped mode
 minus_number : (format : Format) (mode : Round) (width n number st : ℕ) (exact : Bool) (value : ℤ) (status : ℕ)
@@ -152,8 +149,7 @@ minus_number : (format : Format) (mode : Round) (width n number st : ℕ) (exact
     → IsNegatedWhole false width number st exact value status is_exact
     → IsToSigned format mode width (finite true n) value status is_exact
 minus_number format mode width n number st exact value status is_exact z w h g =
-    let p = pick_swapped mode n (2 ^ format.scale) in
-    let h' = rw p at h in
+    let h' = rw (pick_swapped mode n (2 ^ format.scale)) at h in
     let k : ℕ = whole_pick mode true n (2 ^ format.scale) in
     let big = wider width w in
     ⊎_elim
@@ -164,22 +160,19 @@ minus_number format mode width n number st exact value status is_exact z w h g =
     let i = rw (ranged_out width false (whole_pick mode true n (2 ^ format.scale))
     (eqb (whole_quanta format mode true n) n)
     m) at h' in
-    let q = i.number_is in
-    omega (arith, ints, q, big))
+    omega (arith, ints, i.number_is, big))
     (λ (m : whole_pick mode true n (2 ^ format.scale) ≤ 2 ^ width - 1).
     let i = rw (ranged_in width false (whole_pick mode true n (2 ^ format.scale))
     (eqb (whole_quanta format mode true n) n)
     m) at h' in
-    let q = i.number_is in
-    omega (arith, ints, q, l))
+    omega (arith, ints, i.number_is, l))
     (cases_lt (2 ^ width - 1) (whole_pick mode true n (2 ^ format.scale))) in
     let r = g.past o in
     minus_past format mode width n value status is_exact l r.1.0 r.0 r.1.1)
     (λ (l : whole_pick mode true n (2 ^ format.scale) ≤ 2 ^ (width - 1)).
-    let m : whole_pick mode true n (2 ^ format.scale) ≤ 2 ^ width - 1 = omega (arith, l, big) in
     let i = rw (ranged_in width false (whole_pick mode true n (2 ^ format.scale))
     (eqb (whole_quanta format mode true n) n)
-    m) at h' in
+    (omega (arith, l, big))) at h' in
     let q = i.number_is in
     let q' : number ≡ whole_pick mode true n (2 ^ format.scale) = omega (arith, ints, q) in
     let r = g.within (omega (arith, q', l)) in
@@ -196,20 +189,16 @@ pub to_signed_below : (format : Format) (mode : Round) (width : ℕ) (x : Datum)
 to_signed_below format mode width (nan false s) number st exact value status is_exact y w h g = absurd (false≢true y)
 to_signed_below format mode width (nan true s) number st exact value status is_exact y w h g =
     let i = nan_unsigned format.nonfinite format (swapped mode) width s number st exact h in
-    let q = i.number_is in
-    let e : number ≡ 0 = omega (arith, ints, q) in
+    let e : number ≡ 0 = omega (arith, ints, i.number_is) in
     let r = g.within (omega (arith, e)) in
     record {
       number_is = r.1.0 ∙ ap (λ (j : ℕ). neg_ℤ (pos j)) e;
       status_is = r.0 ∙ i.status_is;
-      is_exact_is =
-          r.1.1 ∙ and-true exact ∙ i.is_exact_is;
+      is_exact_is = r.1.1 ∙ and-true exact ∙ i.is_exact_is;
     }
 to_signed_below format mode width (infinite false) number st exact value status is_exact y w h g = absurd (false≢true y)
 to_signed_below format mode width (infinite true) number st exact value status is_exact y w h g =
-    let q = h.number_is in
-    let big = wider width w in
-    let r = g.past (omega (arith, ints, q, big)) in
+    let r = g.past (omega (arith, ints, h.number_is, wider width w)) in
     record { number_is = r.1.0; status_is = r.0; is_exact_is = r.1.1 }
 to_signed_below format mode width (finite false n) number st exact value status is_exact y w h g = absurd (false≢true y)
 to_signed_below format mode width (finite true n) number st exact value status is_exact y w h g =
@@ -219,8 +208,7 @@ to_signed_below format mode width (finite true n) number st exact value status i
     let h' = rw z at h in
     let g' = rw z at g in
     let i = zero_unsigned format.nonfinite format (swapped mode) width number st exact h' in
-    let i₀ = i.0 in
-    let r = g'.within (omega (arith, i₀)) in
+    let r = g'.within (omega (arith, i.0)) in
     subst (λ (j : ℕ). IsToSigned format mode width (finite true j) value status is_exact) (sym e)
     (minus_zero format mode width value status is_exact (r.1.0 ∙ ap (λ (j : ℕ). neg_ℤ (pos j)) i.0) (r.0 ∙ i.1)
     (r.1.1 ∙ and-false exact)))

@@ -29,8 +29,7 @@ whole_odd q =
 -- the loss decides whether the mode takes the next integer
 takes_at : (mode : Round) (negative odd : Bool) (q amount parts : ℕ) (loss : Loss) → (loss ≡ ExactlyZero → ⊥)
     → StandsFor q loss amount parts
-    → takes_above mode negative (amount - q * parts) ((q + 1) * parts - amount) odd
-    ≡ rounds_up mode negative loss odd
+    → takes_above mode negative (amount - q * parts) ((q + 1) * parts - amount) odd ≡ rounds_up mode negative loss odd
 takes_at mode negative odd q amount parts ExactlyZero n h = absurd (n refl)
 takes_at mode negative odd q amount parts LessThanHalf n h = let a = h.0 in let b = h.1 in
     takes_less mode negative odd _ _ (omega (arith, a, b))
@@ -43,8 +42,7 @@ between_is : (mode : Round) (negative : Bool) (q amount parts : ℕ) (loss : Los
     → StandsFor q loss amount parts → pick_between mode negative q (q + 1) amount parts ≡ kept mode negative loss q
 between_is mode negative q amount parts loss n h =
     ap (λ (b : Bool). cond (takes_above mode negative (amount - q * parts) ((q + 1) * parts - amount) b) (q + 1) q)
-    (whole_odd q)
-    ∙ ap (λ (b : Bool). cond b (q + 1) q) (takes_at mode negative (eqb (q % 2) 1) q amount parts loss n h)
+    (whole_odd q) ∙ ap (λ (b : Bool). cond b (q + 1) q) (takes_at mode negative (eqb (q % 2) 1) q amount parts loss n h)
 
 -- an integral amount is picked itself
 pub whole_exactly : (mode : Round) (negative : Bool) (q amount parts : ℕ) → 0 < parts → amount ≡ q * parts
@@ -52,8 +50,7 @@ pub whole_exactly : (mode : Round) (negative : Bool) (q amount parts : ℕ) → 
 whole_exactly mode negative q amount parts p e =
     let z : eqb (amount % parts) 0 ≡ true =
     eq-eqb (amount % parts) 0 (ap (λ (x : ℕ). x % parts) e ∙ mul-mod_left q parts) in
-    let d : amount / parts ≡ q = ap (λ (x : ℕ). x / parts) e ∙ mul-div_cancel q p in
-    rw z d
+    rw z (ap (λ (x : ℕ). x / parts) e ∙ mul-div_cancel q p)
 
 -- of an amount that is not integral, the pick is its integer part, rounded by the loss
 pub whole_inexactly : (mode : Round) (negative : Bool) (q amount parts : ℕ) (loss : Loss) → 0 < parts
@@ -68,10 +65,9 @@ whole_inexactly mode negative q amount parts loss p n h =
     let m : amount / parts * parts + amount % parts ≡ amount = div-add-mod' amount parts in
     let m' : amount / parts * parts ≡ q * parts = ap (λ (x : ℕ). x * parts) d in
     let z : eqb (amount % parts) 0 ≡ false = ne_eqb (amount % parts) 0 (λ e. omega arith) in
-    let w : pick_between mode negative (amount / parts) (amount / parts + 1) amount parts
-    ≡ kept mode negative loss q =
-    ap (λ (x : ℕ). pick_between mode negative x (x + 1) amount parts) d ∙
-    between_is mode negative q amount parts loss n h in
+    let w : pick_between mode negative (amount / parts) (amount / parts + 1) amount parts ≡ kept mode negative loss q =
+    ap (λ (x : ℕ). pick_between mode negative x (x + 1) amount parts) d
+    ∙ between_is mode negative q amount parts loss n h in
     rw z w
 
 -- an integral amount is reported as exact
@@ -86,11 +82,10 @@ pub inexactly_so : (mode : Round) (negative : Bool) (q amount parts : ℕ) (loss
     → (loss ≡ ExactlyZero → ⊥) → StandsFor q loss amount parts
     → false ≡ eqb (whole_pick mode negative amount parts * parts) amount
 inexactly_so mode negative q amount parts loss p n h =
-    let w = whole_inexactly mode negative q amount parts loss p n h in
     sym (ne_eqb (whole_pick mode negative amount parts * parts) amount
     (λ e. off_both (rounds_up mode negative loss (eqb (q % 2) 1)) q amount parts
     (stands_past q loss amount parts p n h) (stands_to q loss amount parts p h)
-    (ap (λ (x : ℕ). x * parts) (sym w) ∙ e)))
+    (ap (λ (x : ℕ). x * parts) (sym (whole_inexactly mode negative q amount parts loss p n h)) ∙ e)))
 
 -- ---- by cases of the loss
 
@@ -132,17 +127,15 @@ pub cut_whole_stands : (s q k amount parts : ℕ) (loss : Loss) → amount * 2 ^
 cut_whole_stands s q k amount parts loss e h =
     let u : 2 ^ k * parts ≡ parts * 2 ^ k = omega arith in
     let t : StandsFor q loss (s * parts) (parts * 2 ^ k) = subst (λ (x : ℕ). StandsFor q loss (s * parts) x) u h in
-    let t' : StandsFor q loss (amount * 2 ^ k) (parts * 2 ^ k) =
-    subst (λ (x : ℕ). StandsFor q loss x (parts * 2 ^ k)) (sym e) t in
-    stands_cancel q loss amount parts (2 ^ k) (pow_pos k) t'
+    stands_cancel q loss amount parts (2 ^ k) (pow_pos k)
+    (subst (λ (x : ℕ). StandsFor q loss x (parts * 2 ^ k)) (sym e) t)
 
 -- a number whose last digit is `k` places below the binary point
 pub places_down : (digits scale : ℕ) (min_exp x r : ℤ) (s a k : ℕ) → pos scale ≡ pos digits -ℤ min_exp
     → r ≡ (x -ℤ pos digits) → pos k ≡ (pos 0 -ℤ r) → a * 2 ^ down (x -ℤ min_exp) ≡ s * 2 ^ up (x -ℤ min_exp)
     → a * 2 ^ k ≡ s * 2 ^ scale
 places_down digits scale min_exp x r s a k z e f h =
-    let g = scaled_stands s a (down (x -ℤ min_exp)) (up (x -ℤ min_exp)) 0 scale 0 k h
-    (omega (arith, ints, z, e, f)) in
+    let g = scaled_stands s a (down (x -ℤ min_exp)) (up (x -ℤ min_exp)) 0 scale 0 k h (omega (arith, ints, z, e, f)) in
     omega (arith, g)
 
 -- a number whose last digit has an exponent of at least 0 is an integer
@@ -150,8 +143,7 @@ pub places_up : (digits scale : ℕ) (min_exp x r : ℤ) (s a k : ℕ) → pos s
     → r ≡ (x -ℤ pos digits) → pos k ≡ (r -ℤ pos 0) → a * 2 ^ down (x -ℤ min_exp) ≡ s * 2 ^ up (x -ℤ min_exp)
     → a ≡ s * 2 ^ k * 2 ^ scale
 places_up digits scale min_exp x r s a k z e f h =
-    let g = scaled_stands s a (down (x -ℤ min_exp)) (up (x -ℤ min_exp)) 0 scale k 0 h
-    (omega (arith, ints, z, e, f)) in
+    let g = scaled_stands s a (down (x -ℤ min_exp)) (up (x -ℤ min_exp)) 0 scale k 0 h (omega (arith, ints, z, e, f)) in
     omega (arith, g)
 
 -- for an integer z that is not below 0, `up z` is z
@@ -161,29 +153,20 @@ up_of (negsuc k) h = absurd (omega (arith, ints))
 
 -- a number with more digits than the word does not fit in it
 shifted_past : (digits s k : ℕ) → 2 ^ digits ≤ s → 128 ≤ digits + k → 2 ^ 128 ≤ s * 2 ^ k
-shifted_past digits s k f h =
-    let e : 2 ^ (digits + k) ≡ 2 ^ digits * 2 ^ k = pow-add 2 digits k in
-    let a : 2 ^ digits * 2 ^ k ≤ s * 2 ^ k = mul-le-mul_right (2 ^ k) f in
-    let b : 2 ^ 128 ≤ 2 ^ (digits + k) = pow-le-pow_right two_pos h in
-    omega (arith, e, a, b)
+shifted_past digits s k f h = omega (arith, pow-add 2 digits k, mul-le-mul_right (2 ^ k) f, pow-le-pow_right two_pos h)
 
 -- an integer of that many digits fits the word
 pub shifted_within : (precision s k : ℕ) → s < 2 ^ precision → precision + k ≤ 128 → s * 2 ^ k < 2 ^ 128
 shifted_within precision s k f h =
-    let e : 2 ^ (precision + k) ≡ 2 ^ precision * 2 ^ k = pow-add 2 precision k in
-    let a : s * 2 ^ k < 2 ^ precision * 2 ^ k = mul-lt-mul_of_pos_right f (pow_pos k) in
-    let b : 2 ^ (precision + k) ≤ 2 ^ 128 = pow-le-pow_right two_pos h in
-    omega (arith, e, a, b)
+    omega (arith, pow-add 2 precision k, mul-lt-mul_of_pos_right f (pow_pos k), pow-le-pow_right two_pos h)
 
 -- a number with an exponent of 128 or more is too large
 pub too_large : (mode : Round) (negative : Bool) (digits scale : ℕ) (min_exp x : ℤ) (s a : ℕ) → digits ≤ 127
     → pos scale ≡ pos digits -ℤ min_exp → 2 ^ digits ≤ s → pos 128 ≤ℤ x
-    → a * 2 ^ down (x -ℤ min_exp) ≡ s * 2 ^ up (x -ℤ min_exp)
-    → 2 ^ 128 ≤ whole_pick mode negative a (2 ^ scale)
+    → a * 2 ^ down (x -ℤ min_exp) ≡ s * 2 ^ up (x -ℤ min_exp) → 2 ^ 128 ≤ whole_pick mode negative a (2 ^ scale)
 too_large mode negative digits scale min_exp x s a c z f g h =
-    let n : pos 0 ≤ℤ (x -ℤ pos digits) = omega (arith, ints) in
     let k : ℕ = up (x -ℤ pos digits) in
-    let q : pos (up (x -ℤ pos digits)) ≡ (x -ℤ pos digits) = up_of (x -ℤ pos digits) n in
+    let q : pos (up (x -ℤ pos digits)) ≡ (x -ℤ pos digits) = up_of (x -ℤ pos digits) (omega (arith, ints)) in
     let e = places_up digits scale min_exp x (x -ℤ pos digits) s a (up (x -ℤ pos digits)) z refl
     (omega (arith, ints, q)) h in
     let w = whole_exactly mode negative (s * 2 ^ up (x -ℤ pos digits)) a (2 ^ scale) (pow_pos scale) e in
@@ -191,20 +174,13 @@ too_large mode negative digits scale min_exp x s a c z f g h =
 
 -- 1 can be added to a significand after a cut
 pub cut_below : (s q k : ℕ) → s < 2 ^ 125 → q ≡ s / 2 ^ k → q + 1 < 2 ^ 128
-cut_below s q k f e =
-    let a : s / 2 ^ k * 2 ^ k + s % 2 ^ k ≡ s = div-add-mod' s (2 ^ k) in
-    let w : 1 ≤ 2 ^ k = pow_pos k in
-    let b : s / 2 ^ k * 1 ≤ s / 2 ^ k * 2 ^ k = mul-le-mul_left (s / 2 ^ k) w in
-    omega (arith, a, b, e, f)
+cut_below s q k f e = omega (arith, div-add-mod' s (2 ^ k), mul-le-mul_left (s / 2 ^ k) (pow_pos k), e, f)
 
 -- after a cut of at least one place, the significand has room for 1 more
 pub whole_fits : (p s k mag : ℕ) → 0 < p → s < 2 ^ p → 1 ≤ k → mag ≤ s / 2 ^ k + 1 → mag ≤ 2 ^ (p - 1)
 whole_fits p s k mag q f l h =
-    let a : s / 2 ^ k * 2 ^ k + s % 2 ^ k ≡ s = div-add-mod' s (2 ^ k) in
-    let w : 2 ^ 1 ≤ 2 ^ k = pow-le-pow_right two_pos l in
-    let b : s / 2 ^ k * 2 ≤ s / 2 ^ k * 2 ^ k = mul-le-mul_left (s / 2 ^ k) w in
     let t : 2 * 2 ^ (p - 1) ≡ 2 ^ p = twice_half p q in
-    omega (arith, a, b, t, f, h)
+    omega (arith, div-add-mod' s (2 ^ k), mul-le-mul_left (s / 2 ^ k) (pow-le-pow_right two_pos l), t, f, h)
 
 -- ---- a number rounded to an integer
 
@@ -236,12 +212,10 @@ whole_toward_zero negative amount parts p =
     let m : amount / parts * parts + amount % parts ≡ amount = div-add-mod' amount parts in
     ⊎_elim
     (λ (e : amount % parts ≡ 0).
-    let z = eq-eqb (amount % parts) 0 e in
     let q : amount / parts * parts ≡ amount = omega (arith, m, e) in
-    rw z (eq-eqb (amount / parts * parts) amount q))
+    rw (eq-eqb (amount % parts) 0 e) (eq-eqb (amount / parts * parts) amount q))
     (λ (e : amount % parts ≡ 0 → ⊥).
-    let z = ne_eqb (amount % parts) 0 e in
-    rw z (ne_eqb (amount / parts * parts) amount (λ q. e (omega (arith, m, q)))))
+    rw (ne_eqb (amount % parts) 0 e) (ne_eqb (amount / parts * parts) amount (λ q. e (omega (arith, m, q)))))
     (cases_eq (amount % parts) 0)
 
 -- an integral amount has no rest
@@ -262,15 +236,13 @@ rest_inexact rest half f z =
     (cases_lt rest 1)
 
 -- the digits above the binary point represent the amount with the loss of those below it
-pub word_cut_stands : (s places shift half rest amount parts : ℕ) → s < 2 ^ 62
-    → (places ≤ 63 → shift ≡ places) → (63 < places → shift ≡ 63) → 0 < shift
-    → half ≡ 2 ^ (shift - 1) → rest ≡ s % 2 ^ shift → 0 < parts
+pub word_cut_stands : (s places shift half rest amount parts : ℕ) → s < 2 ^ 62 → (places ≤ 63 → shift ≡ places)
+    → (63 < places → shift ≡ 63) → 0 < shift → half ≡ 2 ^ (shift - 1) → rest ≡ s % 2 ^ shift → 0 < parts
     → amount * 2 ^ places ≡ s * parts → StandsFor (s / 2 ^ shift) (loss_at rest half) amount parts
 word_cut_stands s places shift half rest amount parts l n f z h r u e =
     let l' : 2 * s < 2 ^ 63 = omega (arith, l) in
-    let b = rest_below s shift half rest z h r in
     let g = cut_at s shift half rest ExactlyZero (loss_at rest half) z h r
-    (λ q x v w t. rest_stands q half rest x v w b t) (s * parts) parts u refl in
+    (λ q x v w t. rest_stands q half rest x v w (rest_below s shift half rest z h r) t) (s * parts) parts u refl in
     cut_whole_stands s (s / 2 ^ shift) places amount parts (loss_at rest half) e
     (word_stands s 63 places shift (s * parts) parts (loss_at rest half) l' n f
     (less_than_half s 63 (s * parts) parts l' u refl) g)

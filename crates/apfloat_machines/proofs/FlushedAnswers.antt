@@ -94,8 +94,7 @@ sum_unflushed : (f : Format) (x y : Datum) → IsUnflushed f (sum f x y)
 sum_unflushed f (nan b s) y = nan_kept f b s _
 sum_unflushed f (finite b m) (nan c t) = nan_kept f c t _
 sum_unflushed f (infinite b) (nan c t) = nan_kept f c t _
-sum_unflushed f (infinite b) (infinite c) =
-    if_case (IsUnflushed f) (same_sign b c) (λ e. refl) (λ e. refl)
+sum_unflushed f (infinite b) (infinite c) = if_case (IsUnflushed f) (same_sign b c) (λ e. refl) (λ e. refl)
 sum_unflushed f (infinite b) (finite c n) = refl
 sum_unflushed f (finite b m) (infinite c) = refl
 sum_unflushed f (finite b m) (finite c n) = lit< tt
@@ -113,10 +112,8 @@ product_unflushed : (f : Format) (x y : Datum) → IsUnflushed f (product f x y)
 product_unflushed f (nan b s) y = nan_kept f b s _
 product_unflushed f (finite b m) (nan c t) = nan_kept f c t _
 product_unflushed f (infinite b) (nan c t) = nan_kept f c t _
-product_unflushed f (finite b m) (infinite c) =
-    if_case (IsUnflushed f) (eqb m 0) (λ e. refl) (λ e. refl)
-product_unflushed f (infinite b) (finite c n) =
-    if_case (IsUnflushed f) (eqb n 0) (λ e. refl) (λ e. refl)
+product_unflushed f (finite b m) (infinite c) = if_case (IsUnflushed f) (eqb m 0) (λ e. refl) (λ e. refl)
+product_unflushed f (infinite b) (finite c n) = if_case (IsUnflushed f) (eqb n 0) (λ e. refl) (λ e. refl)
 product_unflushed f (infinite b) (infinite c) = refl
 product_unflushed f (finite b m) (finite c n) = pow_pos f.scale
 
@@ -130,8 +127,7 @@ quotient_unflushed f (finite b m) (infinite c) = zero_kept f (zero_sign f.nonfin
 quotient_unflushed f (finite b m) (finite c n) =
     if_case (IsUnflushed f) (eqb n 0)
     (λ e. if_case (IsUnflushed f) (eqb m 0) (λ d. refl)
-    (λ d. divided_kept f f.nonfinite (nan_base f) (product_sign b c)))
-    (above_zero n)
+    (λ d. divided_kept f f.nonfinite (nan_base f) (product_sign b c))) (above_zero n)
 
 on_product_unflushed : (f : Format) (z : Datum) (outcome : Outcome) → IsUnflushed f outcome
     → IsUnflushed f (on_product f z outcome)
@@ -157,11 +153,8 @@ fused_sum_unflushed f (nan b s) y z = with_product_unflushed f (nan b s) y z
 
 number_converted : (f g : Format) (flush : Flush) (mode : Round) (test b : Bool) (n : ℕ) (loses : Bool)
     (given value : Datum) (flags status : ℕ) → 0 < g.precision → smallest_normalized g ≤ largest g
-    → MatchBool test
-    (IsKept (finite (zero_sign g.nonfinite b) 0) (loses_zero_sign g b) given flags loses)
-    (IsConvertedNumber f g mode b n given flags loses)
-    → IsFlushed g flush given flags value status
-    → MatchBool test
+    → MatchBool test (IsKept (finite (zero_sign g.nonfinite b) 0) (loses_zero_sign g b) given flags loses)
+    (IsConvertedNumber f g mode b n given flags loses) → IsFlushed g flush given flags value status → MatchBool test
     (IsAnswer (finite (zero_sign g.nonfinite b) 0) (if loses_zero_sign g b then inexact_bit else ok_bits) value status)
     (IsRoundedOrFlushed g flush mode b (n * 2 ^ g.scale) (2 ^ f.scale) value status)
 number_converted f g flush mode true b n loses given value flags status p l h k =
@@ -175,9 +168,8 @@ number_converted f g flush mode false b n loses given value flags status p l h k
     h.is_delivered k
 
 conversion_flushed : (f g : Format) (flush : Flush) (mode : Round) (x : Datum) (loses : Bool) (given value : Datum)
-    (flags status : ℕ) → 0 < g.precision → smallest_normalized g ≤ largest g
-    → IsConversion f g mode x given flags loses → IsFlushed g flush given flags value status
-    → IsFlushedConversion f g flush mode x value status
+    (flags status : ℕ) → 0 < g.precision → smallest_normalized g ≤ largest g → IsConversion f g mode x given flags loses
+    → IsFlushed g flush given flags value status → IsFlushedConversion f g flush mode x value status
 conversion_flushed f g flush mode (finite b n) loses given value flags status p l h k =
     number_converted f g flush mode (eqb n 0) b n loses given value flags status p l h k
 conversion_flushed f g flush mode (infinite b) loses given value flags status p l h k =
@@ -185,8 +177,7 @@ conversion_flushed f g flush mode (infinite b) loses given value flags status p 
     rw (h.value_is, h.status_is) (past_kept g g.nonfinite (nan_base g) b (not (has_infinities g.nonfinite))) in
     (loses, unchanged g flush (λ v s. IsConversion f g mode (infinite b) v s loses) given value flags status e k h)
 conversion_flushed f g flush mode (nan b t) loses given value flags status p l h k =
-    let e : is_flushed g given flags ≡ false =
-    rw (h.value_is, h.status_is) (nan_kept g b t (is_signaling f t)) in
+    let e : is_flushed g given flags ≡ false = rw (h.value_is, h.status_is) (nan_kept g b t (is_signaling f t)) in
     (loses, unchanged g flush (λ v s. IsConversion f g mode (nan b t) v s loses) given value flags status e k h)
 
 -- ---- the call
@@ -207,8 +198,7 @@ are_flushed f flush answer result precise k =
       difference = λ mode x y h.
           outcome_flushed f flush mode (difference f x y) a v r s p l (difference_unflushed f x y) h k;
       product = λ mode x y h. outcome_flushed f flush mode (product f x y) a v r s p l (product_unflushed f x y) h k;
-      quotient = λ mode x y h.
-          outcome_flushed f flush mode (quotient f x y) a v r s p l (quotient_unflushed f x y) h k;
+      quotient = λ mode x y h. outcome_flushed f flush mode (quotient f x y) a v r s p l (quotient_unflushed f x y) h k;
       fused_sum = λ mode x y z h.
           outcome_flushed f flush mode (fused_sum f x y z) a v r s p l (fused_sum_unflushed f x y z) h k;
       conversion = λ source mode x loses h. conversion_flushed source f flush mode x loses a v r s p l h k;

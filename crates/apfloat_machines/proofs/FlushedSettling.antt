@@ -20,25 +20,20 @@ use Rattle.apfloat_machines.proofs.FlushedAnswers.{yields_flushed_once, conversi
 
 -- ---- two operands
 
-pub are_flushed_and_settled : (f : Format) (machine : Machine) (flush : Flush) (x y : Datum)
-    (answer result : StatusAnd Datum) → result.value ≡ settled f machine x y answer.value
-    → result.status ≡ answer.status → f.nonfinite ≡ IEEE754
-    → AreFlushedAndSettled f machine flush x y answer result
+pub are_flushed_and_settled : (f : Format) (machine : Machine)
+    (flush : Flush) (x y : Datum) (answer result : StatusAnd Datum) → result.value ≡ settled f machine x y answer.value
+    → result.status ≡ answer.status → f.nonfinite ≡ IEEE754 → AreFlushedAndSettled f machine flush x y answer result
 are_flushed_and_settled f machine flush x y answer result v s e =
     let a = answer.value in
     let r = bits_of answer.status in
     rw (v, s) (record {
-      sum = λ mode h.
-          of_two f machine x y (is_invalid_sum x y) (IsFlushedSum f flush mode x y) a r
+      sum = λ mode h. of_two f machine x y (is_invalid_sum x y) (IsFlushedSum f flush mode x y) a r
           (sum_usual f x y a r (flushed_settled_or_number f flush mode (sum f x y) a r e h)) h;
-      difference = λ mode h.
-          of_two f machine x y (is_invalid_difference x y) (IsFlushedDifference f flush mode x y) a r
+      difference = λ mode h. of_two f machine x y (is_invalid_difference x y) (IsFlushedDifference f flush mode x y) a r
           (difference_usual f x y a r (flushed_settled_or_number f flush mode (difference f x y) a r e h)) h;
-      product = λ mode h.
-          of_two f machine x y (is_invalid_product x y) (IsFlushedProduct f flush mode x y) a r
+      product = λ mode h. of_two f machine x y (is_invalid_product x y) (IsFlushedProduct f flush mode x y) a r
           (product_usual f x y a r (flushed_settled_or_number f flush mode (product f x y) a r e h)) h;
-      quotient = λ mode h.
-          of_two f machine x y (is_invalid_quotient x y) (IsFlushedQuotient f flush mode x y) a r
+      quotient = λ mode h. of_two f machine x y (is_invalid_quotient x y) (IsFlushedQuotient f flush mode x y) a r
           (quotient_usual f x y a r e (flushed_settled_or_number f flush mode (quotient f x y) a r e h)) h;
     })
 

@@ -15,8 +15,7 @@ rounded_number : (f : Format) (flush : Flush) (mode : Round) (negative : Bool) (
 rounded_number f flush mode negative amount parts value status e h =
     is_of value
     (if flushes f mode negative amount parts h.pick then signed_quanta f.nonfinite negative 0
-    else delivered_value f mode negative h.pick)
-    false h.value_is
+    else delivered_value f mode negative h.pick) false h.value_is
     (number_if (flushes f mode negative amount parts h.pick) (signed_quanta f.nonfinite negative 0)
     (delivered_value f mode negative h.pick) (quanta_number f.nonfinite negative 0)
     (value_number f mode negative h.pick e))

@@ -28,10 +28,8 @@ and_false false = refl
 quanta_denormal : (f : Format) (negative : Bool) (n : ℕ)
     → is_denormal f (signed_quanta f.nonfinite negative n) ≡ (ltb 0 n && ltb n (smallest_normalized f))
 quanta_denormal f negative n =
-    ⊎_elim
-    (λ (z : n ≡ 0). rw (eq-eqb n 0 z, le-ltb 0 n (omega (arith, z))) refl)
-    (λ (k : n ≡ 0 → ⊥). rw (ne_eqb n 0 k) refl)
-    (cases_eq n 0)
+    ⊎_elim (λ (z : n ≡ 0). rw (eq-eqb n 0 z, le-ltb 0 n (omega (arith, z))) refl)
+    (λ (k : n ≡ 0 → ⊥). rw (ne_eqb n 0 k) refl) (cases_eq n 0)
 
 past_denormal : (kind : NonfiniteBehavior) (base least : ℕ) (negative : Bool)
     → (is_finite_non_zero (past_largest kind base negative) && ltb (quanta_of (past_largest kind base negative)) least)
@@ -48,15 +46,13 @@ past_flushed : (f : Format) (negative out raises : Bool) → smallest_normalized
     (if raises then overflow_bit + inexact_bit else inexact_bit) ≡ false
 past_flushed f negative true true l = past_denormal f.nonfinite (nan_base f) (smallest_normalized f) negative
 past_flushed f negative true false l = past_denormal f.nonfinite (nan_base f) (smallest_normalized f) negative
-past_flushed f negative false true l =
-    rw (le-ltb (largest f) (smallest_normalized f) l) (and_false (ltb 0 (largest f)))
+past_flushed f negative false true l = rw (le-ltb (largest f) (smallest_normalized f) l) (and_false (ltb 0 (largest f)))
 past_flushed f negative false false l =
     rw (le-ltb (largest f) (smallest_normalized f) l) (and_false (ltb 0 (largest f)))
 
 -- an inexact answer is flushed if it is tiny
 by_tiny : (tiny some denormal : Bool) → some ≡ true → (tiny ≡ false → denormal ≡ false)
-    → (is_raised (if tiny then underflow_bit + inexact_bit else inexact_bit) underflow_bit || denormal)
-    ≡ (some && tiny)
+    → (is_raised (if tiny then underflow_bit + inexact_bit else inexact_bit) underflow_bit || denormal) ≡ (some && tiny)
 by_tiny true some denormal e h = rw e refl
 by_tiny false some denormal e h = h refl ∙ sym (and_false some)
 
@@ -107,8 +103,7 @@ module _ (f : Format) (mode : Round) (negative : Bool) (amount parts pick : ℕ)
       ⊎_elim
       (λ (l : pick < smallest_normalized f).
       absurd (false≢true (sym t ∙ tiny_below f mode negative amount parts pick precise some picked l)))
-      (λ (l : smallest_normalized f ≤ pick).
-      rw (le-ltb pick (smallest_normalized f) l) (and_false (ltb 0 pick)))
+      (λ (l : smallest_normalized f ≤ pick). rw (le-ltb pick (smallest_normalized f) l) (and_false (ltb 0 pick)))
       (cases_lt pick (smallest_normalized f))
 
   -- a magnitude of 0 is exact
@@ -162,11 +157,9 @@ module _ (f : Format) (mode : Round) (negative : Bool) (amount parts pick : ℕ)
       → delivered_value f mode negative pick ≡ signed_quanta f.nonfinite negative pick
   flushes_within t =
       ⊎_elim
-      (λ (past : largest f < pick).
-      absurd (false≢true (sym (and_false (ltb 0 amount))
+      (λ (past : largest f < pick). absurd (false≢true (sym (and_false (ltb 0 amount))
       ∙ ap (λ (test : Bool). ltb 0 amount && test) (sym (past_not_tiny past)) ∙ t)))
-      (λ (within : pick ≤ largest f). rw (le-ltb (largest f) pick within) refl)
-      (cases_lt (largest f) pick)
+      (λ (within : pick ≤ largest f). rw (le-ltb (largest f) pick within) refl) (cases_lt (largest f) pick)
 
 -- ---- the zero of a sign
 
@@ -190,8 +183,7 @@ zero_with_sign NanNegativeZero false = refl
 
 zero_of_either : (kind : NonfiniteBehavior) (negative test : Bool) (n : ℕ)
     → (if not (same_sign false (is_negative (if test then finite (zero_sign kind negative) 0 else finite negative n)))
-    then negated kind (finite false 0) else finite false 0)
-    ≡ signed_quanta kind negative 0
+    then negated kind (finite false 0) else finite false 0) ≡ signed_quanta kind negative 0
 zero_of_either kind negative true n = zero_with_sign kind negative
 zero_of_either kind negative false n = zero_with kind negative
 
@@ -216,14 +208,12 @@ rounded_or_flushed f flush mode negative amount parts given value flags status p
     record {
       pick = d.pick;
       is_pick = d.is_pick;
-      value_is = h.value_is ∙ ap (λ (t : Bool). if t then zero_like f given else given) test ∙
-          if_both (flushes f mode negative amount parts d.pick) (zero_like f given) given
+      value_is = h.value_is ∙ ap (λ (t : Bool). if t then zero_like f given else given) test
+          ∙ if_both (flushes f mode negative amount parts d.pick) (zero_like f given) given
           (signed_quanta f.nonfinite negative 0) (delivered_value f mode negative d.pick)
-          (λ t.
-          ap (λ (x : Datum). zero_like f x)
+          (λ t. ap (λ (x : Datum). zero_like f x)
           (d.value_is ∙ flushes_within f mode negative amount parts d.pick precise room some d.is_pick t)
-          ∙ zero_of_quanta f negative d.pick)
-          d.value_is;
+          ∙ zero_of_quanta f negative d.pick) d.value_is;
       status_is = h.status_is ∙ ap (λ (t : Bool). if t then flush_flags flush else flags) test ∙
           ap (λ (s : ℕ). if flushes f mode negative amount parts d.pick then flush_flags flush else s) d.status_is;
     }

@@ -1,5 +1,6 @@
 pub mod Usual
 pub mod Settling
+pub mod Residues
 pub mod Once
 pub mod TinyPicks
 pub mod Flushes
@@ -7,3 +8,4 @@ pub mod FlushedAnswers
 pub mod FlushedUsual
 pub mod FlushedSettling
 pub mod RaisedFlags
+pub mod Twos

@@ -14,6 +14,7 @@ use Rattle.apfloat_model.proofs.general.Choices.{match_case}
 use Rattle.ieee_operations.specs.WholeNumbers.{IsRoundedToIntegral}
 use Rattle.ieee_operations.proofs.IntegralOnce.{integral_once}
 use Rattle.apfloat_machines.specs.{Conversions.is_lost_nan, Theorems.HaveOneAnswer, declared.machine.Machine.Machine}
+use Rattle.apfloat_machines.specs.{Extended.IsExtendedProduct, Operations.IsMachineProduct, Theorems.IsOnce}
 use Rattle.apfloat_machines.specs.Invalid.{is_invalid_sum, is_invalid_difference, is_invalid_product}
 use Rattle.apfloat_machines.specs.Invalid.{is_invalid_quotient, is_invalid_remainder, is_invalid_root, is_invalid_fused}
 use Rattle.apfloat_machines.specs.Operations.{is_nan_of_three, IsOfTwo, IsOfThree}
@@ -47,6 +48,13 @@ operations_once f machine =
       integral = λ mode x. gives_once _ (of_two_once f machine x x false (IsRoundedToIntegral f mode x)
           (integral_once f mode x));
     }
+
+pub extended_product_once : (f : Format) (machine : Machine) (mode : Round) (x y : Datum)
+    → IsOnce (IsExtendedProduct f machine mode x y)
+extended_product_once f machine mode x y =
+    gives_once _ (match_case Once (is_invalid_product x y) (IsAnswer _ _) (IsMachineProduct f machine mode x y)
+    (answer_once _ _) (of_two_once f machine x y (is_invalid_product x y) (IsProduct f mode x y)
+    (product_once f mode x y)))
 
 pub of_three_once : (f : Format) (machine : Machine) (x y z : Datum) (Says : Datum → ℕ → Type 0)
     → Once Says → Once (IsOfThree f machine x y z Says)

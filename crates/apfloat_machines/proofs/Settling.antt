@@ -27,8 +27,7 @@ use Rattle.apfloat_machines.proofs.Usual.{exact_usual, integral_usual, fused_usu
 -- by whether an operand is a NaN, and whether the operation is invalid
 two_cases : (nans invalid : Bool) (chosen default value : Datum) (flags status : ℕ) (Says : Datum → ℕ → Type 0)
     → MatchBool nans ((is_nan value ≡ true) × (status ≡ flags)) (IsUsualNumber invalid value status)
-    → Says value status
-    → MatchBool nans
+    → Says value status → MatchBool nans
     (IsAnswer (if nans then chosen else default) flags
     (if is_nan value then (if nans then chosen else default) else value) status)
     (MatchBool invalid
@@ -56,24 +55,18 @@ are_settled f machine x y answer result v s e =
     let a = answer.value in
     let r = bits_of answer.status in
     rw (v, s) (record {
-      sum = λ mode h.
-          of_two f machine x y (is_invalid_sum x y) (IsSum f mode x y) a r
+      sum = λ mode h. of_two f machine x y (is_invalid_sum x y) (IsSum f mode x y) a r
           (sum_usual f x y a r (settled_or_number f mode (sum f x y) a r e h)) h;
-      difference = λ mode h.
-          of_two f machine x y (is_invalid_difference x y) (IsDifference f mode x y) a r
+      difference = λ mode h. of_two f machine x y (is_invalid_difference x y) (IsDifference f mode x y) a r
           (difference_usual f x y a r (settled_or_number f mode (difference f x y) a r e h)) h;
-      product = λ mode h.
-          of_two f machine x y (is_invalid_product x y) (IsProduct f mode x y) a r
+      product = λ mode h. of_two f machine x y (is_invalid_product x y) (IsProduct f mode x y) a r
           (product_usual f x y a r (settled_or_number f mode (product f x y) a r e h)) h;
-      quotient = λ mode h.
-          of_two f machine x y (is_invalid_quotient x y) (IsQuotient f mode x y) a r
+      quotient = λ mode h. of_two f machine x y (is_invalid_quotient x y) (IsQuotient f mode x y) a r
           (quotient_usual f x y a r e (settled_or_number f mode (quotient f x y) a r e h)) h;
-      truncated = λ h.
-          of_two f machine x y (is_invalid_remainder x y) (IsTruncatedRemainder f x y) a r
+      truncated = λ h. of_two f machine x y (is_invalid_remainder x y) (IsTruncatedRemainder f x y) a r
           (remainder_usual f truncated_quotient x y a r
           (settled_or_number f NearestTiesToEven (remainder f truncated_quotient x y) a r e h)) h;
-      nearest = λ h.
-          of_two f machine x y (is_invalid_remainder x y) (IsNearestRemainder f x y) a r
+      nearest = λ h. of_two f machine x y (is_invalid_remainder x y) (IsNearestRemainder f x y) a r
           (remainder_usual f nearest_quotient x y a r
           (settled_or_number f NearestTiesToEven (remainder f nearest_quotient x y) a r e h)) h;
     })
@@ -85,8 +78,7 @@ are_settled_of_one f machine x answer result v s e =
     let a = answer.value in
     let r = bits_of answer.status in
     rw (v, s) (record {
-      root = λ mode h.
-          of_two f machine x x (is_invalid_root x) (IsRoot f mode x) a r
+      root = λ mode h. of_two f machine x x (is_invalid_root x) (IsRoot f mode x) a r
           (root_usual f x a r (settled_or_number f mode (root f x) a r e h)) h;
       exact = λ mode h. of_two f machine x x false (IsRoundToIntegral f mode x) a r (exact_usual f mode x a r h) h;
       integral = λ mode h.
@@ -95,11 +87,9 @@ are_settled_of_one f machine x answer result v s e =
 
 -- ---- fused sums
 
-pub fused_cases : (nans keeps invalid : Bool) (chosen default value : Datum) (flags status : ℕ)
-    (Says : Datum → ℕ → Type 0)
-    → MatchBool nans (is_nan value ≡ true) (IsUsualNumber invalid value status)
-    → Says value status
-    → MatchBool nans
+pub fused_cases : (nans keeps invalid : Bool) (chosen default value : Datum)
+    (flags status : ℕ) (Says : Datum → ℕ → Type 0)
+    → MatchBool nans (is_nan value ≡ true) (IsUsualNumber invalid value status) → Says value status → MatchBool nans
     (IsAnswer (if nans && keeps then chosen else default) flags
     (if is_nan value then (if nans && keeps then chosen else default) else value)
     (if is_nan value && nans then flags else status))

@@ -44,8 +44,7 @@ near_pick precision mode negative m amount parts pick x y d l h picked t =
     (omega (arith, l, h)) ∙ takes_nearer mode negative odd x y t in
     let g : IsPick precision mode negative amount parts ((m + 1) * 2 ^ 0) =
     inexact_pick precision mode negative (m + 1) m 0 amount parts true i (omega (arith, l)) up in
-    let e : pick ≡ (m + 1) * 2 ^ 0 =
-    pick_unique precision mode negative amount parts pick ((m + 1) * 2 ^ 0) picked g in
+    let e : pick ≡ (m + 1) * 2 ^ 0 = pick_unique precision mode negative amount parts pick ((m + 1) * 2 ^ 0) picked g in
     omega (arith, e)
 
 not_taken : (test : Bool) → (test ≡ true → ⊥) → not test ≡ true
@@ -75,9 +74,8 @@ tiny_after precision mode negative m amount parts pick d h picked low =
     rw (le-leb (2 * amount) ((2 ^ precision - 1) * parts) q) refl)
     (cases_lt ((2 ^ precision - 1) * parts) (2 * amount))
 
-not_tiny_after : (precision : ℕ) (mode : Round) (negative : Bool) (m amount parts : ℕ)
-    → 2 ^ precision ≡ 2 * (m + 1) → 0 < parts → (m + 1) * parts ≤ amount
-    → rounds_below_normal precision mode negative amount parts ≡ false
+not_tiny_after : (precision : ℕ) (mode : Round) (negative : Bool) (m amount parts : ℕ) → 2 ^ precision ≡ 2 * (m + 1)
+    → 0 < parts → (m + 1) * parts ≤ amount → rounds_below_normal precision mode negative amount parts ≡ false
 not_tiny_after precision mode negative m amount parts d some h =
     let e : 2 ^ precision - 1 ≡ 2 * m + 1 = omega (arith, d) in
     let last : (2 ^ precision - 1) * parts ≡ (2 * m + 1) * parts = ap (λ (n : ℕ). n * parts) e in
@@ -151,8 +149,7 @@ tiny_below f mode negative amount parts pick precise some picked low =
     (rounds_below_normal f.precision mode negative amount parts) (ltb pick (smallest_normalized f)) true
     (lt-ltb amount (smallest_normalized f * parts) less)
     (tiny_after f.precision mode negative (2 ^ (f.precision - 1) - 1) amount parts pick d.0 (omega (arith, less, k))
-    picked (omega (arith, low, e)))
-    (lt-ltb pick (smallest_normalized f) low)
+    picked (omega (arith, low, e))) (lt-ltb pick (smallest_normalized f) low)
 
 pub not_tiny_from : (f : Format) (mode : Round) (negative : Bool) (amount parts pick : ℕ) → 0 < f.precision
     → 0 < parts → IsPick f.precision mode negative amount parts pick → smallest_normalized f * parts ≤ amount

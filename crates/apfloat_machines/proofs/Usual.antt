@@ -32,8 +32,7 @@ IsUsualNumber invalid value status =
 -- the result of any two operands: a NaN if one of them is, with INVALID_OP if one is signaling
 abbrev pub IsUsual : Format → Datum → Datum → Bool → Datum → ℕ → Type 0
 IsUsual f x y invalid value status =
-    MatchBool (is_nan x || is_nan y)
-    ((is_nan value ≡ true) × (status ≡ invalid_if (is_signaling_of_two f x y)))
+    MatchBool (is_nan x || is_nan y) ((is_nan value ≡ true) × (status ≡ invalid_if (is_signaling_of_two f x y)))
     (IsUsualNumber invalid value status)
 
 -- the result of a fused sum of any three: a NaN if one of them is; its flags are not told here
@@ -66,8 +65,7 @@ value_number f mode negative pick e =
     (if leads_out mode negative then past_largest f.nonfinite (nan_base f) negative else finite negative (largest f))
     (signed_quanta f.nonfinite negative pick)
     (number_if (leads_out mode negative) (past_largest f.nonfinite (nan_base f) negative) (finite negative (largest f))
-    (past_number f.nonfinite (nan_base f) negative e) refl)
-    (quanta_number f.nonfinite negative pick)
+    (past_number f.nonfinite (nan_base f) negative e) refl) (quanta_number f.nonfinite negative pick)
 
 pub is_of : (value given : Datum) (test : Bool) → value ≡ given → is_nan given ≡ test → is_nan value ≡ test
 is_of value given test e p = ap (λ (v : Datum). is_nan v) e ∙ p
@@ -118,8 +116,7 @@ settled_or_number f mode (totalled left right exact parts) value status e h =
 settled_or_number f mode (rooted square parts) value status e h = root_number f mode square parts value status e h
 
 invalid_or : (f : Format) (test : Bool) (given : Datum) (flags : ℕ) (value : Datum) (status : ℕ) → is_nan given ≡ false
-    → IsSettledOrNumber (if test then invalid f else settled given flags) value status
-    → IsUsualNumber test value status
+    → IsSettledOrNumber (if test then invalid f else settled given flags) value status → IsUsualNumber test value status
 invalid_or f true given flags value status e h = of_nan _ _ _ value status h
 invalid_or f false given flags value status e h = of_number given flags value status e h
 
@@ -179,8 +176,7 @@ difference_usual f (infinite b) (infinite c) value status h =
     or_invalid f (same_sign b (not c)) (infinite b) ok_bits value status refl h
 difference_usual f (infinite b) (finite c n) value status h =
     plus_number f (infinite b) (negated f.nonfinite (finite c n)) value status refl (negated_finite f.nonfinite c n) h
-difference_usual f (finite b m) (infinite c) value status h =
-    of_number (infinite (not c)) ok_bits value status refl h
+difference_usual f (finite b m) (infinite c) value status h = of_number (infinite (not c)) ok_bits value status refl h
 difference_usual f (finite b m) (finite c n) value status h =
     plus_number f (finite b m) (negated f.nonfinite (finite c n)) value status refl (negated_finite f.nonfinite c n) h
 
@@ -203,12 +199,10 @@ product_usual f (finite b m) (finite c n) value status h = h
 quotient_of_numbers : (f : Format) (p q negative : Bool) (amount parts : ℕ) (value : Datum) (status : ℕ)
     → f.nonfinite ≡ IEEE754
     → IsSettledOrNumber (if p then (if q then invalid f else settled (infinity_of f negative) div_by_zero_bit)
-    else rounded negative amount parts) value status
-    → IsUsualNumber (p && q) value status
+    else rounded negative amount parts) value status → IsUsualNumber (p && q) value status
 quotient_of_numbers f true true negative amount parts value status e h = of_nan _ _ _ value status h
 quotient_of_numbers f true false negative amount parts value status e h =
-    of_number (infinity_of f negative) div_by_zero_bit value status
-    (past_number f.nonfinite (nan_base f) negative e) h
+    of_number (infinity_of f negative) div_by_zero_bit value status (past_number f.nonfinite (nan_base f) negative e) h
 quotient_of_numbers f false q negative amount parts value status e h = h
 
 pub quotient_usual : (f : Format) (x y value : Datum) (status : ℕ) → f.nonfinite ≡ IEEE754
@@ -226,15 +220,13 @@ quotient_usual f (finite b m) (finite c n) value status e h =
     quotient_of_numbers f (eqb n 0) (eqb m 0) (product_sign b c) (m * 2 ^ f.scale) n value status e h
 
 pub remainder_usual : (f : Format) (quotient : ℕ → ℕ → ℕ) (x y value : Datum) (status : ℕ)
-    → IsSettledOrNumber (remainder f quotient x y) value status
-    → IsUsual f x y (is_invalid_remainder x y) value status
+    → IsSettledOrNumber (remainder f quotient x y) value status → IsUsual f x y (is_invalid_remainder x y) value status
 remainder_usual f quotient (nan b s) y value status h = of_nan _ _ _ value status h
 remainder_usual f quotient (finite b m) (nan c t) value status h = of_nan _ _ _ value status h
 remainder_usual f quotient (infinite b) (nan c t) value status h = of_nan _ _ _ value status h
 remainder_usual f quotient (infinite b) (infinite c) value status h = of_nan _ _ _ value status h
 remainder_usual f quotient (infinite b) (finite c n) value status h = of_nan _ _ _ value status h
-remainder_usual f quotient (finite b m) (infinite c) value status h =
-    of_number (finite b m) ok_bits value status refl h
+remainder_usual f quotient (finite b m) (infinite c) value status h = of_number (finite b m) ok_bits value status refl h
 remainder_usual f quotient (finite b m) (finite c n) value status h =
     invalid_or f (eqb n 0) (rest_of f.nonfinite b m (n * quotient m n)) ok_bits value status
     (rest_number f.nonfinite b m (n * quotient m n)) h
@@ -242,8 +234,7 @@ remainder_usual f quotient (finite b m) (finite c n) value status h =
 -- a number, by whether it is a zero, and its sign
 root_of_number : (f : Format) (test b : Bool) (square parts : ℕ) (value : Datum) (status : ℕ)
     → IsSettledOrNumber (if test then exactly (finite b 0) else (if b then invalid f else rooted square parts)) value
-    status
-    → IsUsualNumber (not test && b) value status
+    status → IsUsualNumber (not test && b) value status
 root_of_number f true b square parts value status h = of_number (finite b 0) ok_bits value status refl h
 root_of_number f false true square parts value status h = of_nan _ _ _ value status h
 root_of_number f false false square parts value status h = h
@@ -285,8 +276,7 @@ integral_usual f mode (finite b n) value status h =
 
 -- a product that is a NaN, whatever is added
 nan_product : (f : Format) (test b : Bool) (s flags : ℕ) (z value : Datum) (status : ℕ)
-    → IsSettledOrNumber (if test then sum f (nan b s) z else settled (nan b s) flags) value status
-    → is_nan value ≡ true
+    → IsSettledOrNumber (if test then sum f (nan b s) z else settled (nan b s) flags) value status → is_nan value ≡ true
 nan_product f true b s flags z value status h = (of_nan _ _ _ value status h).0
 nan_product f false b s flags z value status h = (of_nan _ _ _ value status h).0
 
@@ -296,13 +286,11 @@ nan_is f b s flags z value status h = nan_product f (eqb flags ok_bits) b s flag
 
 -- an infinite product
 infinite_plus : (f : Format) (b : Bool) (z value : Datum) (status : ℕ)
-    → IsSettledOrNumber (sum f (infinite b) z) value status
-    → MatchBool (is_nan z) (is_nan value ≡ true)
+    → IsSettledOrNumber (sum f (infinite b) z) value status → MatchBool (is_nan z) (is_nan value ≡ true)
     (IsUsualNumber (is_infinite z && not (same_sign b (is_negative z))) value status)
 infinite_plus f b (nan d t) value status h = (of_nan _ _ _ value status h).0
 infinite_plus f b (finite d n) value status h = of_number (infinite b) ok_bits value status refl h
-infinite_plus f b (infinite d) value status h =
-    or_invalid f (same_sign b d) (infinite b) ok_bits value status refl h
+infinite_plus f b (infinite d) value status h = or_invalid f (same_sign b d) (infinite b) ok_bits value status refl h
 
 both : (z value : Datum) (status : ℕ) (test : Bool) → (is_nan value ≡ true) × (status ≡ invalid_bit)
     → MatchBool (is_nan z) (is_nan value ≡ true) (IsUsualNumber (true || test) value status)
@@ -322,13 +310,10 @@ special_plus f false b z value status h = infinite_plus f b z value status h
 pub fused_usual : (f : Format) (x y z value : Datum) (status : ℕ)
     → IsSettledOrNumber (fused_sum f x y z) value status → IsUsualFused x y z value status
 fused_usual f (finite b l) (finite c m) (finite d n) value status h = h
-fused_usual f (finite b l) (finite c m) (infinite d) value status h =
-    of_number (infinite d) ok_bits value status refl h
+fused_usual f (finite b l) (finite c m) (infinite d) value status h = of_number (infinite d) ok_bits value status refl h
 fused_usual f (finite b l) (finite c m) (nan d t) value status h = (of_nan _ _ _ value status h).0
-fused_usual f (finite b l) (infinite c) z value status h =
-    special_plus f (eqb l 0) (product_sign b c) z value status h
-fused_usual f (infinite b) (finite c m) z value status h =
-    special_plus f (eqb m 0) (product_sign b c) z value status h
+fused_usual f (finite b l) (infinite c) z value status h = special_plus f (eqb l 0) (product_sign b c) z value status h
+fused_usual f (infinite b) (finite c m) z value status h = special_plus f (eqb m 0) (product_sign b c) z value status h
 fused_usual f (infinite b) (infinite c) z value status h = infinite_plus f (product_sign b c) z value status h
 fused_usual f (finite b l) (nan c t) z value status h = nan_is f c _ _ z value status h
 fused_usual f (infinite b) (nan c t) z value status h = nan_is f c _ _ z value status h

@@ -4,9 +4,11 @@ pub mod Invalid
 pub mod Operations
 pub mod Conversions
 pub mod WholeNumbers
+pub mod Modulo
 pub mod Minima
 pub mod Flushing
 pub mod Theorems
 pub mod FlushedOperations
 pub mod FlushedMachines
+pub mod Extended
 pub mod RaisedFlags

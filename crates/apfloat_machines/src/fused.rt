@@ -149,7 +149,7 @@ fn is_invalid_of_nans<S: Flagged>(
 }
 
 /// Whether the product is that of a zero and an infinity.
-fn is_invalid_product<S: Flagged>(x: IeeeFloat<S>, y: IeeeFloat<S>) -> bool
+pub(crate) fn is_invalid_product<S: Flagged>(x: IeeeFloat<S>, y: IeeeFloat<S>) -> bool
     ensures { result ≡ is_invalid_product x y }
 {
     (x.is_zero() && y.is_infinite()) || (x.is_infinite() && y.is_zero())

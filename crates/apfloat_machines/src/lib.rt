@@ -7,21 +7,25 @@
 #![tactic(auto)]
 
 mod conversions;
+mod extended;
 mod flushing;
 mod fused;
 mod machine;
 mod minima;
+mod modulo;
 mod nans;
 mod theorems;
 mod whole_numbers;
 
 pub use conversions::{is_lost_nan, settled_conversion};
+pub use extended::extended_product;
 pub use flushing::{Flush, flushed, has_denormal, without_denormal};
 pub use fused::settled_fused;
 pub use machine::{
     Contradiction, FusedOrder, Machine, NanChoice, WholeOfNan, machines_are_those_of_the_tables,
 };
 pub use minima::{MinimumRule, greatest, least};
+pub use modulo::to_signed_modulo;
 pub use nans::{default_nan, machine_nan, negated_number, settled, settled_unary};
 pub use theorems::{
     conversions_have_one_answer, flags_go_together, flushed_fused_sums_are_settled,

@@ -197,7 +197,7 @@ fn power_of_two(exponent: usize) -> u128
 }
 
 /// The signed integer that equals an unsigned one.
-fn signed(magnitude: u128) -> i128
+pub(crate) fn signed(magnitude: u128) -> i128
     requires { magnitude < 2 ^ 127 }
     ensures { result ≡ pos magnitude }
 {
@@ -205,7 +205,7 @@ fn signed(magnitude: u128) -> i128
 }
 
 /// The negation of an integer of at most 2 to the power of 127.
-fn minus(magnitude: u128) -> i128
+pub(crate) fn minus(magnitude: u128) -> i128
     requires { magnitude ≤ 2 ^ 127 }
     ensures { result ≡ neg_ℤ (pos magnitude) }
 {

@@ -154,14 +154,12 @@ scale_some constants law =
 
 -- all relations of a format of positive scale determine their results, including the bits if it has any
 pub determined : (format : Format) (layout : Layout) (precision bits : ℕ) (mode : Round) → 0 < format.scale
-    → (precision < bits → IsInterchange format layout)
-    → IsDetermined mode precision bits
+    → (precision < bits → IsInterchange format layout) → IsDetermined mode precision bits
     (λ (x y : Datum) (mode : Round) (answer : StatusAnd Datum). Gives (IsSum format mode x y) answer)
     (λ (x y : Datum) (mode : Round) (answer : StatusAnd Datum). Gives (IsDifference format mode x y) answer)
     (λ (x y : Datum) (mode : Round) (answer : StatusAnd Datum). Gives (IsProduct format mode x y) answer)
     (λ (x y : Datum) (mode : Round) (answer : StatusAnd Datum). Gives (IsQuotient format mode x y) answer)
-    (IsExactInverse format)
-    (λ (x y : Datum) (answer : StatusAnd Datum). Gives (IsTruncatedRemainder format x y) answer)
+    (IsExactInverse format) (λ (x y : Datum) (answer : StatusAnd Datum). Gives (IsTruncatedRemainder format x y) answer)
     (λ (x y : Datum) (answer : StatusAnd Datum). Gives (IsNearestRemainder format x y) answer)
     (λ (x : Datum) (written : ℕ). IsEncodedBy format layout written x)
     (λ (number : ℕ) (mode : Round) (answer : StatusAnd Datum). Gives (IsFromUnsigned format mode number) answer)

@@ -31,8 +31,7 @@ yields_once format mode (rooted square parts) = delivered_root_once format mode 
 pub yields_something : (format : Format) (mode : Round) (outcome : Outcome) → 0 < format.precision
     → IsSound outcome → HasAnswer (Yields format mode outcome)
 yields_something format mode (settled datum flags) p h = answer_exists datum flags
-yields_something format mode (rounded negative amount parts) p h =
-    rounded_exists format p mode negative amount parts h
+yields_something format mode (rounded negative amount parts) p h = rounded_exists format p mode negative amount parts h
 yields_something format mode (totalled left right exact parts) p h =
     rounded_exists format p mode (sign_of (zero_sum_sign mode left right) exact) (magnitude exact) parts h
 yields_something format mode (rooted square parts) p h = delivered_root_exists format p mode square parts h
@@ -64,8 +63,7 @@ fixed_if : (test : Bool) (one other : Outcome) → IsFixed one → IsFixed other
 fixed_if true one other h k = h
 fixed_if false one other h k = k
 
-pub sound_if : (test : Bool) (one other : Outcome) → IsSound one → IsSound other
-    → IsSound (if test then one else other)
+pub sound_if : (test : Bool) (one other : Outcome) → IsSound one → IsSound other → IsSound (if test then one else other)
 sound_if true one other h k = h
 sound_if false one other h k = k
 
@@ -131,16 +129,13 @@ root_sound format (finite b n) = sound_if (eqb n 0) _ _ ok_together (sound_if b 
 
 on_product_sound : (format : Format) (z : Datum) (outcome : Outcome) → IsSound outcome
     → IsSound (on_product format z outcome)
-on_product_sound format z (settled datum flags) h =
-    sound_if (eqb flags ok_bits) _ _ (sum_sound format datum z) h
+on_product_sound format z (settled datum flags) h = sound_if (eqb flags ok_bits) _ _ (sum_sound format datum z) h
 on_product_sound format z (rounded negative amount parts) h = h
 on_product_sound format z (totalled left right exact parts) h = h
 on_product_sound format z (rooted square parts) h = h
 
-with_product_sound : (format : Format) (x y z : Datum)
-    → IsSound (with_product format x y z)
-with_product_sound format x y z =
-    on_product_sound format z (product format x y) (product_sound format x y)
+with_product_sound : (format : Format) (x y z : Datum) → IsSound (with_product format x y z)
+with_product_sound format x y z = on_product_sound format z (product format x y) (product_sound format x y)
 
 pub fused_sum_sound : (format : Format) (x y z : Datum) → IsSound (fused_sum format x y z)
 fused_sum_sound format (finite b l) (finite c m) (finite d n) = pow_pos format.scale

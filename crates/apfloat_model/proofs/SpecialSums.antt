@@ -46,8 +46,7 @@ on_settled : (format : Format) (mode : Round) (outcome : Outcome) (z given value
 on_settled format mode (settled datum t) z given value flags status i h k =
     chosen format mode (eqb t ok_bits) (sum format datum z) (settled datum t) value status
     (subst (λ (d : Datum). MatchBool (eqb t ok_bits) (IsSum format mode d z value status) (IsAnswer d t value status))
-    h.value_is
-    (subst (λ (s : ℕ). MatchBool (eqb s ok_bits) (IsSum format mode given z value status)
+    h.value_is (subst (λ (s : ℕ). MatchBool (eqb s ok_bits) (IsSum format mode given z value status)
     (IsAnswer given s value status)) h.status_is k))
 on_settled format mode (rounded negative amount parts) z given value flags status i h k = absurd i
 on_settled format mode (totalled left right exact parts) z given value flags status i h k = absurd i

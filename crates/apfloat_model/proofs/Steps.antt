@@ -10,8 +10,7 @@ pub leads_once : {A : Type 0} (f : Format) (mode : Round) (steps : Steps A) → 
 leads_once f mode (ends given flags) v w r s x y = (x.0 ∙ sym y.0, x.1 ∙ sym y.1)
 leads_once f mode (after outcome next) v w r s x y =
     let e = yields_once f mode outcome x.0 y.0 x.1 y.1 x.2 y.2 in
-    leads_once f mode (next y.0 y.1) v w r s
-    (subst (λ (t : ℕ). Leads f mode (next y.0 t) v r) e.1
+    leads_once f mode (next y.0 y.1) v w r s (subst (λ (t : ℕ). Leads f mode (next y.0 t) v r) e.1
     (subst (λ (d : Datum). Leads f mode (next d x.1) v r) e.0 x.3)) y.3
 
 pub leads_somewhere : {A : Type 0} (f : Format) (mode : Round) (steps : Steps A) → 0 < f.precision → AreSound steps
@@ -27,5 +26,4 @@ pub leads_together : {A : Type 0} (f : Format) (mode : Round) (steps : Steps A) 
     → Together (Leads f mode steps)
 leads_together f mode (ends given flags) h v s x = subst FlagsGoTogether (sym x.1) h
 leads_together f mode (after outcome next) h v s x =
-    let t = yields_together f mode outcome h.0 x.0 x.1 x.2 in
-    leads_together f mode (next x.0 x.1) (h.1 x.0 x.1 t) v s x.3
+    leads_together f mode (next x.0 x.1) (h.1 x.0 x.1 (yields_together f mode outcome h.0 x.0 x.1 x.2)) v s x.3

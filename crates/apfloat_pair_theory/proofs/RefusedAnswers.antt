@@ -61,6 +61,4 @@ exponents =
 
 -- 1 is not an accurate product of 1 + 2 ^ -54 and 1
 pub dropped_cross_term : IsAccurateProduct one_and_quarter_unit one one → ⊥
-dropped_cross_term law =
-    let a = law one_and_quarter_unit_normalised one_normalised exponents in
-    false≢true (le-leb _ _ a.error)
+dropped_cross_term law = false≢true (le-leb _ _ (law one_and_quarter_unit_normalised one_normalised exponents).error)

@@ -1,16 +1,16 @@
 -- The rest below the digits of a precision, and how it decides the rounding.
 use Rattle.std.proofs.Common.{◌≡◌, ℕ, ◌+◌, ◌-◌, ◌*◌, ◌/◌, ◌%◌, ◌^◌, ◌<◌, ◌≤◌, Bool, true, false, cond, ltb, eqb, sym}
 use Rattle.std.proofs.Common.{refl, ap, ◌∙◌, subst, inl, inr, ⊎_elim, arith, lit<}
-use Rattle.std.proofs.Math.Nat.{mul-pos, mul-le-mul_right, mul-le-mul_left, pow-le-pow_right}
+use Rattle.std.proofs.Math.Nat.{mul-pos, mul-le-mul_right}
 use Rattle.std.proofs.lemmas.Nat.{pow_pos, pow-add, mod_below, mod-pow-add, shr-shr}
 use Rattle.std.proofs.lemmas.Bool.{cases_lt, lt-ltb, le-ltb, eq-eqb, ne_eqb}
 use Rattle.apfloat_model.specs.declared.{kinds.Round.Round, loss.Loss.Loss}
 use Rattle.apfloat_model.specs.declared.loss.Loss.TheVariants.{ExactlyZero, LessThanHalf, ExactlyHalf, MoreThanHalf}
-use Rattle.apfloat_model.specs.formats.{Format.Format, Format.greatest_significand, Format.largest, Datum.Datum}
+use Rattle.apfloat_model.specs.formats.{Format.Format, Format.largest, Datum.Datum}
 use Rattle.apfloat_model.specs.rounding.{Rounding.inexact_bit, Standing.StandsFor}
 use Rattle.apfloat_model.specs.rounding.Enclosure.{IsEnclosed, rounds_up}
 use Rattle.apfloat_model.specs.rounding.Rounding.{IsPick, IsDelivered, is_tiny, signed_quanta, ok_bits, underflow_bit}
-use Rattle.apfloat_model.proofs.{formats.Greatest.greatest_full, general.Powers.two_pos, general.Powers.twice_half}
+use Rattle.apfloat_model.proofs.{formats.Ranges.below_top, general.Powers.twice_half}
 use Rattle.apfloat_model.proofs.rounding.{Picks.pick_is, Tininess.not_below}
 use Rattle.apfloat_model.proofs.rounding.Deliveries.{tiny_before, tiny_after, delivered_exactly, delivered_inexactly}
 use Rattle.apfloat_model.proofs.rounding.Deliveries.{exact_if, inexact_if}
@@ -94,8 +94,7 @@ rest_stands q half rest amount unit u l h =
     ⊎_elim
     (λ (z : rest < 1).
     let e : rest ≡ 0 = omega arith in
-    let v : rest * unit ≡ 0 * unit = ap (λ (x : ℕ). x * unit) e in
-    let g : StandsFor q ExactlyZero amount (2 * half * unit) = omega (arith, h, v) in
+    let g : StandsFor q ExactlyZero amount (2 * half * unit) = omega (arith, h, ap (λ (x : ℕ). x * unit) e) in
     subst (λ (x : Loss). StandsFor q x amount (2 * half * unit)) (sym (loss_zero rest half e)) g)
     (λ (p : 1 ≤ rest).
     ⊎_elim
@@ -122,9 +121,7 @@ rest_stands q half rest amount unit u l h =
 pub rest_below : (s places half rest : ℕ) → 0 < places → half ≡ 2 ^ (places - 1) → rest ≡ s % 2 ^ places
     → rest < 2 * half
 rest_below s places half rest p h r =
-    let t : 2 * 2 ^ (places - 1) ≡ 2 ^ places = twice_half places p in
-    let m : s % 2 ^ places < 2 ^ places = mod_below s (2 ^ places) (pow_pos places) in
-    omega (arith, t, m, h, r)
+    omega (arith, twice_half places p, mod_below s (2 ^ places) (pow_pos places), h, r)
 
 -- a significand with more digits than the precision, and its cut to the precision
 pub record IsSplitRest (precision s digits place rest half up down : ℕ) : Type 0 where
@@ -142,8 +139,7 @@ split_fits precision s digits l h = fits_cut s digits (digits - precision) preci
 
 pub split_full : (precision s digits : ℕ) → 0 < precision → precision < digits → 2 ^ (digits - 1) ≤ s
     → 2 ^ (precision - 1) ≤ s / 2 ^ (digits - precision)
-split_full precision s digits p l h =
-    full_cut s digits (digits - precision) precision p (λ _. h) (omega arith)
+split_full precision s digits p l h = full_cut s digits (digits - precision) precision p (λ _. h) (omega arith)
 
 -- the kept digits represent the amount in quanta, with the loss of the rest
 pub split_stands : (precision s digits place rest half up down amount parts : ℕ)
@@ -154,12 +150,10 @@ split_stands precision s digits place rest half up down amount parts i p h =
     let l = i.long in
     let k : 0 < digits - precision = omega arith in
     let b = rest_below s (digits - precision) half rest k i.half_is i.rest_is in
-    let w = i.place_is in
-    let e : digits - precision + up ≡ place + down = omega (arith, w) in
+    let e : digits - precision + up ≡ place + down = omega (arith, i.place_is) in
     kept_stands (s / 2 ^ (digits - precision)) (loss_at rest half) amount parts (digits - precision) up down place e
     (cut_at s (digits - precision) half rest ExactlyZero (loss_at rest half) k i.half_is i.rest_is
-    (λ q a u v g. rest_stands q half rest a u v b g) (amount * 2 ^ down) (parts * 2 ^ up)
-    (mul-pos p (pow_pos up)) h)
+    (λ q a u v g. rest_stands q half rest a u v b g) (amount * 2 ^ down) (parts * 2 ^ up) (mul-pos p (pow_pos up)) h)
 
 pub split_encloses : (precision s digits place rest half up down amount parts : ℕ)
     → IsSplitRest precision s digits place rest half up down → 0 < parts
@@ -244,18 +238,15 @@ folded u l h w s b z o =
     ⊎_elim
     (λ (g : h < 1).
     let q : h ≡ 0 = omega arith in
-    let r : h * w ≡ 0 * w = ap (λ (n : ℕ). n * w) q in
     loss_zero (2 * u + s) (2 * h) (omega (arith, f, v, q))
-    ∙ sym (loss_zero (u * w + l) (h * w) (omega (arith, e, p, r))))
+    ∙ sym (loss_zero (u * w + l) (h * w) (omega (arith, e, p, ap (λ (n : ℕ). n * w) q))))
     (λ (g : 1 ≤ h).
-    let r : 1 * w ≤ h * w = mul-le-mul_right w g in
     loss_half (2 * u + s) (2 * h) (omega (arith, v, g)) (omega (arith, f, v))
-    ∙ sym (loss_half (u * w + l) (h * w) (omega (arith, p, r, b)) (omega (arith, e, p))))
+    ∙ sym (loss_half (u * w + l) (h * w) (omega (arith, p, mul-le-mul_right w g, b)) (omega (arith, e, p))))
     (cases_lt h 1))
     (cases_lt h u))
     (λ (y : 1 ≤ l).
-    let f = o (omega arith) in
-    loss_more (2 * u + s) (2 * h) (omega (arith, f))
+    loss_more (2 * u + s) (2 * h) (omega (arith, o (omega arith)))
     ∙ sym (loss_more (u * w + l) (h * w) (omega (arith, m))))
     (cases_lt l 1))
     (cases_lt u h)
@@ -297,11 +288,10 @@ folded_rest s word places upper some half l u z o h =
     let d : places - 1 ≡ places - word - 1 + word = omega arith in
     let p : 2 ^ (places - 1) ≡ 2 ^ (places - word - 1) * 2 ^ word =
     ap (λ (x : ℕ). 2 ^ x) d ∙ pow-add 2 (places - word - 1) word in
-    let m : s % 2 ^ word < 2 ^ word = mod_below s (2 ^ word) (pow_pos word) in
     ap (λ (x : ℕ). loss_at (2 * x + some) half) u
     ∙ ap (λ (x : ℕ). loss_at (2 * (s / 2 ^ word % 2 ^ (places - word)) + some) x) (h ∙ sym t)
-    ∙ folded (s / 2 ^ word % 2 ^ (places - word)) (s % 2 ^ word) (2 ^ (places - word - 1)) (2 ^ word) some m z o
-    ∙ ap (λ (x : ℕ). loss_at x (2 ^ (places - word - 1) * 2 ^ word)) (sym a)
+    ∙ folded (s / 2 ^ word % 2 ^ (places - word)) (s % 2 ^ word) (2 ^ (places - word - 1)) (2 ^ word) some
+    (mod_below s (2 ^ word) (pow_pos word)) z o ∙ ap (λ (x : ℕ). loss_at x (2 ^ (places - word - 1) * 2 ^ word)) (sym a)
     ∙ ap (λ (x : ℕ). loss_at (s % 2 ^ places) x) (sym p)
 
 -- cutting off a word, then the remaining places, cuts off all the places
@@ -313,28 +303,12 @@ upper_kept s word places l =
 -- a significand below the next power of two, at a place below the greatest one, is within the largest value
 pub within_format : (format : Format) (next place : ℕ) → 3 ≤ format.precision → next < 2 ^ format.precision
     → place < format.span → next * 2 ^ place ≤ largest format
-within_format format next place s f l =
-    let precision = format.precision in
-    let half = 2 ^ (format.precision - 1) in
-    let greatest = greatest_significand format.nonfinite format.precision in
-    let g = greatest_full format.nonfinite format.precision s in
-    let t : 2 * 2 ^ (format.precision - 1) ≡ 2 ^ format.precision = twice_half format.precision (omega (arith, s)) in
-    let a : next * 2 ^ place ≤ 2 ^ format.precision * 2 ^ place = mul-le-mul_right (2 ^ place) (omega arith) in
-    let b : 2 ^ (place + 1) ≡ 2 ^ place * 2 = pow-add 2 place 1 in
-    let c : 2 ^ (place + 1) ≤ 2 ^ format.span = pow-le-pow_right two_pos (omega arith) in
-    let d : 2 ^ (format.precision - 1) * 2 ^ (place + 1) ≤ 2 ^ (format.precision - 1) * 2 ^ format.span =
-    mul-le-mul_left half c in
-    let e : 2 ^ (format.precision - 1) * 2 ^ format.span ≤ largest format = mul-le-mul_right (2 ^ format.span) g in
-    let r : 2 * half * 2 ^ place ≡ half * (2 ^ place * 2) = omega arith in
-    let k : 2 ^ format.precision * 2 ^ place ≡ 2 ^ (format.precision - 1) * 2 ^ (place + 1) =
-    ap (λ (x : ℕ). x * 2 ^ place) (sym t) ∙ r ∙ ap (λ (x : ℕ). half * x) (sym b) in
-    omega (arith, a, k, d, e)
+within_format format next place = below_top format next place
 
 -- the kept digits of a cut enclose the amount, and represent it with the loss of the rest, in any units
 pub cut_off : (precision s digits place rest half up down amount parts kept some unit : ℕ)
     → IsSplitRest precision s digits place rest half up down → kept ≡ s / 2 ^ (digits - precision)
-    → loss_at some unit ≡ loss_at rest half → 0 < parts
-    → StandsFor s ExactlyZero (amount * 2 ^ down) (parts * 2 ^ up)
+    → loss_at some unit ≡ loss_at rest half → 0 < parts → StandsFor s ExactlyZero (amount * 2 ^ down) (parts * 2 ^ up)
     → IsEnclosed precision (2 ^ (precision - 1)) kept place amount parts
     × StandsFor kept (loss_at some unit) amount (2 ^ place * parts)
 cut_off precision s digits place rest half up down amount parts kept some unit i k l p g = (
@@ -346,15 +320,13 @@ cut_off precision s digits place rest half up down amount parts kept some unit i
 )
 
 -- a point that is moved as the rest demands is delivered, if it is within the format
-pub delivered_within : (format : Format) (mode : Round) (negative : Bool) (m c amount parts p rest half : ℕ)
-    (moved tiny : Bool) (value : Datum) (status : ℕ) → 0 < parts
-    → moved ≡ rounds_up mode negative (loss_at rest half) (eqb (m % 2) 1)
-    → p ≡ cond moved (m + 1) m * 2 ^ c → ltb (largest format) p ≡ false
-    → IsEnclosed format.precision (2 ^ (format.precision - 1)) m c amount parts
+pub delivered_within : (format : Format) (mode : Round) (negative : Bool)
+    (m c amount parts p rest half : ℕ) (moved tiny : Bool) (value : Datum) (status : ℕ)
+    → 0 < parts → moved ≡ rounds_up mode negative (loss_at rest half) (eqb (m % 2) 1) → p ≡ cond moved (m + 1) m * 2 ^ c
+    → ltb (largest format) p ≡ false → IsEnclosed format.precision (2 ^ (format.precision - 1)) m c amount parts
     → StandsFor m (loss_at rest half) amount (2 ^ c * parts)
-    → is_tiny format mode negative amount parts p ≡ tiny
-    → value ≡ signed_quanta format.nonfinite negative p → (rest ≡ 0 → status ≡ ok_bits)
-    → ((rest ≡ 0 → ⊥) → status ≡ cond tiny (underflow_bit + inexact_bit) inexact_bit)
+    → is_tiny format mode negative amount parts p ≡ tiny → value ≡ signed_quanta format.nonfinite negative p
+    → (rest ≡ 0 → status ≡ ok_bits) → ((rest ≡ 0 → ⊥) → status ≡ cond tiny (underflow_bit + inexact_bit) inexact_bit)
     → IsDelivered format mode negative amount parts value status
 delivered_within format mode negative m c amount parts p rest half moved tiny value status u e v a i h t w z o =
     let loss = loss_at rest half in

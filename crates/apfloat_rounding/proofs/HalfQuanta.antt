@@ -75,17 +75,14 @@ eighths h r loss amount unit u l e k =
 
 -- past half of the digit, the eighths also give the loss below that half
 pub eighths_finely : (h r : ℕ) (loss : Loss) (amount parts k up down : ℕ) → r < 4 → loss_at r 2 ≡ loss
-    → 4 < 4 * (h % 2) + r → k + 1 + up ≡ 0 + down
-    → StandsFor h loss (amount * 2 ^ down) (2 ^ k * (parts * 2 ^ up))
+    → 4 < 4 * (h % 2) + r → k + 1 + up ≡ 0 + down → StandsFor h loss (amount * 2 ^ down) (2 ^ k * (parts * 2 ^ up))
     → StandsFor (2 * (h / 2) + 1) (loss_at (4 * (h % 2) + r - 4) (2 * 4 - (4 * (h % 2) + r))) (2 * amount) parts
 eighths_finely h r loss amount parts k up down l e m w g =
     let a : h ≡ 2 * (h / 2) + 1 = omega (arith, l, m) in
     let b : 2 * (4 * (h % 2) + r - 4) ≡ r * 2 = omega (arith, l, m) in
-    let j : loss ≡ loss_at (4 * (h % 2) + r - 4) (2 * 4 - (4 * (h % 2) + r)) =
-    sym e ∙ sym (loss_scaled r 2 2 (lit< tt)) ∙ ap (λ (x : ℕ). loss_at x 4) (sym b)
-    ∙ sym (loss_past_half (4 * (h % 2) + r) 4 m (omega (arith, l))) in
-    subst₂ (λ (x : ℕ) (y : Loss). StandsFor x y (2 * amount) parts) a j
-    (half_stands h loss amount parts k up down w g)
+    let j : loss ≡ loss_at (4 * (h % 2) + r - 4) (2 * 4 - (4 * (h % 2) + r)) = sym e ∙ sym (loss_scaled r 2 2 (lit< tt))
+    ∙ ap (λ (x : ℕ). loss_at x 4) (sym b) ∙ sym (loss_past_half (4 * (h % 2) + r) 4 m (omega (arith, l))) in
+    subst₂ (λ (x : ℕ) (y : Loss). StandsFor x y (2 * amount) parts) a j (half_stands h loss amount parts k up down w g)
 
 -- a loss in quarters of a digit is the same in eighths
 pub loss_in_eighths : (r : ℕ) → loss_at (2 * r) 4 ≡ loss_at r 2
@@ -97,22 +94,17 @@ loss_in_eighths r =
 -- a kept significand that is not the last one below the smallest normalized number determines on which side of that
 -- number the magnitude is rounded
 pub off_last : (precision m c amount parts last : ℕ) (mode : Round) (negative : Bool) → 0 < parts
-    → last ≡ 2 ^ (precision - 1) - 1 → (m ≡ last → ⊥)
-    → IsEnclosed precision (2 ^ (precision - 1)) m c amount parts
+    → last ≡ 2 ^ (precision - 1) - 1 → (m ≡ last → ⊥) → IsEnclosed precision (2 ^ (precision - 1)) m c amount parts
     → rounds_below_normal precision mode negative amount parts ≡ ltb m last
 off_last precision m c amount parts last mode negative p e n i =
     ⊎_elim
-    (λ (l : m < last).
-    below_by_more precision (2 ^ (precision - 1)) m c amount parts mode negative p (omega arith) i
+    (λ (l : m < last). below_by_more precision (2 ^ (precision - 1)) m c amount parts mode negative p (omega arith) i
     ∙ sym (lt-ltb m last l))
-    (λ (l : last ≤ m).
-    not_below precision (2 ^ (precision - 1)) m c amount parts mode negative p (omega (arith, n)) i
-    ∙ sym (le-ltb m last l))
-    (cases_lt m last)
+    (λ (l : last ≤ m). not_below precision (2 ^ (precision - 1)) m c amount parts mode negative p (omega (arith, n)) i
+    ∙ sym (le-ltb m last l)) (cases_lt m last)
 
 -- a significand below that of the smallest normalized number is kept at the quantum
-at_lowest : (precision half m c amount parts : ℕ) (loss : Loss) → m < half
-    → IsEnclosed precision half m c amount parts
+at_lowest : (precision half m c amount parts : ℕ) (loss : Loss) → m < half → IsEnclosed precision half m c amount parts
     → StandsFor m loss amount (2 ^ c * parts) → StandsFor m loss amount parts
 at_lowest precision half m c amount parts loss l i h =
     ⊎_elim
@@ -143,17 +135,13 @@ pub last_by_more : (precision m c amount parts last : ℕ) (loss : Loss) → las
     → StandsFor m loss amount (2 ^ c * parts) → IsJustBelow precision amount parts
 last_by_more precision m c amount parts last loss e d z i h =
     let w : 0 < 2 ^ (precision - 1) = pow_pos (precision - 1) in
-    let g : StandsFor m MoreThanHalf amount parts =
-    subst (λ (x : Loss). StandsFor m x amount parts) z
+    let g : StandsFor m MoreThanHalf amount parts = subst (λ (x : Loss). StandsFor m x amount parts) z
     (at_lowest precision (2 ^ (precision - 1)) m c amount parts loss (omega arith) i h) in
     let b : 2 ^ precision ≡ 2 * 2 ^ (precision - 1) = i.double in
     let a : 2 * m + 1 ≡ 2 ^ precision - 1 = omega arith in
     let n : 2 * (m + 1) ≡ 2 ^ precision = omega arith in
     let k : (2 * m + 1) * parts ≡ (2 ^ precision - 1) * parts = ap (λ (x : ℕ). x * parts) a in
-    let o : 2 * (m + 1) * parts ≡ 2 ^ precision * parts = ap (λ (x : ℕ). x * parts) n in
-    let x = g.0 in
-    let y = g.1 in
-    record { from = omega (arith, k, x); to = omega (arith, o, y) }
+    record { from = omega (arith, k, g.0); to = omega (arith, ap (λ (x : ℕ). x * parts) n, g.1) }
 
 -- less than half a quantum below the smallest normalized number, the loss below the half quantum decides on which side
 -- the magnitude is rounded
@@ -164,8 +152,7 @@ pub just_below_half : (precision m rest half amount parts last : ℕ) (mode : Ro
     ≡ not (rounds_up mode negative (loss_at (rest - half) (2 * half - rest)) true)
 just_below_half precision m rest half amount parts last mode negative some e d j h =
     let w : 0 < 2 ^ (precision - 1) = pow_pos (precision - 1) in
-    let t : 2 * 2 ^ (precision - 1) ≡ 2 ^ precision = twice_half precision some in
-    let n : 2 * m + 1 ≡ 2 ^ precision - 1 = omega (arith, t, e, d) in
+    let n : 2 * m + 1 ≡ 2 ^ precision - 1 = omega (arith, twice_half precision some, e, d) in
     just_below precision mode negative amount parts (loss_at (rest - half) (2 * half - rest)) j.from j.to
     (subst (λ (x : ℕ). StandsFor x (loss_at (rest - half) (2 * half - rest)) (2 * amount) parts) n h)
 
@@ -178,8 +165,7 @@ before_is format mode negative amount parts pick b = rw b refl
 
 pub unbounded_is : (format : Format) (mode : Round) (negative : Bool) (amount parts pick : ℕ)
     → format.tiny_before_rounding ≡ false → format.ieee_flags ≡ true
-    → is_tiny format mode negative amount parts pick
-    ≡ rounds_below_normal format.precision mode negative amount parts
+    → is_tiny format mode negative amount parts pick ≡ rounds_below_normal format.precision mode negative amount parts
 unbounded_is format mode negative amount parts pick b i = rw (b, i) refl
 
 pub picked_is : (format : Format) (mode : Round) (negative : Bool) (amount parts pick : ℕ)

@@ -8,6 +8,7 @@ use Rattle.apfloat_model.specs.{declared.loss.Loss.TheVariants.MoreThanHalf, rou
 use Rattle.apfloat_model.specs.declared.loss.Loss.{Loss, TheVariants.ExactlyZero, TheVariants.LessThanHalf}
 use Rattle.apfloat_model.specs.rounding.{RoundingToOdd.IsRoundedToOdd, Standing.StandsFor, Standing.up, Standing.down}
 use Rattle.apfloat_model.proofs.general.Powers.{two_pos, twice_half, exponent_below, pow3}
+use Rattle.apfloat_model.proofs.arithmetic.Signs.{no_up}
 use Rattle.apfloat_model.proofs.rounding.{KeptDigits.enclosed_from, OddRoundings.whole_to_odd}
 use Rattle.apfloat_model.proofs.rounding.KeptDigits.{kept_stands, fits_cut, fits_shifted, full_cut, full_shifted}
 use Rattle.apfloat_rounding.specs.Cuts.{loss_at}
@@ -40,25 +41,17 @@ top_full width n digits p l h = full_shifted n digits (width - digits) width p (
 beside_less : (q h r amount u w : ℕ) → 0 < r → r + 1 ≤ h → 0 < w → (q * (2 * h) + r) * u < amount + u
     → amount < (q * (2 * h) + r + 1) * u → StandsFor q LessThanHalf (amount * w) (2 * (h * w) * u)
 beside_less q h r amount u w p l k a b =
-    let m : 1 * u ≤ r * u = mul-le-mul_right u p in
-    let n : (r + 1) * u ≤ h * u = mul-le-mul_right u l in
-    let x : q * (2 * h) * u < amount = omega (arith, a, m) in
-    let y : 2 * amount < (2 * q + 1) * (2 * h) * u = omega (arith, b, n) in
-    let x' : q * (2 * h) * u * w < amount * w = mul-lt-mul_of_pos_right x k in
-    let y' : 2 * amount * w < (2 * q + 1) * (2 * h) * u * w = mul-lt-mul_of_pos_right y k in
-    (omega (arith, x'), omega (arith, y'))
+    let x : q * (2 * h) * u < amount = omega (arith, a, mul-le-mul_right u p) in
+    let y : 2 * amount < (2 * q + 1) * (2 * h) * u = omega (arith, b, mul-le-mul_right u l) in
+    (omega (arith, mul-lt-mul_of_pos_right x k), omega (arith, mul-lt-mul_of_pos_right y k))
 
 -- an amount less than one unit from q * (2 * h) + r, for r from h + 1 to 2 * h - 1, is more than half past q
 beside_more : (q h r amount u w : ℕ) → h + 1 ≤ r → r + 1 ≤ 2 * h → 0 < w → (q * (2 * h) + r) * u < amount + u
     → amount < (q * (2 * h) + r + 1) * u → StandsFor q MoreThanHalf (amount * w) (2 * (h * w) * u)
 beside_more q h r amount u w l t k a b =
-    let m : (h + 1) * u ≤ r * u = mul-le-mul_right u l in
-    let n : (r + 1) * u ≤ 2 * h * u = mul-le-mul_right u t in
-    let x : (2 * q + 1) * (2 * h) * u < 2 * amount = omega (arith, a, m) in
-    let y : amount < (q + 1) * (2 * h) * u = omega (arith, b, n) in
-    let x' : (2 * q + 1) * (2 * h) * u * w < 2 * amount * w = mul-lt-mul_of_pos_right x k in
-    let y' : amount * w < (q + 1) * (2 * h) * u * w = mul-lt-mul_of_pos_right y k in
-    (omega (arith, x'), omega (arith, y'))
+    let x : (2 * q + 1) * (2 * h) * u < 2 * amount = omega (arith, a, mul-le-mul_right u l) in
+    let y : amount < (q + 1) * (2 * h) * u = omega (arith, b, mul-le-mul_right u t) in
+    (omega (arith, mul-lt-mul_of_pos_right x k), omega (arith, mul-lt-mul_of_pos_right y k))
 
 -- if t is odd, and t * w is q * (2 * half) + rest with half = 2 * g * w, then q represents any amount less than one
 -- unit from t, with the loss of the rest
@@ -117,18 +110,16 @@ pub record IsTopSplit (width precision s digits top place rest half up down : �
 pub top_cut_fits : (width precision s digits top place rest half up down : ℕ)
     → IsTopSplit width precision s digits top place rest half up down → top / 2 ^ (width - precision) < 2 ^ precision
 top_cut_fits width precision s digits top place rest half up down i =
-    let l = i.short in
     let f : top < 2 ^ width = subst (λ (x : ℕ). x < 2 ^ width) (sym i.top_is) (top_fits width s digits i.word i.fits) in
-    fits_cut top width (width - precision) precision f (omega (arith, l))
+    fits_cut top width (width - precision) precision f (omega (arith, i.short))
 
 pub top_cut_full : (width precision s digits top place rest half up down : ℕ)
     → IsTopSplit width precision s digits top place rest half up down
     → 2 ^ (precision - 1) ≤ top / 2 ^ (width - precision)
 top_cut_full width precision s digits top place rest half up down i =
-    let l = i.short in
     let f : 2 ^ (width - 1) ≤ top =
     subst (λ (x : ℕ). 2 ^ (width - 1) ≤ x) (sym i.top_is) (top_full width s digits i.any i.word i.full) in
-    full_cut top width (width - precision) precision i.some (λ _. f) (omega (arith, l))
+    full_cut top width (width - precision) precision i.some (λ _. f) (omega (arith, i.short))
 
 -- the kept digits represent the amount in units of the significand, with the loss of the rest
 top_stands : (width precision s digits top place rest half up down amount unit : ℕ)
@@ -144,21 +135,15 @@ top_stands width precision s digits top place rest half up down amount unit i u 
     let t : 2 * 2 ^ (width - precision - 1) ≡ 2 ^ (width - precision) = twice_half (width - precision) k in
     let t' : 2 * half ≡ 2 ^ (width - precision) = ap (λ (x : ℕ). 2 * x) i.half_is ∙ t in
     let b : rest < 2 * half = rest_below top (width - precision) half rest k i.half_is i.rest_is in
-    let d : q * (2 * half) + rest ≡ top =
-    ap (λ (x : ℕ). q * x + rest) t' ∙ ap (λ (x : ℕ). q * 2 ^ (width - precision) + x) i.rest_is
-    ∙ div-add-mod' top (2 ^ (width - precision)) in
+    let d : q * (2 * half) + rest ≡ top = ap (λ (x : ℕ). q * x + rest) t'
+    ∙ ap (λ (x : ℕ). q * 2 ^ (width - precision) + x) i.rest_is ∙ div-add-mod' top (2 ^ (width - precision)) in
     let v : s * w ≡ q * (2 * half) + rest = sym i.top_is ∙ sym d in
     subst (λ (x : ℕ). StandsFor q (loss_at rest half) (amount * w) (x * unit)) t'
     (⊎_elim
     (λ (e : amount ≡ s * unit).
-    let y : amount * w ≡ s * unit * w = ap (λ (x : ℕ). x * w) e in
-    let z : s * w * unit ≡ (q * (2 * half) + rest) * unit = ap (λ (x : ℕ). x * unit) v in
-    rest_stands q half rest (amount * w) unit u b (omega (arith, y, z)))
+    rest_stands q half rest (amount * w) unit u b (omega (arith, ap (λ (x : ℕ). x * w) e, ap (λ (x : ℕ). x * unit) v)))
     (λ o.
-    let f = i.fits in
-    let m = o.long in
-    let n : 2 ^ (precision + 1) < 2 ^ digits = omega (arith, f, m) in
-    let p : precision + 1 < digits = exponent_below (precision + 1) digits n in
+    let p : precision + 1 < digits = exponent_below (precision + 1) digits (omega (arith, i.fits, o.long)) in
     let g = 2 ^ (width - 2 - precision - (width - digits)) in
     let x : 1 + (width - 2 - precision - (width - digits)) + (width - digits) ≡ width - precision - 1 =
     omega (arith, l, p) in
@@ -176,17 +161,11 @@ pub top_cut_stands : (width precision s digits top place rest half up down amoun
     → IsRoundedToOdd (2 ^ (precision + 1)) s (amount * 2 ^ down) (parts * 2 ^ up)
     → StandsFor (top / 2 ^ (width - precision)) (loss_at rest half) amount (2 ^ place * parts)
 top_cut_stands width precision s digits top place rest half up down amount parts i p h =
-    let l = i.short in
-    let w = i.word in
-    let d = i.place_is in
-    let e : width - precision + up ≡ place + (down + (width - digits)) = omega (arith, l, w, d) in
     let a : amount * 2 ^ down * 2 ^ (width - digits) ≡ amount * 2 ^ (down + (width - digits)) =
     let x : 2 ^ (down + (width - digits)) ≡ 2 ^ down * 2 ^ (width - digits) = pow-add 2 down (width - digits) in
-    let y : amount * 2 ^ (down + (width - digits)) ≡ amount * (2 ^ down * 2 ^ (width - digits)) =
-    ap (λ (z : ℕ). amount * z) x in
-    omega (arith, y) in
+    omega (arith, ap (λ (z : ℕ). amount * z) x) in
     kept_stands (top / 2 ^ (width - precision)) (loss_at rest half) amount parts (width - precision) up
-    (down + (width - digits)) place e
+    (down + (width - digits)) place (omega (arith, i.short, i.word, i.place_is))
     (subst (λ (x : ℕ). StandsFor (top / 2 ^ (width - precision)) (loss_at rest half) x
     (2 ^ (width - precision) * (parts * 2 ^ up))) a
     (top_stands width precision s digits top place rest half up down (amount * 2 ^ down) (parts * 2 ^ up) i
@@ -204,12 +183,6 @@ top_cut_encloses width precision s digits top place rest half up down amount par
 
 -- ---- below the last place
 
--- the positive part of an integer that is not positive is 0
-pub no_up : (z : ℤ) → z ≤ℤ pos 0 → up z ≡ 0
-no_up (pos zero) h = refl
-no_up (pos (suc n)) h = absurd (omega (arith, ints, h))
-no_up (negsuc n) h = refl
-
 -- the positive part of an integer that is not negative is its magnitude, and its negative part is 0
 pub no_down : (z : ℤ) → pos 0 ≤ℤ z → (up z ≡ unsigned_abs z) × (down z ≡ 0)
 no_down (pos n) h = (refl, refl)
@@ -217,9 +190,7 @@ no_down (negsuc n) h = absurd (omega (arith, ints, h))
 
 -- a number of at most precision + 1 digits is below 2 ^ (precision + 1), where rounding to odd loses nothing
 pub few_digits : (s digits precision : ℕ) → s < 2 ^ digits → digits ≤ precision + 1 → s < 2 ^ (precision + 1)
-few_digits s digits precision f l =
-    let k : 2 ^ digits ≤ 2 ^ (precision + 1) = pow-le-pow_right two_pos l in
-    omega (arith, f, k)
+few_digits s digits precision f l = omega (arith, f, pow-le-pow_right two_pos l)
 
 pub exact_if_short : (s precision amount unit : ℕ) → s < 2 ^ (precision + 1)
     → IsRoundedToOdd (2 ^ (precision + 1)) s amount unit → StandsFor s ExactlyZero amount unit
@@ -233,10 +204,7 @@ pub exact_below : (s digits precision amount : ℕ) (unit : ℤ)
     → IsRoundedToOdd (2 ^ (precision + 1)) s (amount * 2 ^ down unit) (1 * 2 ^ up unit)
     → StandsFor s ExactlyZero (amount * 2 ^ down unit) (1 * 2 ^ up unit)
 exact_below s digits precision amount unit d (inl e) = e
-exact_below s digits precision amount unit (inl z) (inr o) =
-    let m = o.long in
-    let k = pow_pos (precision + 1) in
-    absurd (omega (arith, m, z, k))
+exact_below s digits precision amount unit (inl z) (inr o) = absurd (omega (arith, o.long, z, pow_pos (precision + 1)))
 exact_below s digits precision amount unit (inr d) (inr o) =
     let f = d.0 in
     let g = d.1 in

@@ -27,26 +27,19 @@ pub stands_farther : (k places amount unit : ℕ) (loss : Loss) → k ≤ places
     → StandsFor 0 loss amount (2 ^ k * unit) → StandsFor 0 loss amount (2 ^ places * unit)
 stands_farther k places amount unit ExactlyZero p e h = omega (arith, h)
 stands_farther k places amount unit LessThanHalf p e h =
-    let a : 2 ^ k ≤ 2 ^ places = pow-le-pow_right two_pos p in
-    let b : 2 ^ k * unit ≤ 2 ^ places * unit = mul-le-mul_right unit a in
-    let f = h.0 in
-    let g = h.1 in
-    (omega (arith, f), omega (arith, g, b))
+    (omega (arith, h.0), omega (arith, h.1, mul-le-mul_right unit (pow-le-pow_right two_pos p)))
 stands_farther k places amount unit ExactlyHalf p e h = absurd (omega (arith, h, e))
 stands_farther k places amount unit MoreThanHalf p e h = let f = h.0 in absurd (omega (arith, f, e))
 
 -- if s is below half of 2 ^ k, then s units are below half of 2 ^ k units
-pub less_than_half : (s k amount unit : ℕ) → 2 * s < 2 ^ k → 0 < unit → amount ≡ s * unit
-    → 2 * amount < 2 ^ k * unit
+pub less_than_half : (s k amount unit : ℕ) → 2 * s < 2 ^ k → 0 < unit → amount ≡ s * unit → 2 * amount < 2 ^ k * unit
 less_than_half s k amount unit l u e =
     let a : (2 * s + 1) * unit ≤ 2 ^ k * unit = mul-le-mul_right unit (omega (arith, l)) in
     omega (arith, a, e, u)
 
 -- nothing of a significand below 2 ^ k is left at the place k or above
 pub nothing_left : (s k places : ℕ) → s < 2 ^ k → k ≤ places → s / 2 ^ places ≡ 0
-nothing_left s k places l p =
-    let a : 2 ^ k ≤ 2 ^ places = pow-le-pow_right two_pos p in
-    div-eq_of_lt (omega (arith, l, a))
+nothing_left s k places l p = div-eq_of_lt (omega (arith, l, pow-le-pow_right two_pos p))
 
 -- shifting by k in place of more places leaves the same quotient, if the significand is below half of 2 ^ k
 pub word_quotient : (s k places shift : ℕ) → 2 * s < 2 ^ k → (places ≤ k → shift ≡ places)
@@ -61,8 +54,7 @@ word_quotient s k places shift l n f =
     (cases_lt k places)
 
 pub word_stands : (s k places shift amount unit : ℕ) (loss : Loss) → 2 * s < 2 ^ k → (places ≤ k → shift ≡ places)
-    → (k < places → shift ≡ k) → 2 * amount < 2 ^ k * unit
-    → StandsFor (s / 2 ^ shift) loss amount (2 ^ shift * unit)
+    → (k < places → shift ≡ k) → 2 * amount < 2 ^ k * unit → StandsFor (s / 2 ^ shift) loss amount (2 ^ shift * unit)
     → StandsFor (s / 2 ^ shift) loss amount (2 ^ places * unit)
 word_stands s k places shift amount unit loss l n f e h =
     ⊎_elim
@@ -89,9 +81,7 @@ top_rest s places word l =
     let e : places + (word - places) ≡ word = omega arith in
     let w : 2 ^ word ≡ 2 ^ places * k = ap (λ (x : ℕ). 2 ^ x) (sym e) ∙ pow-add 2 places (word - places) in
     let d : q * 2 ^ places + r ≡ s = div-add-mod' s (2 ^ places) in
-    let d' : (q * 2 ^ places + r) * k ≡ s * k = ap (λ (x : ℕ). x * k) d in
-    let w' : q * 2 ^ word ≡ q * (2 ^ places * k) = ap (λ (x : ℕ). q * x) w in
-    let v : s * k ≡ q * 2 ^ word + r * k = omega (arith, d', w') in
+    let v : s * k ≡ q * 2 ^ word + r * k = omega (arith, ap (λ (x : ℕ). x * k) d, ap (λ (x : ℕ). q * x) w) in
     let b : r < 2 ^ places = mod_below s (2 ^ places) (pow_pos places) in
     let b' : r * k < 2 ^ places * k = mul-lt-mul_of_pos_right b (pow_pos (word - places)) in
     ap (λ (x : ℕ). x % 2 ^ word) v ∙ mod-mul-add q (2 ^ word) (r * k) (omega (arith, b', w))
@@ -116,11 +106,9 @@ half_word s digits l h = let a : 2 ^ digits ≤ 2 ^ 62 = pow-le-pow_right two_po
 pub quantum_fits : (precision s digits places shift half : ℕ) → IsQuantumCut precision s digits places shift half
     → s / 2 ^ shift < 2 ^ (precision - 1)
 quantum_fits precision s digits places shift half i =
-    let b = i.below in
-    let p = i.some in
     let e = word_quotient s 63 places shift (half_word s digits i.short i.fits) i.near i.far in
     subst (λ (x : ℕ). x < 2 ^ (precision - 1)) (sym e)
-    (fits_cut s digits places (precision - 1) i.fits (omega (arith, b, p)))
+    (fits_cut s digits places (precision - 1) i.fits (omega (arith, i.below, i.some)))
 
 -- the loss of the rest at the top of the word is that of the digits below the cut
 top_loss : (s shift half : ℕ) → 0 < shift → shift ≤ 63 → half ≡ 2 ^ 63
@@ -154,49 +142,37 @@ odd_stands s shift half amount unit p l h o a b =
     let v : s * w ≡ q * (2 * (2 * g * w)) + rest = omega (arith, d', t', r) in
     let m : rest < 2 ^ 64 = mod_below (s * w) (2 ^ 64) (pow_pos 64) in
     let k = odd_rest q g s rest amount unit w (pow_pos (64 - shift)) o v (omega (arith, m, c', t)) a b in
-    let t'' : 2 * (2 * g * w) * unit ≡ 2 ^ shift * unit * w =
-    ap (λ (x : ℕ). x * unit) t ∙ omega arith in
+    let t'' : 2 * (2 * g * w) * unit ≡ 2 ^ shift * unit * w = ap (λ (x : ℕ). x * unit) t ∙ omega arith in
     subst (λ (x : ℕ). StandsFor q (loss_at rest x) amount (2 ^ shift * unit)) (sym c)
     (stands_cancel q (loss_at rest (2 * g * w)) amount (2 ^ shift * unit) w (pow_pos (64 - shift))
     (subst (λ (x : ℕ). StandsFor q (loss_at rest (2 * g * w)) (amount * w) x) t'' k))
 
 -- the kept digits of an exact significand represent the amount in its units, with the loss of the rest
-exact_stands : (s shift half amount unit : ℕ) → 0 < shift → shift ≤ 63 → half ≡ 2 ^ 63 → 0 < unit
-    → amount ≡ s * unit
+exact_stands : (s shift half amount unit : ℕ) → 0 < shift → shift ≤ 63 → half ≡ 2 ^ 63 → 0 < unit → amount ≡ s * unit
     → StandsFor (s / 2 ^ shift) (loss_at (s * 2 ^ (64 - shift) % 2 ^ 64) half) amount (2 ^ shift * unit)
 exact_stands s shift half amount unit k l h u e =
     let rest = s % 2 ^ shift in
     let below = 2 ^ (shift - 1) in
-    let loss = loss_at (s % 2 ^ shift) (2 ^ (shift - 1)) in
-    let b : rest < 2 * below = rest_below s shift below rest k refl refl in
     subst (λ (x : Loss). StandsFor (s / 2 ^ shift) x amount (2 ^ shift * unit)) (sym (top_loss s shift half k l h))
-    (cut_at s shift below rest ExactlyZero loss k refl refl
-    (λ q a v z g. rest_stands q below rest a v z b g) amount unit u e)
+    (cut_at s shift below rest ExactlyZero (loss_at (s % 2 ^ shift) (2 ^ (shift - 1))) k refl refl
+    (λ q a v z g. rest_stands q below rest a v z (rest_below s shift below rest k refl refl) g) amount unit u e)
 
 -- the amount of a significand that was rounded to odd is below half of 2 ^ 63 units, and the kept digits represent it,
 -- with the loss of the rest
 rounded_stands : (precision s digits places shift half amount unit : ℕ)
     → IsQuantumCut precision s digits places shift half → 0 < unit
-    → IsRoundedToOdd (2 ^ (precision + 1)) s amount unit
-    → (2 * amount < 2 ^ 63 * unit)
+    → IsRoundedToOdd (2 ^ (precision + 1)) s amount unit → (2 * amount < 2 ^ 63 * unit)
     × StandsFor (s / 2 ^ shift) (loss_at (s * 2 ^ (64 - shift) % 2 ^ 64) half) amount (2 ^ shift * unit)
 rounded_stands precision s digits places shift half amount unit i u (inl e) = (
   less_than_half s 63 amount unit (half_word s digits i.short i.fits) u e,
   exact_stands s shift half amount unit i.cuts i.bound i.half_is u e,
 )
 rounded_stands precision s digits places shift half amount unit i u (inr o) =
-    let f = i.fits in
-    let m = o.long in
-    let w = i.below in
     let n = i.near in
     let r = i.far in
-    let k : 2 ^ (precision + 1) < 2 ^ digits = omega (arith, f, m) in
-    let p : precision + 1 < digits = exponent_below (precision + 1) digits k in
-    let c : 2 ≤ shift =
-    ⊎_elim
-    (λ (a : 63 < places). omega (arith, r a))
-    (λ (a : places ≤ 63). omega (arith, n a, w, p))
-    (cases_lt 63 places) in
+    let p : precision + 1 < digits = exponent_below (precision + 1) digits (omega (arith, i.fits, o.long)) in
+    let c : 2 ≤ shift = ⊎_elim (λ (a : 63 < places). omega (arith, r a))
+    (λ (a : places ≤ 63). omega (arith, n a, i.below, p)) (cases_lt 63 places) in
     let h : 2 * s < 2 ^ 63 = half_word s digits i.short i.fits in
     let h' : (2 * s + 2) * unit ≤ 2 ^ 63 * unit = mul-le-mul_right unit (omega (arith, h)) in
     let b = o.below in (
@@ -215,8 +191,7 @@ quantum_stands precision s digits places shift half up down amount parts i p u d
     (mul-pos p (pow_pos up)) h in
     let w = word_stands s 63 places shift (amount * 2 ^ down) (parts * 2 ^ up) loss
     (half_word s digits i.short i.fits) i.near i.far r.0 r.1 in
-    let e : places + up ≡ 0 + down = omega (arith, u, d) in
-    kept_stands (s / 2 ^ shift) loss amount parts places up down 0 e w
+    kept_stands (s / 2 ^ shift) loss amount parts places up down 0 (omega (arith, u, d)) w
 
 pub quantum_encloses : (precision s digits places shift half up down amount parts : ℕ)
     → IsQuantumCut precision s digits places shift half → 0 < parts → up ≡ 0 → down ≡ places
@@ -232,9 +207,8 @@ quantum_encloses precision s digits places shift half up down amount parts i p u
 -- ---- one digit below the quantum
 
 -- if a rest is past half, the digit below the cut is 1, and the rest below that digit is twice the part past half
-past_half : (s shift half : ℕ) → 2 ≤ shift → shift ≤ 63 → half ≡ 2 ^ 63
-    → half < s * 2 ^ (64 - shift) % 2 ^ 64
-    → (s / 2 ^ (shift - 1) ≡ 2 * (s / 2 ^ shift) + 1)
+past_half : (s shift half : ℕ) → 2 ≤ shift → shift ≤ 63
+    → half ≡ 2 ^ 63 → half < s * 2 ^ (64 - shift) % 2 ^ 64 → (s / 2 ^ (shift - 1) ≡ 2 * (s / 2 ^ shift) + 1)
     × (s * 2 ^ (64 - (shift - 1)) % 2 ^ 64 ≡ 2 * (s * 2 ^ (64 - shift) % 2 ^ 64 - half))
 past_half s shift half p l h m =
     let w = 2 ^ (64 - shift) in
@@ -249,11 +223,8 @@ past_half s shift half p l h m =
     let t : 2 * 2 ^ (shift - 1) ≡ 2 ^ shift = twice_half shift (omega (arith, p)) in
     let g : k < r = lt_of_mul-lt-mul_right w (omega (arith, m, a, d)) in
     let x = r - k in
-    let b : r < 2 ^ shift = mod_below s (2 ^ shift) (pow_pos shift) in
-    let y : x < k = omega (arith, b, t, g) in
-    let v : q * 2 ^ shift + r ≡ s = div-add-mod' s (2 ^ shift) in
-    let t' : q * (2 * k) ≡ q * 2 ^ shift = ap (λ (n : ℕ). q * n) t in
-    let z : s ≡ (2 * q + 1) * k + x = omega (arith, v, t', g) in
+    let y : x < k = omega (arith, mod_below s (2 ^ shift) (pow_pos shift), t, g) in
+    let z : s ≡ (2 * q + 1) * k + x = omega (arith, div-add-mod' s (2 ^ shift), ap (λ (n : ℕ). q * n) t, g) in
     let n : s % 2 ^ (shift - 1) ≡ x = ap (λ (u : ℕ). u % 2 ^ (shift - 1)) z ∙ mod-mul-add (2 * q + 1) k x y in
     let c : s * 2 ^ (64 - (shift - 1)) % 2 ^ 64 ≡ s % 2 ^ (shift - 1) * 2 ^ (64 - (shift - 1)) =
     top_rest s (shift - 1) 64 (omega (arith, l)) in
@@ -275,11 +246,9 @@ two_digits s shift half p l h m =
     (λ (b : shift < 2).
     let e : shift ≡ 1 = omega (arith, p) in
     let m' : half < s * 2 ^ (64 - 1) % 2 ^ 64 = subst (λ (x : ℕ). half < s * 2 ^ (64 - x) % 2 ^ 64) e m in
-    let a : s * 2 ^ (64 - 1) % 2 ^ 64 ≡ s % 2 ^ 1 * 2 ^ (64 - 1) = top_rest s 1 64 (lit≤ tt) in
     let r : s % 2 ^ 1 < 2 ^ 1 = mod_below s (2 ^ 1) (pow_pos 1) in
     let r' : s % 2 ^ 1 ≤ 1 = omega (arith, r) in
-    let k : s % 2 ^ 1 * 2 ^ 63 ≤ 1 * 2 ^ 63 = mul-le-mul_right (2 ^ 63) r' in
-    absurd (omega (arith, m', a, k, h)))
+    absurd (omega (arith, m', top_rest s 1 64 (lit≤ tt), mul-le-mul_right (2 ^ 63) r', h)))
     (λ (b : 2 ≤ shift). b)
     (cases_lt shift 2)
 
@@ -289,12 +258,10 @@ within_reach : (precision s digits places shift half : ℕ) → IsQuantumCut pre
 within_reach precision s digits places shift half i m =
     ⊎_elim
     (λ (a : 63 < places).
-    let e = i.far a in
-    let m' : half < s * 2 ^ (64 - 63) % 2 ^ 64 = subst (λ (x : ℕ). half < s * 2 ^ (64 - x) % 2 ^ 64) e m in
+    let m' : half < s * 2 ^ (64 - 63) % 2 ^ 64 = subst (λ (x : ℕ). half < s * 2 ^ (64 - x) % 2 ^ 64) (i.far a) m in
     let l : 2 * s < 2 ^ 63 = half_word s digits i.short i.fits in
     let d : s * 2 ^ (64 - 63) % 2 ^ 64 ≡ s * 2 = mod-eq_of_lt (omega (arith, l)) in
-    let h = i.half_is in
-    absurd (omega (arith, m', d, l, h)))
+    absurd (omega (arith, m', d, l, i.half_is)))
     (λ (a : places ≤ 63). i.near a)
     (cases_lt 63 places)
 
@@ -302,8 +269,7 @@ within_reach precision s digits places shift half i m =
 -- half
 pub quantum_finely : (precision s digits places shift half up down amount parts : ℕ)
     → IsQuantumCut precision s digits places shift half → 0 < parts → up ≡ 0 → down ≡ places
-    → IsRoundedToOdd (2 ^ (precision + 1)) s (amount * 2 ^ down) (parts * 2 ^ up)
-    → half < s * 2 ^ (64 - shift) % 2 ^ 64
+    → IsRoundedToOdd (2 ^ (precision + 1)) s (amount * 2 ^ down) (parts * 2 ^ up) → half < s * 2 ^ (64 - shift) % 2 ^ 64
     → StandsFor (2 * (s / 2 ^ shift) + 1)
     (loss_at (s * 2 ^ (64 - shift) % 2 ^ 64 - half) (2 * half - s * 2 ^ (64 - shift) % 2 ^ 64)) (2 * amount) parts
 quantum_finely precision s digits places shift half up down amount parts i p u d o m =
@@ -314,7 +280,6 @@ quantum_finely precision s digits places shift half up down amount parts i p u d
     let c = two_digits s shift half i.cuts i.bound i.half_is m in
     let r = within_reach precision s digits places shift half i m in
     let l = i.bound in
-    let f = i.fits in
     let b = i.below in
     let g : StandsFor (s / 2 ^ (shift - 1)) (loss_at (s * 2 ^ (64 - (shift - 1)) % 2 ^ 64) half) (amount * 2 ^ down)
     (2 ^ (shift - 1) * unit) =
@@ -322,19 +287,16 @@ quantum_finely precision s digits places shift half up down amount parts i p u d
     (λ (e : amount * 2 ^ down ≡ s * unit).
     exact_stands s k half (amount * 2 ^ down) unit (omega (arith, c)) (omega (arith, l)) i.half_is v e)
     (λ e.
-    let z = e.long in
-    let y : 2 ^ (precision + 1) < 2 ^ digits = omega (arith, f, z) in
-    let x : precision + 1 < digits = exponent_below (precision + 1) digits y in
+    let x : precision + 1 < digits = exponent_below (precision + 1) digits (omega (arith, i.fits, e.long)) in
     odd_stands s k half (amount * 2 ^ down) unit (omega (arith, b, x, r)) (omega (arith, l)) i.half_is e.odd e.above
     e.below)
     o in
     let e : shift - 1 + 1 + up ≡ 0 + down = omega (arith, c, u, d, r) in
     let t = past_half s shift half c i.bound i.half_is m in
-    let h = i.half_is in
     let n : rest < 2 ^ 64 = mod_below (s * 2 ^ (64 - shift)) (2 ^ 64) (pow_pos 64) in
     let w = half_stands (s / 2 ^ k) (loss_at (s * 2 ^ (64 - k) % 2 ^ 64) half) amount parts k up down e g in
     let j : loss_at (s * 2 ^ (64 - (shift - 1)) % 2 ^ 64) half ≡ loss_at (rest - half) (2 * half - rest) =
-    ap (λ (x : ℕ). loss_at x half) t.1 ∙ sym (loss_past_half rest half m (omega (arith, n, h))) in
+    ap (λ (x : ℕ). loss_at x half) t.1 ∙ sym (loss_past_half rest half m (omega (arith, n, i.half_is))) in
     subst₂ (λ (x : ℕ) (y : Loss). StandsFor x y (2 * amount) parts) t.0 j w
 
 -- ---- a significand that is folded into a word
@@ -379,8 +341,7 @@ pub quarters_stand : (least s amount unit : ℕ) → 0 < unit → IsRoundedToOdd
 quarters_stand least s amount unit u (inl e) =
     let d : s / 4 * (2 * 2) + s % 4 ≡ s = omega arith in
     let d' : (s / 4 * (2 * 2) + s % 4) * unit ≡ s * unit = ap (λ (x : ℕ). x * unit) d in
-    let b : s % 4 < 2 * 2 = omega arith in
-    rest_stands (s / 4) 2 (s % 4) amount unit u b (omega (arith, e, d'))
+    rest_stands (s / 4) 2 (s % 4) amount unit u (omega arith) (omega (arith, e, d'))
 quarters_stand least s amount unit u (inr o) =
     let d : s * 1 ≡ s / 4 * (2 * (2 * 1 * 1)) + s % 4 = omega arith in
     let b : s % 4 < 2 * (2 * 1 * 1) = omega arith in
@@ -425,13 +386,10 @@ whole_down s shift places amount l n f e =
     ⊎_elim
     (λ (b : amount < 1). omega arith)
     (λ (b : 1 ≤ amount).
-    let k : 1 * 2 ^ places ≤ amount * 2 ^ places = mul-le-mul_right (2 ^ places) b in
-    absurd (omega (arith, k, w, l, e)))
+    absurd (omega (arith, mul-le-mul_right (2 ^ places) b, w, l, e)))
     (cases_lt amount 1) in
-    let k : amount * 2 ^ places ≡ 0 * 2 ^ places = ap (λ (x : ℕ). x * 2 ^ places) z in
-    let y : s ≡ 0 = omega (arith, k, e) in
-    let p : 0 < 2 ^ shift = pow_pos shift in
-    div-eq_of_lt (omega (arith, y, p)) ∙ sym z)
+    let y : s ≡ 0 = omega (arith, ap (λ (x : ℕ). x * 2 ^ places) z, e) in
+    div-eq_of_lt (omega (arith, y, pow_pos shift)) ∙ sym z)
     (λ (a : places ≤ 63).
     ap (λ (x : ℕ). s / 2 ^ x) (n a)
     ∙ sym (whole_quotient amount (2 ^ places) 0 s (omega (arith, e)) (pow_pos places)))
@@ -445,8 +403,7 @@ whole_below precision s digits places shift p f l b n g =
     ⊎_elim
     (λ (a : 63 < places).
     let q : s / 2 ^ shift < 2 ^ 1 = fits_cut s 64 shift 1 l (omega (arith, g a)) in
-    let w : 1 ≤ 2 ^ (precision - 1) = pow_pos (precision - 1) in
-    omega (arith, q, w))
+    omega (arith, q, pow_pos (precision - 1)))
     (λ (a : places ≤ 63).
     let q : s / 2 ^ shift < 2 ^ (precision - 1) =
     fits_cut s digits shift (precision - 1) f (omega (arith, n a, b, p)) in

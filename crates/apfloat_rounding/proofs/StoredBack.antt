@@ -63,8 +63,7 @@ full_back precision s n u d h =
     ap (λ (x : ℕ). x * 2 ^ (precision - 1)) e in
     let b : s * (2 ^ (precision - 1) * 2 ^ u) ≡ s * (2 ^ top_of precision u d * 2 ^ d) = ap (λ (x : ℕ). s * x) m in
     let l : n * 2 ^ (precision - 1) * 2 ^ d ≡ s * 2 ^ top_of precision u d * 2 ^ d = omega arith in
-    let k : n * 2 ^ (precision - 1) ≡ s * 2 ^ top_of precision u d =
-    eq_of_mul-eq-mul_right (2 ^ d) (pow_pos d) _ _ l in
+    let k : n * 2 ^ (precision - 1) ≡ s * 2 ^ top_of precision u d = eq_of_mul-eq-mul_right (2 ^ d) (pow_pos d) _ _ l in
     rw k (shl-shr s (top_of precision u d))
 
 -- ---- a stored number
@@ -113,10 +112,9 @@ number_back : (shape : Shape) (negative : Bool) (m : ℕ) (e : ℤ) → IsNormal
     ≡ record { significand = m; exponent = e; category = Normal; negative = negative }
 number_back shape negative m e h =
     let f = normal_full shape m e h in
-    let t = top_is shape m e h in
     let x : exponent_at shape (top_of shape.precision (up (e -ℤ shape.min_exp)) (down (e -ℤ shape.min_exp))) ≡ e =
     omega (arith, ints, h.operand.least, f.some) in
-    rw (t, full_back _ _ _ _ _ f, x) refl
+    rw (top_is shape m e h, full_back _ _ _ _ _ f, x) refl
 
 -- values with equal parts are equal
 same_parts : (m n : ℕ) (d e : ℤ) (category other : Category) (negative : Bool) → m ≡ n → d ≡ e → category ≡ other

@@ -38,12 +38,11 @@ on_grid_at precision m n u d h e (inr z) =
 member_by : (category : Category) (shape : Shape) (x : Unpacked) → IsStoredBy category shape x
     → IsMember (format_at shape) (datum_by category shape x)
 member_by Normal shape x h =
-    let p = quanta_some shape x.significand x.exponent h in
     record {
       on_grid = on_grid_at shape.precision x.significand _ _ _ h.operand.fits h.whole
           (one_side (x.exponent -ℤ shape.min_exp));
       within = h.within;
-      zero_has = λ z. absurd (omega (arith, z, p));
+      zero_has = λ z. absurd (omega (arith, z, quanta_some shape x.significand x.exponent h));
     }
 member_by Zero shape x h = record {
   on_grid = zero_on_grid shape.precision;

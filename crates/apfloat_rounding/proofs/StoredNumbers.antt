@@ -51,16 +51,14 @@ normal_at shape m place shift e fits full short is quanta within =
     let t : 2 * 2 ^ (shape.precision - 1) ≡ 2 ^ shape.precision =
     twice_half shape.precision (omega (arith, shape.parameters.precision_low)) in
     let g = greatest_fits shape.nonfinite shape.precision in
-    let p : place ≤ (format_at shape).span + shift =
-    top_place (2 ^ (shape.precision - 1)) m place shift (greatest_significand shape.nonfinite shape.precision)
-    (format_at shape).span full (omega (arith, g, t)) within in
+    let p : place ≤ (format_at shape).span + shift = top_place (2 ^ (shape.precision - 1)) m place shift
+    (greatest_significand shape.nonfinite shape.precision) (format_at shape).span full (omega (arith, g, t)) within in
     record {
       operand = record {
         fits = fits;
         full = full;
         least = omega (arith, ints);
-        greatest =
-            omega (arith, ints, shape.parameters, p);
+        greatest = omega (arith, ints, shape.parameters, p);
       };
       whole = whole_is shape.min_exp (m * 2 ^ shift) e (m * 2 ^ place) quanta;
       within = rw (quanta_is shape.min_exp (m * 2 ^ shift) e (m * 2 ^ place) quanta) within;
@@ -82,8 +80,7 @@ moved_quanta : (shape : Shape) (m digits place w : ℕ) (e : ℤ) → IsMovedUp 
     → IsQuantaAt shape.min_exp w e (m * 2 ^ place)
 moved_quanta shape m digits place w e h =
     sym (same_quanta m (shape.precision - digits) place (up (e -ℤ shape.min_exp))
-    (down (e -ℤ shape.min_exp)) w (sym h.moved)
-    h.same)
+    (down (e -ℤ shape.min_exp)) w (sym h.moved) h.same)
 
 -- `quanta_at` of a significand that was moved up is m * 2 ^ place
 pub moved_up_quanta : (shape : Shape) (m digits place w : ℕ) (e : ℤ) → IsMovedUp shape m digits place w e
@@ -92,8 +89,7 @@ moved_up_quanta shape m digits place w e h = quanta_is shape.min_exp w e (m * 2 
     (moved_quanta shape m digits place w e h)
 
 -- a significand that was moved up is a stored number
-pub moved_up_normal : (shape : Shape) (m digits place w : ℕ) (e : ℤ)
-    → IsMovedUp shape m digits place w e
+pub moved_up_normal : (shape : Shape) (m digits place w : ℕ) (e : ℤ) → IsMovedUp shape m digits place w e
     → IsNormalAt shape w e
 moved_up_normal shape m digits place w e h =
     let l : digits ≤ shape.precision = digits_le m digits shape.precision h.fits h.full in

@@ -71,10 +71,8 @@ apart_stands base eh el er s t flipped mh ml gap q loss l e d n i =
     let k : mh * 2 ^ up (eh -ℤ base) ≡ mh * (2 ^ gap * 2 ^ up (el -ℤ base)) = ap (λ (x : ℕ). mh * x) r₁ in
     omega arith in
     let b : Balances flipped (i.amount * 2 ^ up (el -ℤ base)) (mh * 2 ^ gap * 2 ^ up (el -ℤ base))
-    (ml * 2 ^ up (el -ℤ base)) =
-    balances_times flipped i.amount (mh * 2 ^ gap) ml (2 ^ up (el -ℤ base)) i.balances in
-    let b' : Balances flipped (i.amount * 2 ^ up (el -ℤ base)) (mh * 2 ^ up (eh -ℤ base))
-    (ml * 2 ^ up (el -ℤ base)) =
+    (ml * 2 ^ up (el -ℤ base)) = balances_times flipped i.amount (mh * 2 ^ gap) ml (2 ^ up (el -ℤ base)) i.balances in
+    let b' : Balances flipped (i.amount * 2 ^ up (el -ℤ base)) (mh * 2 ^ up (eh -ℤ base)) (ml * 2 ^ up (el -ℤ base)) =
     subst (λ (x : ℕ). Balances flipped (i.amount * 2 ^ up (el -ℤ base)) x (ml * 2 ^ up (el -ℤ base))) k b in
     record {
       above = v.0;
@@ -150,8 +148,7 @@ borrowed_difference q high low gap lost loss p n l h f =
     let k : (q + 1) * 2 ^ (gap - 1) ≤ high * 2 * 2 ^ (gap - 1) = mul-le-mul_right (2 ^ (gap - 1)) l' in
     let d : high * 2 * 2 ^ (gap - 1) ≡ high * 2 ^ gap = doubled high gap p in
     let w : q + (high * 2 - q - 1) + 1 ≡ high * 2 = omega arith in
-    let w' : (q + (high * 2 - q - 1) + 1) * 2 ^ (gap - 1) ≡ high * 2 ^ gap = ap (λ (x : ℕ). x * 2 ^ (gap - 1)) w ∙
-    d in
+    let w' : (q + (high * 2 - q - 1) + 1) * 2 ^ (gap - 1) ≡ high * 2 ^ gap = ap (λ (x : ℕ). x * 2 ^ (gap - 1)) w ∙ d in
     let g : low ≤ high * 2 ^ gap = omega arith in
     let r : low + (high * 2 ^ gap - low) ≡ high * 2 ^ gap = omega arith in
     record {

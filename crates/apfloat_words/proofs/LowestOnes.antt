@@ -21,9 +21,8 @@ all_zero n (suc k) f =
 one_within : (n lowest places : ℕ) → n / 2 ^ lowest % 2 ≡ 1 → lowest < places → 0 < n % 2 ^ places
 one_within n lowest places o l =
     let e : places - (1 + lowest) + (1 + lowest) ≡ places = omega arith in
-    let a : n % 2 ^ places
-    ≡ n / 2 ^ (1 + lowest) % 2 ^ (places - (1 + lowest)) * 2 ^ (1 + lowest) + n % 2 ^ (1 + lowest) =
-    ap (λ (x : ℕ). n % 2 ^ x) (sym e) ∙ mod-pow-add n (places - (1 + lowest)) (1 + lowest) in
+    let a : n % 2 ^ places ≡ n / 2 ^ (1 + lowest) % 2 ^ (places - (1 + lowest)) * 2 ^ (1 + lowest)
+    + n % 2 ^ (1 + lowest) = ap (λ (x : ℕ). n % 2 ^ x) (sym e) ∙ mod-pow-add n (places - (1 + lowest)) (1 + lowest) in
     let b : n % 2 ^ (1 + lowest) ≡ n / 2 ^ lowest % 2 ^ 1 * 2 ^ lowest + n % 2 ^ lowest = mod-pow-add n 1 lowest in
     let w : n / 2 ^ lowest % 2 ^ 1 * 2 ^ lowest ≡ 1 * 2 ^ lowest = ap (λ (x : ℕ). x * 2 ^ lowest) o in
     let p : 0 < 2 ^ lowest = pow_pos lowest in
@@ -31,8 +30,7 @@ one_within n lowest places o l =
 
 -- a nonzero number of 128 digits has a nonzero rest exactly if the places are more than the zeros below its lowest 1
 pub rest_past_zeros : (n places : ℕ) → 0 < n → n < 2 ^ 128
-    → (trailing_zeros w128 n < places → 0 < n % 2 ^ places)
-    × (places ≤ trailing_zeros w128 n → n % 2 ^ places ≡ 0)
+    → (trailing_zeros w128 n < places → 0 < n % 2 ^ places) × (places ≤ trailing_zeros w128 n → n % 2 ^ places ≡ 0)
 rest_past_zeros n places p f =
     let h = bit_at-trailing_zeros w128 n p f in (
       λ l. one_within n (trailing_zeros w128 n) places h.1 l,
@@ -41,8 +39,7 @@ rest_past_zeros n places p f =
 
 -- the same test of the rest holds for 0, whose 128 digits are all zeros, if there are at most 128 places
 pub rest_within_zeros : (n places : ℕ) → (n ≡ 0 → places ≤ 128) → n < 2 ^ 128
-    → (trailing_zeros w128 n < places → 0 < n % 2 ^ places)
-    × (places ≤ trailing_zeros w128 n → n % 2 ^ places ≡ 0)
+    → (trailing_zeros w128 n < places → 0 < n % 2 ^ places) × (places ≤ trailing_zeros w128 n → n % 2 ^ places ≡ 0)
 rest_within_zeros zero places g f =
     let z = trailing_of_zero 128 in
     let w = g refl in

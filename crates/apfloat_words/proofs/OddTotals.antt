@@ -54,8 +54,7 @@ pub record IsMovedUp (digits n : ℕ) : Type 0 where
   pub fits : n < 2 ^ digits
   pub free : n % 2 ≡ 0
 
-pub is_moved_up : (m precision digits : ℕ) → 0 < precision → precision + 1 ≤ digits
-    → 2 ^ (precision - 1) ≤ m
+pub is_moved_up : (m precision digits : ℕ) → 0 < precision → precision + 1 ≤ digits → 2 ^ (precision - 1) ≤ m
     → m < 2 ^ precision → IsMovedUp digits (m * 2 ^ (digits - precision))
 is_moved_up m precision digits some room full fits = record {
   full = moved_full m precision digits some room full;
@@ -112,8 +111,7 @@ exact_apart least high low j gap flipped e f =
     (cases_lt high j)
 
 -- a power of two is four times the power two places below, which is even
-quarters : (digits : ℕ) → 3 ≤ digits
-    → (2 ^ digits ≡ 2 ^ (digits - 2) * 4) × (2 ^ (digits - 1) ≡ 2 ^ (digits - 2) * 2)
+quarters : (digits : ℕ) → 3 ≤ digits → (2 ^ digits ≡ 2 ^ (digits - 2) * 4) × (2 ^ (digits - 1) ≡ 2 ^ (digits - 2) * 2)
     × (2 ^ (digits - 2) ≡ 2 ^ (digits - 3) * 2)
 quarters digits l =
     let a : (digits - 2) + 2 ≡ digits = omega arith in
@@ -124,10 +122,9 @@ quarters digits l =
       ap (λ (x : ℕ). 2 ^ x) (sym c) ∙ pow-add 2 (digits - 3) 1,
     )
 
-pub apart_to_odd : (digits high low j gap : ℕ) (flipped : Bool) → 3 ≤ digits → 2 ^ (digits - 1) ≤ high
-    → high % 2 ≡ 0 → low < 2 ^ digits → low % 2 ≡ 0 → IsRoundedToOdd 1 j low (2 ^ gap) → flipped ≡ ltb high j
-    → IsApartToOdd (2 ^ (digits - 2)) (high * 2 ^ gap) low flipped (cond flipped j high - cond flipped high j)
-    (2 ^ gap)
+pub apart_to_odd : (digits high low j gap : ℕ) (flipped : Bool) → 3 ≤ digits → 2 ^ (digits - 1) ≤ high → high % 2 ≡ 0
+    → low < 2 ^ digits → low % 2 ≡ 0 → IsRoundedToOdd 1 j low (2 ^ gap) → flipped ≡ ltb high j
+    → IsApartToOdd (2 ^ (digits - 2)) (high * 2 ^ gap) low flipped (cond flipped j high - cond flipped high j) (2 ^ gap)
 apart_to_odd digits high low j gap flipped some full even fits free h f =
     let few = 2 ^ (digits - 2) in
     let w = quarters digits some in
@@ -178,10 +175,9 @@ are_moved base eh el e digits mh ml room gap l r g d =
 
 -- the total of two terms whose significands were moved up by `room` places
 pub total_to_odd : (base eh el e : ℤ) (s t unlike flipped : Bool) (least digits mh ml room gap q : ℕ)
-    → (base +ℤ pos digits) ≤ℤ el → room ≤ digits → (el +ℤ pos gap) ≡ eh → (e +ℤ pos room) ≡ eh
-    → (unlike ≡ false → s ≡ t) → (unlike ≡ true → s ≡ t → ⊥)
-    → (unlike ≡ false → (flipped ≡ false)
-    × IsRoundedToOdd least q (mh * 2 ^ room * 2 ^ gap + ml * 2 ^ room) (2 ^ gap))
+    → (base +ℤ pos digits) ≤ℤ el → room ≤ digits
+    → (el +ℤ pos gap) ≡ eh → (e +ℤ pos room) ≡ eh → (unlike ≡ false → s ≡ t) → (unlike ≡ true → s ≡ t → ⊥)
+    → (unlike ≡ false → (flipped ≡ false) × IsRoundedToOdd least q (mh * 2 ^ room * 2 ^ gap + ml * 2 ^ room) (2 ^ gap))
     → (unlike ≡ true → IsApartToOdd least (mh * 2 ^ room * 2 ^ gap) (ml * 2 ^ room) flipped q (2 ^ gap))
     → IsSignedToOdd least base (counted base s eh mh +ℤ counted base t el ml) (cond flipped t s) e q
 total_to_odd base eh el e s t false flipped least digits mh ml room gap q l r g d like unlike together apart =

@@ -2,17 +2,20 @@
 use Rattle.std.proofs.Common.{◌≡◌, ℕ, Bool, true, false, not, ◌&&◌, ◌==◌, pos, Option, None, Some, refl, sym, ap, ◌∙◌}
 use Rattle.std.proofs.Common.{subst}
 use Rattle.std.specs.{Bool.MatchBool, Prelude.Result, Prelude.Ok, Prelude.Err, Prelude.eqb, Prelude.◌||◌, Prelude.◌+◌}
-use Rattle.std.specs.Prelude.{◌%◌, ◌^◌, if◌then◌else◌}
+use Rattle.std.specs.Prelude.{◌%◌, ◌^◌, if◌then◌else◌, MatchOption}
 use Rattle.rustc_apfloat.specs.declared.{Round.TheVariants.TowardZero, StatusAnd.StatusAnd}
 use Rattle.rustc_apfloat.specs.{Classes.is_negative, Datum.Datum, Datum.finite, Datum.infinite, Datum.nan}
 use Rattle.rustc_apfloat.specs.{Flags.bits_of, Format.Format, Format.largest, Layout.IsEncodedBy, Lawful.format_with}
-use Rattle.rustc_apfloat.specs.{Lawful.layout_with}
+use Rattle.rustc_apfloat.specs.{Flags.Gives, Formats.x87_constants, Lawful.layout_with}
 use Rattle.apfloat_model.proofs.{Determined.gives_once, Determined.same_answer, Once.answer_once}
 use Rattle.apfloat_model.proofs.rounding.Neighbours.{above_unique}
+use Rattle.apfloat_model.proofs.Outcomes.{yields_once}
+use Rattle.apfloat_model.specs.rounding.{Answer.IsAnswer as IsGiven, Outcome.Outcome, Outcome.Yields}
 use Rattle.apfloat_model.specs.rounding.Rounding.{inexact_bit}
 use Rattle.round_to_odd.specs.Odd.{IsAnswerMadeOdd, IsMadeOdd, has_flag, is_odd_below}
 use Rattle.apfloat_machines.specs.{declared.flushing.Flush.Flush, Flushing.without_denormal}
 use Rattle.formats_at_run_time.specs.{FlaggedKinds.format_of_ieee, Relations.in_format, ValueKinds.value_of}
+use Rattle.formats_at_run_time.specs.declared.BuiltInFormat.TheVariants.{X87}
 use Rattle.formats_at_run_time.proofs.FormatLaws.{built_in_law}
 use Rattle.coded_calls.specs.declared.{data.Answer.Answer, machine_call.MachineCall.MachineCall}
 use Rattle.coded_calls.specs.declared.{machine_call.MachineFormat.MachineFormat, instructions.Control.Control}
@@ -20,10 +23,11 @@ use Rattle.coded_calls.specs.declared.instructions.{Instruction.Instruction, Ope
 use Rattle.coded_calls.specs.declared.instructions.ReadOperands.{ReadOperands}
 use Rattle.coded_calls.specs.{Answers.IsLeftBy, Answers.IsValue, Answers.whole, MachineCalls.machine_call}
 use Rattle.coded_calls.specs.{MachineCalls.machine_fault, OneReply.IsInstructionReplyOnce, OneReply.SameAnswer}
+use Rattle.coded_calls.specs.FewerDigits.{exact_of, widened}
 use Rattle.coded_calls.specs.Instructions.{AreRead, IsCalled, IsDelivered, IsFinished, IsFinishedBy, IsFlushedBy}
-use Rattle.coded_calls.specs.Instructions.{IsInstructionAnswer, IsRoundedUp, IsTaken, constants_for, finishes}
-use Rattle.coded_calls.specs.Instructions.{has_bit, is_denormal_in, mode_by, notes, result_format, toward_zero}
-use Rattle.coded_calls.specs.Instructions.{whole_operand}
+use Rattle.coded_calls.specs.Instructions.{IsInstructionAnswer, IsRoundedUp, IsShortened, IsTaken, IsWithAllDigits}
+use Rattle.coded_calls.specs.Instructions.{constants_for, finishes, has_bit, is_denormal_in, mode_by, narrow_in, notes}
+use Rattle.coded_calls.specs.Instructions.{result_format, toward_zero, whole_operand}
 use Rattle.coded_calls.proofs.{AugmentedOnce.encoding_once, ExportsOnce.OnceAnswer, ExportsOnce.unchanged}
 use Rattle.coded_calls.proofs.{IeeeOnce.in_format_once, MachineOnce.machine_call_once}
 
@@ -116,13 +120,42 @@ either_same true m rounding control first second a b same h k =
 either_same false m rounding control first second a b same h k =
     subst (λ (x : Answer). SameAnswer x b) (sym h) (subst (λ (y : Answer). SameAnswer first y) (sym k) same)
 
-delivered_once : (it : Instruction) (call : MachineCall) (rounding : Rounding)
-    → OnceAnswer (IsDelivered it call rounding)
-delivered_once it call rounding a b h k =
+with_all_digits_once : (it : Instruction) (call : MachineCall) (rounding : Rounding)
+    → OnceAnswer (IsWithAllDigits it call rounding)
+with_all_digits_once it call rounding a b h k =
     let mode = mode_by (constants_for it.format) rounding (whole_operand call) in
     either_same (finishes it.control rounding call) (result_format it.format call) rounding it.control h.given k.given
     a b (machine_call_once it.machine it.format mode call h.given k.given h.is_given k.is_given) h.is_finished
     k.is_finished
+
+shortened_once : (g : Format) (rounding : Rounding) (control : Control) (exact : Outcome)
+    → OnceAnswer (IsShortened g rounding control exact)
+shortened_once g rounding control exact a b h k =
+    let Says = λ (n : StatusAnd Datum) (given : StatusAnd Datum).
+    Gives (IsGiven (widened g (format_with x87_constants) n.value) (bits_of n.status)) given in
+    let plain = gives_once (Yields g rounding.round exact) (yields_once g rounding.round exact) h.plain k.plain
+    h.is_plain k.is_plain in
+    let narrow = finished_once g rounding control k.plain h.narrow k.narrow
+    (subst (λ (p : StatusAnd Datum). IsFinished g rounding control p h.narrow) plain h.is_narrow) k.is_narrow in
+    in_format_once x87_constants (built_in_law X87) TowardZero (Says k.narrow) (gives_once _ (answer_once _ _)) a b
+    (subst (λ (n : StatusAnd Datum). IsValue (in_format x87_constants) (Says n) a) narrow h.is_value) k.is_value
+
+option_once : {A : Type 0} (o : Option A) (Without : Answer → Type 0) (With : A → Answer → Type 0)
+    → OnceAnswer Without → ((x : A) → OnceAnswer (With x))
+    → OnceAnswer (λ answer. MatchOption o (Without answer) (λ x. With x answer))
+option_once None Without With p f = p
+option_once (Some x) Without With p f = f x
+
+delivered_once : (it : Instruction) (call : MachineCall) (rounding : Rounding)
+    → OnceAnswer (IsDelivered it call rounding)
+delivered_once it call rounding =
+    let all = with_all_digits_once it call rounding in
+    option_once (narrow_in it) (IsWithAllDigits it call rounding)
+    (λ g answer. MatchOption (exact_of x87_constants g call) (IsWithAllDigits it call rounding answer)
+    (λ exact. IsShortened g rounding it.control exact answer))
+    all
+    (λ g. option_once (exact_of x87_constants g call) (IsWithAllDigits it call rounding)
+    (λ exact answer. IsShortened g rounding it.control exact answer) all (shortened_once g rounding it.control))
 
 -- ---- what else is told
 

@@ -16,5 +16,6 @@ pub mod P3109Once
 pub mod RandomDigits
 pub mod AugmentedOnce
 pub mod MadeInstructions
+pub mod FewerDigits
 pub mod InstructionsOnce
 pub mod FactsOnce

@@ -6,6 +6,7 @@ use Rattle.rustc_apfloat.specs.{Flags.Gives, Flags.bits_of, Format.Format, Lawfu
 use Rattle.apfloat_model.proofs.{Determined.gives_once, Determined.same_answer, Once.answer_once}
 use Rattle.apfloat_machines.specs.{declared.machine.Machine.Machine, WholeNumbers.IsMachineUnsigned}
 use Rattle.apfloat_machines.proofs.Once.{operations_once, fused_sums_once, conversions_once, whole_numbers_once}
+use Rattle.apfloat_machines.proofs.{Residues.modulo_once, Once.extended_product_once}
 use Rattle.formats_at_run_time.specs.declared.Arithmetic.{Arithmetic, TheVariants.Sum}
 use Rattle.formats_at_run_time.specs.declared.Arithmetic.TheVariants.{Difference, Product, Quotient, NearestRemainder}
 use Rattle.formats_at_run_time.specs.{declared.Arithmetic.TheVariants.TruncatedRemainder, BuiltIns.constants_in}
@@ -17,6 +18,7 @@ use Rattle.coded_calls.specs.declared.machine_call.{MachineFormat.MachineFormat,
 use Rattle.coded_calls.specs.declared.machine_call.MachineOperation.TheVariants.{OfTwo, FusedSum, SquareRoot}
 use Rattle.coded_calls.specs.declared.machine_call.MachineOperation.TheVariants.{IntegralExact, Integral, ToUnsigned}
 use Rattle.coded_calls.specs.declared.machine_call.MachineOperation.TheVariants.{ToSigned, Least, Greatest}
+use Rattle.coded_calls.specs.declared.machine_call.MachineOperation.TheVariants.{ToSignedModulo, ExtendedProduct}
 use Rattle.coded_calls.specs.MachineCalls.{IsInteger, IsMachineAnswer, IsMachineCallAnswer, IsMachineOfTwo, choices}
 use Rattle.coded_calls.specs.{MachineCalls.format_on, OneReply.IsMachineReplyOnce}
 use Rattle.coded_calls.proofs.{ExportsOnce.OnceAnswer, ExportsOnce.unchanged, IeeeOnce.in_format_once}
@@ -71,6 +73,11 @@ machine_answer_once c has machine mode (Least rule x y) =
     in_format_once c has mode _ (gives_once _ (answer_once _ _))
 machine_answer_once c has machine mode (Greatest rule x y) =
     in_format_once c has mode _ (gives_once _ (answer_once _ _))
+machine_answer_once c has machine mode (ToSignedModulo x width) =
+    integer_once (cast_unsigned w128) _ (modulo_once (format_with c) width (value_of c x))
+machine_answer_once c has machine mode (ExtendedProduct x y) =
+    in_format_once c has mode _
+    (extended_product_once (format_with c) (choices machine) mode (value_of c x) (value_of c y))
 
 -- a call on a machine has one result
 pub machine_call_once : (machine : CodedMachine) (m : MachineFormat) (mode : Round) (call : MachineCall)

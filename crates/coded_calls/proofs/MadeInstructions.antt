@@ -7,10 +7,11 @@ use Rattle.coded_calls.specs.declared.machine_call.MachineCall.TheVariants.{Oper
 use Rattle.coded_calls.specs.declared.machine_call.MachineOperation.{MachineOperation, TheVariants.OfTwo}
 use Rattle.coded_calls.specs.declared.machine_call.MachineOperation.TheVariants.{FusedSum, SquareRoot, IntegralExact}
 use Rattle.coded_calls.specs.declared.machine_call.MachineOperation.TheVariants.{Integral, ToUnsigned, ToSigned, Least}
-use Rattle.coded_calls.specs.declared.machine_call.MachineOperation.TheVariants.{Greatest}
+use Rattle.coded_calls.specs.declared.machine_call.MachineOperation.TheVariants.{Greatest, ToSignedModulo}
+use Rattle.coded_calls.specs.declared.machine_call.MachineOperation.TheVariants.{ExtendedProduct}
 use Rattle.coded_calls.specs.{Answers.IsLeftBy, KnownCalls.answered, KnownCalls.unless, KnownCalls.width_fault}
-use Rattle.coded_calls.specs.MachineCalls.{choices, lacking_unless, machine_fault, operation_fault, or_fault}
-use Rattle.coded_calls.specs.MachineCalls.{wide_operand}
+use Rattle.coded_calls.specs.MachineCalls.{choices, has_modulo, lacking_unless, machine_fault, operation_fault}
+use Rattle.coded_calls.specs.MachineCalls.{or_fault, wide_operand}
 
 -- the code of a fault is not 0
 abbrev HasCode : Option ℕ → Type 0
@@ -37,6 +38,10 @@ operation_code machine (ToUnsigned x width) =
 operation_code machine (ToSigned x width) = unless_code _ _ (lit< tt)
 operation_code machine (Least rule x y) = tt
 operation_code machine (Greatest rule x y) = tt
+operation_code machine (ToSignedModulo x width) =
+    or_code (width_fault 2 width) (lacking_unless (has_modulo machine)) (unless_code _ _ (lit< tt))
+    (unless_code _ _ (lit< tt))
+operation_code machine (ExtendedProduct x y) = unless_code _ _ (lit< tt)
 
 fitting_code : (fits : Bool) (fault : Option ℕ) → HasCode fault
     → HasCode (if fits then fault else Some wide_operand)

@@ -220,6 +220,17 @@ second_divides true c y e some =
     not_true (is_zero (value_of c y)) (both_true (is_number c y) (not (is_zero (value_of c y))) e).1
 second_divides false c y e some = absurd (false≢true some)
 
+-- they fit
+pub usual_fit : (c : Constants) (arithmetic : Arithmetic) (x y : ℕ) → are_usual c arithmetic x y ≡ true
+    → (fits c.bits x && fits c.bits y) ≡ true
+usual_fit c arithmetic x y e =
+    let both = both_true (is_number c x) (if divides arithmetic then is_divisor c y else is_number c y) e in
+    two_true (fits c.bits x) (fits c.bits y) (fits_and_finite c x both.0).0
+    (fits_and_finite c y (second_number (divides arithmetic) c y both.1)).0
+
+pub root_fits : (c : Constants) (x : ℕ) → is_root_of c x ≡ true → fits c.bits x ≡ true
+root_fits c x e = (fits_and_finite c x (both_true (is_number c x) (not (is_negative (value_of c x))) e).0).0
+
 pub usual_of_two : (c : Constants) (machine : CodedMachine) (arithmetic : Arithmetic) (mode : Round) (x y : ℕ)
     (old answer : Answer) → are_usual c arithmetic x y ≡ true
     → IsKindAnswer (of_format c) mode (PlainOfTwo arithmetic x y) answer

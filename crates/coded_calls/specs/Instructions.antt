@@ -1,32 +1,39 @@
 -- One call for an interpreter of instructions: an operation of a machine, with what a control word asks for.
 use Rattle.std.specs.Bool.{MatchBool}
 use Rattle.std.specs.Prelude.{◌≡◌, ℕ, ◌+◌, ◌/◌, ◌%◌, ◌^◌, ◌==◌, ltb, pos, Bool, true, false, not, ◌&&◌, ◌||◌, is_none}
-use Rattle.std.specs.Prelude.{is_some, if◌then◌else◌, Option, Some, None, ok_or, option_map, Result, Ok, Err}
+use Rattle.std.specs.Prelude.{is_some, if◌then◌else◌, Option, Some, None, MatchOption, ok_or, option_map, Result, Ok}
+use Rattle.std.specs.Prelude.{Err}
 use Rattle.rustc_apfloat.specs.declared.{Round.Round, StatusAnd.StatusAnd, Round.TheVariants.TowardZero}
 use Rattle.rustc_apfloat.specs.declared.Round.TheVariants.{TowardPositive, TowardNegative}
 use Rattle.rustc_apfloat.specs.{Classes.is_denormal, Classes.is_negative, Datum.Datum, Flags.Gives, Flags.bits_of}
-use Rattle.rustc_apfloat.specs.{Format.Format, Layout.IsEncodedBy, Lawful.Constants, Lawful.format_with}
-use Rattle.rustc_apfloat.specs.{Lawful.layout_with}
+use Rattle.rustc_apfloat.specs.{Format.Format, Formats.x87_constants, Layout.IsEncodedBy, Lawful.Constants}
+use Rattle.rustc_apfloat.specs.{Lawful.format_with, Lawful.layout_with}
 use Rattle.apfloat_model.specs.arithmetic.Exact.{magnitude}
+use Rattle.apfloat_model.specs.rounding.{Answer.IsAnswer as IsGiven, Outcome.Outcome, Outcome.Yields}
 use Rattle.apfloat_model.specs.rounding.Rounding.{inexact_bit}
 use Rattle.apfloat_model.specs.whole_numbers.WholeNumbersOut.{Whole, to_signed}
 use Rattle.round_to_odd.specs.Odd.{IsAnswerMadeOdd}
 use Rattle.apfloat_machines.specs.{declared.flushing.Flush.Flush, Flushing.IsFlushed, Flushing.without_denormal}
 use Rattle.apfloat_machines.specs.{declared.minima.MinimumRule.TheVariants.Second, Operations.is_nan_of_three}
 use Rattle.formats_at_run_time.specs.{declared.FlaggedKind.FlaggedKind, Modes.mode_coded, BuiltIns.constants_in}
+use Rattle.formats_at_run_time.specs.declared.IeeeFormat.{IeeeFormat, TheVariants.X87 as FormatX87}
 use Rattle.formats_at_run_time.specs.{FlaggedKinds.format_of_ieee, Relations.in_format, ValueKinds.Kind}
 use Rattle.formats_at_run_time.specs.ValueKinds.{of_format, of_pairs, value_of}
 use Rattle.coded_calls.specs.declared.{data.Answer.Answer, machine_call.CodedMachine.CodedMachine}
+use Rattle.coded_calls.specs.declared.machine_call.CodedMachine.TheVariants.{X87 as MachineX87}
+use Rattle.coded_calls.specs.declared.fewer_digits.Precision.{Precision, TheVariants.Single, TheVariants.Double}
 use Rattle.coded_calls.specs.declared.machine_call.{MachineCall.MachineCall, MachineFormat.MachineFormat}
 use Rattle.coded_calls.specs.declared.machine_call.MachineCall.TheVariants.{Operation, Conversion}
 use Rattle.coded_calls.specs.declared.machine_call.MachineOperation.TheVariants.{IntegralExact, Integral, ToUnsigned}
 use Rattle.coded_calls.specs.declared.machine_call.MachineOperation.TheVariants.{ToSigned, Least, Greatest}
+use Rattle.coded_calls.specs.declared.machine_call.MachineOperation.TheVariants.{ToSignedModulo}
 use Rattle.coded_calls.specs.declared.instructions.{Control.Control, Instruction.Instruction, Operands.Operands}
 use Rattle.coded_calls.specs.declared.instructions.{ReadOperands.ReadOperands, Rounding.Rounding}
 use Rattle.coded_calls.specs.Answers.{IsLeftBy, IsValue, whole}
+use Rattle.coded_calls.specs.FewerDigits.{exact_of, narrow_format, widened}
 use Rattle.coded_calls.specs.KnownCalls.{◌>>=◌, no_such_operation, unknown_format, unknown_mode}
-use Rattle.coded_calls.specs.MachineCalls.{IsMachineCallAnswer, choices, fits, machine_call, machine_fault}
-use Rattle.coded_calls.specs.MachineCalls.{machine_format, unknown_machine}
+use Rattle.coded_calls.specs.MachineCalls.{IsMachineCallAnswer, choices, fits, is_tiny_before, machine_call}
+use Rattle.coded_calls.specs.MachineCalls.{machine_fault, machine_format, unknown_machine}
 
 -- ---- codes
 
@@ -43,14 +50,25 @@ rounding_coded code =
 abbrev pub has_bit : ℕ → ℕ → Bool
 has_bit word power = word / power % 2 == 1
 
--- 1 flushes tiny results, 2 takes denormal operands as zeros, which some machines alone can; 4 asks what was rounded up
-abbrev pub control_coded : CodedMachine → ℕ → Option Control
-control_coded machine word =
-    if ltb word 8 && (word % 4 == 0 || is_some (choices machine).flush)
+abbrev pub precision_coded : ℕ → Option Precision
+precision_coded word = if has_bit word 8 then Some Single else if has_bit word 16 then Some Double else None
+
+-- the unit of x87 has a precision control, in its format
+abbrev pub has_precision : CodedMachine → IeeeFormat → Bool
+has_precision MachineX87 FormatX87 = true
+has_precision machine format = false
+
+-- 1 flushes tiny results, 2 takes denormal operands as zeros, which some machines alone can; 4 asks what was rounded
+-- up; 8 rounds to 24 digits, and 16 to 53, of which one at most can be asked for
+abbrev pub control_coded : CodedMachine → MachineFormat → ℕ → Option Control
+control_coded machine m word =
+    if ltb word 24
+    && ((word % 4 == 0 || is_some (choices machine).flush) && (ltb word 8 || has_precision machine m.format))
     then Some (record {
       flush = if has_bit word 1 then (choices machine).flush else None;
       denormals_are_zeros = has_bit word 2;
       tells_rounded_up = has_bit word 4;
+      precision = precision_coded word;
     })
     else None
 
@@ -60,7 +78,7 @@ abbrev pub known_instruction : Option FlaggedKind → Option Rounding → Option
 known_instruction kind rounding machine word =
     ok_or kind unknown_format >>= λ known. ok_or rounding unknown_mode >>= λ rounds.
     ok_or (machine_format known) no_such_operation >>= λ format. ok_or machine unknown_machine >>= λ on.
-    ok_or (control_coded on word) wrong_control >>= λ control.
+    ok_or (control_coded on format word) wrong_control >>= λ control.
     Ok (record { machine = on; format = format; rounding = rounds; control = control })
 
 -- ---- operands
@@ -70,12 +88,12 @@ abbrev pub IsSaidOf : (Constants → Type 0) → Kind → Type 0
 IsSaidOf Says (of_format c) = Says c
 IsSaidOf Says of_pairs = ⊥
 
--- 0 stands for what an operation does not take: up to the code 7, and from 14 on, it takes a second one
+-- 0 stands for what an operation does not take: up to the code 7, and from 14 on but for 16, it takes a second one
 abbrev pub operands_of : ℕ → ℕ → ℕ → ℕ → Operands
 operands_of code x y z =
     record {
       x = x;
-      y = if ltb code 8 || ltb 13 code then y else 0;
+      y = if ltb code 8 || (ltb 13 code && not (code == 16)) then y else 0;
       z = if code == 7 then z else 0;
     }
 
@@ -128,6 +146,7 @@ whole_operand (Operation (IntegralExact x)) = Some x
 whole_operand (Operation (Integral x)) = Some x
 whole_operand (Operation (ToUnsigned x width)) = Some x
 whole_operand (Operation (ToSigned x width)) = Some x
+whole_operand (Operation (ToSignedModulo x width)) = Some x
 whole_operand call = None
 
 -- the mode of a call, by that operand, if it has one
@@ -184,13 +203,44 @@ AreFinished it call rounding given answer =
     (IsFinishedBy (constants_for (result_format it.format call)) rounding it.control given answer)
     (answer ≡ given)
 
--- a call on the operands as they are taken, by a rounding
-pub record IsDelivered (it : Instruction) (call : MachineCall) (rounding : Rounding) (answer : Answer)
+-- a call on the operands as they are taken, by a rounding, with all digits of the format
+pub record IsWithAllDigits (it : Instruction) (call : MachineCall) (rounding : Rounding) (answer : Answer)
     : Type 0 where
   pub given : Answer
   pub is_given : IsMachineCallAnswer it.machine it.format
       (mode_by (constants_for it.format) rounding (whole_operand call)) call given
   pub is_finished : AreFinished it call rounding given answer
+
+-- the exact result rounded once in a format with fewer digits, and written as the number of x87 that it is
+pub record IsShortened (g : Format) (rounding : Rounding) (control : Control) (exact : Outcome) (answer : Answer)
+    : Type 0 where
+  pub plain : StatusAnd Datum
+  pub is_plain : Gives (Yields g rounding.round exact) plain
+  pub narrow : StatusAnd Datum
+  pub is_narrow : IsFinished g rounding control plain narrow
+  pub is_value : IsValue (in_format x87_constants)
+      (Gives (IsGiven (widened g (format_with x87_constants) narrow.value) (bits_of narrow.status))) answer
+
+-- the format with fewer digits that is asked for
+abbrev pub precision_in : IeeeFormat → Option Precision → Option Precision
+precision_in FormatX87 precision = precision
+precision_in format precision = None
+
+abbrev pub narrow_in : Instruction → Option Format
+narrow_in it =
+    option_map (narrow_format (is_tiny_before it.machine it.format.tiny_before))
+    (precision_in it.format.format it.control.precision)
+
+-- what holds of a result with all digits, or of a format with fewer and the exact result that is rounded in it
+abbrev pub ByPrecision : Instruction → MachineCall → Type 0 → (Format → Outcome → Type 0) → Type 0
+ByPrecision it call AllDigits Fewer =
+    MatchOption (narrow_in it) AllDigits
+    (λ (g : Format). MatchOption (exact_of x87_constants g call) AllDigits (Fewer g))
+
+abbrev pub IsDelivered : Instruction → MachineCall → Rounding → Answer → Type 0
+IsDelivered it call rounding answer =
+    ByPrecision it call (IsWithAllDigits it call rounding answer)
+    (λ g exact. IsShortened g rounding it.control exact answer)
 
 -- ---- what else is told
 

@@ -35,6 +35,9 @@ wrong_width = 4
 abbrev pub refused_text : ℕ
 refused_text = 5
 
+abbrev pub wrong_length : ℕ
+wrong_length = 6
+
 -- ---- what a kind of values refuses
 
 abbrev pub unless : Bool → ℕ → Option ℕ

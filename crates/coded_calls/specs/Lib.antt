@@ -4,6 +4,7 @@ pub mod Augmented
 pub mod FlaglessCalls
 pub mod IeeeCalls
 pub mod MachineCalls
+pub mod FewerDigits
 pub mod Instructions
 pub mod P3109
 pub mod OneReply

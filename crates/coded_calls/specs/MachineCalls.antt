@@ -12,7 +12,8 @@ use Rattle.apfloat_machines.specs.declared.minima.MinimumRule.TheVariants.{Numbe
 use Rattle.apfloat_machines.specs.Conversions.{IsMachineConversion}
 use Rattle.apfloat_machines.specs.Machines.{x86, x87, arm, arm_default_nan, arm_alternate, arm_alternate_default_nan}
 use Rattle.apfloat_machines.specs.Machines.{risc_v, power, s390x, webassembly, ptx, mips_2008, loongarch, sparc, m68k}
-use Rattle.apfloat_machines.specs.Minima.{IsLeast, IsGreatest}
+use Rattle.apfloat_machines.specs.{Minima.IsLeast, Minima.IsGreatest, Modulo.IsSignedModulo}
+use Rattle.apfloat_machines.specs.Extended.{IsExtendedProduct}
 use Rattle.apfloat_machines.specs.Operations.{IsMachineSum, IsMachineDifference, IsMachineProduct, IsMachineQuotient}
 use Rattle.apfloat_machines.specs.Operations.{IsMachineTruncatedRemainder, IsMachineNearestRemainder, IsMachineRoot}
 use Rattle.apfloat_machines.specs.Operations.{IsMachineIntegralExact, IsMachineIntegral, IsMachineFusedSum}
@@ -29,7 +30,9 @@ use Rattle.formats_at_run_time.specs.FlaggedKinds.{flagged_constants, flagged_ki
 use Rattle.formats_at_run_time.specs.ValueKinds.{Kind, of_format, of_pairs, value_of}
 use Rattle.coded_calls.specs.declared.{data.Answer.Answer, machine_call.CodedMachine.CodedMachine}
 use Rattle.coded_calls.specs.declared.machine_call.{MachineCall.TheVariants.Conversion, MachineFormat.MachineFormat}
-use Rattle.coded_calls.specs.declared.machine_call.{MachineOperation.TheVariants.Greatest, OneOperation.OneOperation}
+use Rattle.coded_calls.specs.declared.machine_call.MachineOperation.TheVariants.{Greatest, ToSignedModulo}
+use Rattle.coded_calls.specs.declared.machine_call.MachineOperation.TheVariants.{ExtendedProduct}
+use Rattle.coded_calls.specs.declared.machine_call.OneOperation.{OneOperation}
 use Rattle.coded_calls.specs.declared.machine_call.CodedMachine.TheVariants.{X86, X87, Arm, ArmDefaultNan, ArmAlternate}
 use Rattle.coded_calls.specs.declared.machine_call.CodedMachine.TheVariants.{RiscV, Power, S390x}
 use Rattle.coded_calls.specs.declared.machine_call.CodedMachine.TheVariants.{ArmAlternateDefaultNan, Webassembly, Ptx}
@@ -77,6 +80,18 @@ choices Mips2008 = mips_2008
 choices Loongarch = loongarch
 choices Sparc = sparc
 choices M68k = m68k
+
+abbrev pub is_aarch64 : CodedMachine → Bool
+is_aarch64 Arm = true
+is_aarch64 ArmDefaultNan = true
+is_aarch64 ArmAlternate = true
+is_aarch64 ArmAlternateDefaultNan = true
+is_aarch64 machine = false
+
+-- whether it has conversions to integers modulo a power of two: FJCVTZS, FCVTMOD.W.D
+abbrev pub has_modulo : CodedMachine → Bool
+has_modulo RiscV = true
+has_modulo machine = is_aarch64 machine
 
 -- ---- formats
 
@@ -145,6 +160,8 @@ machine_operation code to x y z =
     else if code == 13 then Some (ToSigned x to)
     else if code == 14 then least_by (rule_coded to) x y
     else if code == 15 then greatest_by (rule_coded to) x y
+    else if code == 16 then Some (ToSignedModulo x to)
+    else if code == 17 then Some (ExtendedProduct x y)
     else None
 
 abbrev pub conversion_call : Option FlaggedKind → ℕ → Result MachineCall ℕ
@@ -186,6 +203,8 @@ operands_fit width (ToUnsigned x digits) = fits width x
 operands_fit width (ToSigned x digits) = fits width x
 operands_fit width (Least rule x y) = fits width x && fits width y
 operands_fit width (Greatest rule x y) = fits width x && fits width y
+operands_fit width (ToSignedModulo x digits) = fits width x
+operands_fit width (ExtendedProduct x y) = fits width x && fits width y
 
 abbrev pub call_fits : ℕ → MachineCall → Bool
 call_fits width (Operation operation) = operands_fit width operation
@@ -205,6 +224,9 @@ operation_fault machine (FusedSum x y z) = lacking_unless (choices machine).has_
 operation_fault machine (ToUnsigned x width) =
     or_fault (width_fault 1 width) (lacking_unless (choices machine).has_unsigned)
 operation_fault machine (ToSigned x width) = width_fault 2 width
+operation_fault machine (ToSignedModulo x width) =
+    or_fault (width_fault 2 width) (lacking_unless (has_modulo machine))
+operation_fault machine (ExtendedProduct x y) = lacking_unless (is_aarch64 machine)
 operation_fault machine operation = None
 
 -- operands that are too wide come first
@@ -332,6 +354,12 @@ IsMachineAnswer c machine mode (Least rule x y) answer =
 IsMachineAnswer c machine mode (Greatest rule x y) answer =
     IsValue (in_format c)
     (λ given. Gives (IsGreatest rule (format_with c) (choices machine) (value_of c x) (value_of c y)) given) answer
+IsMachineAnswer c machine mode (ToSignedModulo x width) answer =
+    IsInteger (cast_unsigned w128) (λ given. Gives (IsSignedModulo (format_with c) width (value_of c x)) given) answer
+IsMachineAnswer c machine mode (ExtendedProduct x y) answer =
+    IsValue (in_format c)
+    (λ given. Gives (IsExtendedProduct (format_with c) (choices machine) mode (value_of c x) (value_of c y)) given)
+    answer
 
 -- the value that bits of a kind encode, in another
 abbrev pub IsMachineConvertedFrom : Kind → CodedMachine → Round → ℕ → Kind → Answer → Type 0

@@ -22,7 +22,7 @@ use crate::codes::{
 use crate::data::Answer;
 use fast_bits::{
     Encoded, add_normal, compare_bits, convert_normal, has_ordered_words, multiply_bits, root_bits,
-    subtract_normal, word_of,
+    round_number, subtract_normal, word_of,
 };
 use formats_at_run_time::{FillsInFormat, FlaggedKind, ValueType};
 use rustc_apfloat::ieee::{Flagged, IeeeFloat};
@@ -362,6 +362,21 @@ pub fn round_to_integral<F: ValueType>(answer: &mut Answer, round: Round, x: u12
         }
     } else {
         round_to_integral_here::<F>(answer, round, x)
+    }
+}
+
+/// A value rounded to an integral value in a format: from bits to bits, if it is a number that may have digits below
+/// the binary point.
+#[inline(never)]
+pub fn round_to_integral_in<S: Flagged>(answer: &mut Answer, round: Round, x: u128)
+    requires { S.PRECISION < S.BITS }
+    ensures { let kind = of_format (constants_of S.Flagged) in
+        IsKindAnswer kind round (RoundToIntegral x) answer.new }
+{
+    if let Some(number) = round_number::<S>(x, round) {
+        *answer = with_bits(number);
+    } else {
+        round_to_integral::<IeeeFloat<S>>(answer, round, word_of::<S>(x));
     }
 }
 

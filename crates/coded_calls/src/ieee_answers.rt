@@ -12,9 +12,9 @@ ghost use Rattle.coded_calls.specs.IeeeCalls.{IsExtremumBy, IsIeeeAnswer, IsInAn
 
 use crate::codes::{one_if, order_code};
 use crate::data::Answer;
-use fast_bits::{compare_bits, has_ordered_words};
+use fast_bits::{compare_bits, has_ordered_words, round_number};
 use ieee_operations::{
-    Extremum, OnNan, Predicate, compare, extremum_number_of, extremum_of, log_b,
+    Extremum, OnNan, Predicate, compare, extremum_number_of, extremum_of, log_b, lower_flags,
     round_to_integral_in, total_cmp,
 };
 use rustc_apfloat::ieee::{Flagged, IeeeFloat};
@@ -105,6 +105,10 @@ pub fn integral<S: Flagged>(round: Round, x: u128) -> Answer
     requires { S.PRECISION < S.BITS }
     ensures { IsIeeeAnswer (constants_of S.Flagged) round (Integral x) result }
 {
+    if let Some(number) = round_number::<S>(x, round) {
+        let status = lower_flags(number.status, Status::INEXACT);
+        return Answer::of(number.bits, status, 0);
+    }
     let x = value::<S>(x);
     written(round_to_integral_in(x, round))
 }

@@ -1,15 +1,20 @@
 //! One call for an interpreter of instructions: an operation of a machine, with what a control word asks for.
 
-ghost use Rattle.std.specs.Prelude.{◌≡◌, ◌<◌, None, pos};
-ghost use Rattle.rustc_apfloat.specs.{FlaggedTypes.constants_of, FlaggedTypes.format_of, Lawful.format_with};
+ghost use Rattle.std.specs.Prelude.{◌≡◌, ◌<◌, IsSomeAnd, MatchOption, None, pos};
+ghost use Rattle.rustc_apfloat.specs.{FlaggedTypes.constants_of, FlaggedTypes.format_of, Formats.x87_constants};
+ghost use Rattle.rustc_apfloat.specs.Lawful.{format_with};
 ghost use Rattle.formats_at_run_time.specs.{FlaggedKinds.flagged_kind_coded, ValueKinds.value_of};
 ghost use Rattle.coded_calls.specs.{Answers.IsLeftBy, Answers.whole, MachineCalls.machine_coded};
-ghost use Rattle.coded_calls.specs.Instructions.{AreFinished, AreRead, IsCarriedOut, IsDelivered, IsFinished};
-ghost use Rattle.coded_calls.specs.Instructions.{IsFinishedBy, IsInstructionAnswer, IsInstructionReply, IsSaidOf};
-ghost use Rattle.coded_calls.specs.Instructions.{IsTaken, IsTold, IsUpTold, any_is_denormal, any_is_nan};
-ghost use Rattle.coded_calls.specs.Instructions.{constants_for, control_coded, finishes, has_bit, has_denormal};
-ghost use Rattle.coded_calls.specs.Instructions.{is_above_even, is_denormal_in, keeps_operand, known_instruction};
-ghost use Rattle.coded_calls.specs.Instructions.{mode_by, notes, odd_mode, operands_of, result_format};
+ghost use Rattle.coded_calls.specs.FewerDigits.{IsShorter, exact_of, narrow_format};
+ghost use Rattle.coded_calls.specs.declared.fewer_digits.Precision.TheVariants.{Single, Double};
+ghost use Rattle.coded_calls.specs.Instructions.{AreFinished, AreRead, ByPrecision, IsCarriedOut};
+ghost use Rattle.coded_calls.specs.Instructions.{IsDelivered, IsFinished, IsFinishedBy, IsInstructionAnswer};
+ghost use Rattle.coded_calls.specs.Instructions.{IsInstructionReply, IsSaidOf, IsShortened, IsTaken, IsTold};
+ghost use Rattle.coded_calls.specs.Instructions.{IsUpTold, IsWithAllDigits, any_is_denormal, any_is_nan};
+ghost use Rattle.coded_calls.specs.Instructions.{constants_for, control_coded, finishes, has_bit};
+ghost use Rattle.coded_calls.specs.Instructions.{has_denormal, has_precision, is_above_even, is_denormal_in};
+ghost use Rattle.coded_calls.specs.Instructions.{keeps_operand, known_instruction, mode_by, notes, odd_mode};
+ghost use Rattle.coded_calls.specs.Instructions.{operands_of, precision_coded, precision_in, result_format};
 ghost use Rattle.coded_calls.specs.Instructions.{rounding_coded, whole_operand};
 ghost use Rattle.coded_calls.specs.MachineCalls.{machine_fault};
 
@@ -17,6 +22,7 @@ use crate::codes::{
     ANSWERED, NO_SUCH_OPERATION, UNKNOWN_FORMAT, UNKNOWN_MACHINE, UNKNOWN_MODE, WRONG_CONTROL,
 };
 use crate::data::{Answer, Halves};
+use crate::fewer_digits::{Precision, rounded_to, widened};
 use crate::ieee_answers::{value, written};
 use crate::machine_call::{
     CodedMachine, MachineCall, MachineFormat, MachineOperation, machine_call, machine_coded,
@@ -24,9 +30,11 @@ use crate::machine_call::{
 use crate::machine_operations::made;
 use crate::usual_operands::fits;
 use apfloat_machines::{Flush, MinimumRule, flushed, without_denormal};
-use formats_at_run_time::{FlaggedKind, InFlaggedFormat, mode_coded};
+use formats_at_run_time::{
+    FlaggedKind, IeeeFormat, InFlaggedFormat, X87DoubleS, X87SingleS, mode_coded,
+};
 use round_to_odd::to_odd;
-use rustc_apfloat::ieee::{Flagged, IeeeFloat};
+use rustc_apfloat::ieee::{Flagged, IeeeFlags, IeeeFloat, TinyBefore, X87DoubleExtendedS};
 use rustc_apfloat::{Flags, Float, Round, Status, StatusAnd};
 
 /// How an instruction rounds.
@@ -47,6 +55,8 @@ pub struct Control {
     pub denormals_are_zeros: bool,
     /// Whether to tell if a magnitude was rounded up.
     pub tells_rounded_up: bool,
+    /// The digits of sums, differences, products, quotients and roots of x87, if they are fewer than its format has.
+    pub precision: Option<Precision>,
 }
 
 /// On what machine, in which format and how an operation is made.
@@ -82,8 +92,11 @@ pub struct ReadOperands {
     pub has_denormal: bool,
 }
 
-/// The least number of which a bit is none of a control word.
-const CONTROL_BITS: u32 = 8;
+/// The least number that is no control word: the two precisions, 8 and 16, exclude each other.
+const CONTROL_WORDS: u32 = 24;
+
+/// The least control word that asks for a precision.
+const PRECISIONS: u32 = 8;
 
 /// Rounding toward zero.
 const TOWARD_ZERO: Rounding = Rounding {
@@ -118,16 +131,47 @@ fn has_bit(word: u32, power: u32) -> bool
     word / power % 2 == 1
 }
 
-/// What a control word asks for, if its bits are known, and the machine can flush where that is asked for.
-fn control_coded(machine: CodedMachine, word: u32) -> Option<Control>
-    ensures { result ≡ control_coded machine word }
+/// The precision that a control word asks for.
+fn precision_coded(word: u32) -> Option<Precision>
+    ensures { result ≡ precision_coded word }
+{
+    if has_bit(word, 8) {
+        Some(Precision::Single)
+    } else if has_bit(word, 16) {
+        Some(Precision::Double)
+    } else {
+        None
+    }
+}
+
+/// Whether the machine has a precision control in the format.
+fn has_precision(machine: CodedMachine, format: IeeeFormat) -> bool
+    ensures { result ≡ has_precision machine format }
+{
+    match machine {
+        CodedMachine::X87 => match format {
+            IeeeFormat::X87 => true,
+            _ => false,
+        },
+        _ => false,
+    }
+}
+
+/// What a control word asks for, if its bits are known, and the machine can flush, and has precisions in the format,
+/// where that is asked for.
+fn control_coded(machine: CodedMachine, format: MachineFormat, word: u32) -> Option<Control>
+    ensures { result ≡ control_coded machine format word }
 {
     let flush = machine.choices().flush;
-    if word < CONTROL_BITS && (word % 4 == 0 || flush.is_some()) {
+    if word < CONTROL_WORDS
+        && ((word % 4 == 0 || flush.is_some())
+            && (word < PRECISIONS || has_precision(machine, format.format)))
+    {
         Some(Control {
             flush: if has_bit(word, 1) { flush } else { None },
             denormals_are_zeros: has_bit(word, 2),
             tells_rounded_up: has_bit(word, 4),
+            precision: precision_coded(word),
         })
     } else {
         None
@@ -140,7 +184,11 @@ fn operands_of(code: u32, x: u128, y: u128, z: u128) -> Operands
 {
     Operands {
         x,
-        y: if code < 8 || 13 < code { y } else { 0 },
+        y: if code < 8 || (13 < code && code != 16) {
+            y
+        } else {
+            0
+        },
         z: if code == 7 { z } else { 0 },
     }
 }
@@ -264,6 +312,7 @@ fn whole_operand(call: MachineCall) -> Option<u128>
         MachineCall::Operation(MachineOperation::Integral(x)) => Some(x),
         MachineCall::Operation(MachineOperation::ToUnsigned(x, _)) => Some(x),
         MachineCall::Operation(MachineOperation::ToSigned(x, _)) => Some(x),
+        MachineCall::Operation(MachineOperation::ToSignedModulo(x, _)) => Some(x),
         _ => None,
     }
 }
@@ -364,7 +413,108 @@ fn noted(plain: Answer, control: Control, denormal: bool, up: bool) -> Answer
     }
 }
 
+/// The result of a call with the digits of the format `T`, if the precision control counts them.
+fn shortened_to<T: Flagged>(
+    call: MachineCall,
+    rounding: Rounding,
+    control: Control,
+) -> Option<Answer>
+    ensures { let g = format_of T.Flagged in IsShorter g (format_with x87_constants)
+        → MatchOption (exact_of x87_constants g call) (result ≡ None)
+        (λ exact. IsSomeAnd result (IsShortened g rounding control exact)) }
+{
+    match rounded_to::<X87DoubleExtendedS, T>(call, rounding.round) {
+        None => None,
+        Some(plain) => {
+            let narrow = finished(rounding, control, plain);
+            let wide: IeeeFloat<X87DoubleExtendedS> = widened(narrow.value);
+            Some(written(narrow.status.and(wide)))
+        }
+    }
+}
+
+/// The same with 24 digits, tininess detected before or after rounding.
+fn with_24_digits(
+    tiny_before: bool,
+    call: MachineCall,
+    rounding: Rounding,
+    control: Control,
+) -> Option<Answer>
+    ensures { let g = narrow_format tiny_before Single in
+        MatchOption (exact_of x87_constants g call) (result ≡ None)
+        (λ exact. IsSomeAnd result (IsShortened g rounding control exact)) }
+{
+    if tiny_before {
+        shortened_to::<IeeeFlags<TinyBefore<X87SingleS>>>(call, rounding, control)
+    } else {
+        shortened_to::<IeeeFlags<X87SingleS>>(call, rounding, control)
+    }
+}
+
+/// The same with 53 digits.
+fn with_53_digits(
+    tiny_before: bool,
+    call: MachineCall,
+    rounding: Rounding,
+    control: Control,
+) -> Option<Answer>
+    ensures { let g = narrow_format tiny_before Double in
+        MatchOption (exact_of x87_constants g call) (result ≡ None)
+        (λ exact. IsSomeAnd result (IsShortened g rounding control exact)) }
+{
+    if tiny_before {
+        shortened_to::<IeeeFlags<TinyBefore<X87DoubleS>>>(call, rounding, control)
+    } else {
+        shortened_to::<IeeeFlags<X87DoubleS>>(call, rounding, control)
+    }
+}
+
+/// The same with the digits of a precision.
+#[inline(never)]
+fn shortened(
+    precision: Precision,
+    tiny_before: bool,
+    call: MachineCall,
+    rounding: Rounding,
+    control: Control,
+) -> Option<Answer>
+    ensures { let g = narrow_format tiny_before precision in
+        MatchOption (exact_of x87_constants g call) (result ≡ None)
+        (λ exact. IsSomeAnd result (IsShortened g rounding control exact)) }
+{
+    match precision {
+        Precision::Single => with_24_digits(tiny_before, call, rounding, control),
+        Precision::Double => with_53_digits(tiny_before, call, rounding, control),
+    }
+}
+
 impl Instruction {
+    /// The precision that is asked for, which the format x87 alone has.
+    #[inline(always)]
+    fn precision(self) -> Option<Precision>
+        ensures { result ≡ precision_in self.format.format self.control.precision }
+    {
+        match self.format.format {
+            IeeeFormat::X87 => self.control.precision,
+            _ => None,
+        }
+    }
+
+    /// The result of a call by a rounding, if it has fewer digits than the format.
+    #[inline(always)]
+    fn with_fewer_digits(self, call: MachineCall, rounding: Rounding) -> Option<Answer>
+        ensures { ByPrecision self call (result ≡ None)
+            (λ g exact. IsSomeAnd result (IsShortened g rounding self.control exact)) }
+    {
+        match self.precision() {
+            None => None,
+            Some(precision) => {
+                let tiny_before = self.format.is_tiny_before(self.machine);
+                shortened(precision, tiny_before, call, rounding, self.control)
+            }
+        }
+    }
+
     /// The mode of a call, by the operand of a result that is an integer or an integral value.
     fn mode(self, rounding: Rounding, operand: Option<u128>) -> Round
         ensures { result ≡ mode_by (constants_for self.format) rounding operand }
@@ -395,11 +545,11 @@ impl Instruction {
         }
     }
 
-    /// Makes a call by a rounding.
-    #[inline(never)]
-    fn delivered(self, call: MachineCall, rounding: Rounding, answer: &mut Answer) -> u32
+    /// Makes a call by a rounding, with all digits of the format.
+    #[inline(always)]
+    fn with_all_digits(self, call: MachineCall, rounding: Rounding, answer: &mut Answer) -> u32
         ensures { IsLeftBy (machine_fault self.machine self.format call)
-            (IsDelivered self call rounding) answer.old answer.new result }
+            (IsWithAllDigits self call rounding) answer.old answer.new result }
     {
         let round = self.mode(rounding, whole_operand(call));
         let code = made(self.machine, self.format, round, call, answer);
@@ -408,6 +558,21 @@ impl Instruction {
         }
         self.finish(call, rounding, answer);
         ANSWERED
+    }
+
+    /// Makes a call by a rounding.
+    #[inline(never)]
+    fn delivered(self, call: MachineCall, rounding: Rounding, answer: &mut Answer) -> u32
+        ensures { IsLeftBy (machine_fault self.machine self.format call)
+            (IsDelivered self call rounding) answer.old answer.new result }
+    {
+        match self.with_fewer_digits(call, rounding) {
+            None => self.with_all_digits(call, rounding, answer),
+            Some(short) => {
+                *answer = short;
+                ANSWERED
+            }
+        }
     }
 
     /// Whether a magnitude was rounded up, where that is asked for.
@@ -472,7 +637,7 @@ fn known_instruction(
     let Some(machine) = machine else {
         return Err(UNKNOWN_MACHINE);
     };
-    match control_coded(machine, word) {
+    match control_coded(machine, format, word) {
         None => Err(WRONG_CONTROL),
         Some(control) => Ok(Instruction {
             machine,

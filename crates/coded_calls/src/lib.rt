@@ -16,6 +16,7 @@ pub mod data;
 pub mod encoded_decimals;
 pub mod exported_call;
 pub mod facts;
+pub mod fewer_digits;
 pub mod flagless;
 pub mod flagless_call;
 pub mod ieee_answers;

@@ -6,9 +6,9 @@ ghost use Rattle.formats_at_run_time.specs.FlaggedKinds.{flagged_constants, flag
 ghost use Rattle.formats_at_run_time.specs.{Modes.mode_coded, ValueKinds.of_format};
 ghost use Rattle.coded_calls.specs.{Answers.whole, declared.machine_call.MachineCall.TheVariants.Operation};
 ghost use Rattle.coded_calls.specs.declared.machine_call.MachineOperation.TheVariants.{OfTwo};
-ghost use Rattle.coded_calls.specs.MachineCalls.{choices, conversion_call, format_on, is_tiny_before};
-ghost use Rattle.coded_calls.specs.MachineCalls.{kind_without_rule, machine_call, machine_coded, machine_format};
-ghost use Rattle.coded_calls.specs.MachineCalls.{machine_operation, of_one, operation_call, rule_coded};
+ghost use Rattle.coded_calls.specs.MachineCalls.{choices, conversion_call, format_on, has_modulo, is_aarch64};
+ghost use Rattle.coded_calls.specs.MachineCalls.{is_tiny_before, kind_without_rule, machine_call, machine_coded};
+ghost use Rattle.coded_calls.specs.MachineCalls.{machine_format, machine_operation, of_one, operation_call, rule_coded};
 
 use crate::codes::{NO_SUCH_OPERATION, UNKNOWN_FORMAT};
 use apfloat_machines::{Machine, MinimumRule};
@@ -108,6 +108,27 @@ impl CodedMachine {
         }
     }
 
+    /// Whether the machine is AArch64.
+    pub fn is_aarch64(self) -> bool
+        ensures { result ≡ is_aarch64 self }
+    {
+        match self {
+            CodedMachine::Arm | CodedMachine::ArmDefaultNan => true,
+            CodedMachine::ArmAlternate | CodedMachine::ArmAlternateDefaultNan => true,
+            _ => false,
+        }
+    }
+
+    /// Whether the machine has conversions to integers modulo a power of two.
+    pub fn has_modulo(self) -> bool
+        ensures { result ≡ has_modulo self }
+    {
+        match self {
+            CodedMachine::RiscV => true,
+            _ => self.is_aarch64(),
+        }
+    }
+
     /// Whether a result is tiny by its exact magnitude on the machine, which is asked on the usual path too.
     #[inline(always)]
     pub fn tiny_before_rounding(self) -> bool
@@ -147,6 +168,10 @@ pub enum MachineOperation {
     Least(MinimumRule, u128, u128),
     /// The greater of two values, by a rule.
     Greatest(MinimumRule, u128, u128),
+    /// A value toward zero as an integer of that many binary digits, in two's complement, modulo a power of two.
+    ToSignedModulo(u128, u32),
+    /// The product of two values, of which an infinity times a zero is 2.
+    ExtendedProduct(u128, u128),
 }
 
 /// An operation on one value, without the value.
@@ -261,7 +286,7 @@ impl MachineFormat {
 
     /// Whether a result is tiny by its exact magnitude on a machine.
     #[inline(always)]
-    fn is_tiny_before(self, machine: CodedMachine) -> bool
+    pub fn is_tiny_before(self, machine: CodedMachine) -> bool
         ensures { result ≡ is_tiny_before machine self.tiny_before }
     {
         match self.tiny_before {
@@ -356,6 +381,8 @@ fn machine_operation(code: u32, to: u32, x: u128, y: u128, z: u128) -> Option<Ma
         13 => Some(MachineOperation::ToSigned(x, to)),
         14 => Some(MachineOperation::Least(rule_coded(to)?, x, y)),
         15 => Some(MachineOperation::Greatest(rule_coded(to)?, x, y)),
+        16 => Some(MachineOperation::ToSignedModulo(x, to)),
+        17 => Some(MachineOperation::ExtendedProduct(x, y)),
         _ => None,
     }
 }

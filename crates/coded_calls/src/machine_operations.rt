@@ -4,7 +4,7 @@ ghost use Rattle.std.specs.Prelude.{◌≡◌, ◌<◌, ◌≤◌, true, Ok};
 ghost use Rattle.apfloat_model.specs.declared.kinds.NonfiniteBehavior.TheVariants.{IEEE754};
 ghost use Rattle.rustc_apfloat.specs.{Flags.Gives, FlaggedTypes.constants_of, FlaggedTypes.format_of};
 ghost use Rattle.rustc_apfloat.specs.Lawful.{format_with};
-ghost use Rattle.apfloat_machines.specs.Operations.{IsOffered};
+ghost use Rattle.apfloat_machines.specs.{Modulo.IsSignedModulo, Operations.IsOffered};
 ghost use Rattle.apfloat_machines.specs.WholeNumbers.{IsMachineSigned, IsMachineUnsigned};
 ghost use Rattle.formats_at_run_time.specs.declared.Arithmetic.{Arithmetic};
 ghost use Rattle.formats_at_run_time.specs.declared.Arithmetic.TheVariants.{Sum, Difference, Product, Quotient};
@@ -15,7 +15,8 @@ ghost use Rattle.coded_calls.specs.declared.machine_call.MachineCall.TheVariants
 ghost use Rattle.coded_calls.specs.declared.machine_call.MachineOperation.TheVariants.{OfTwo, FusedSum, SquareRoot};
 ghost use Rattle.coded_calls.specs.declared.machine_call.MachineOperation.TheVariants.{IntegralExact, Integral};
 ghost use Rattle.coded_calls.specs.declared.machine_call.MachineOperation.TheVariants.{ToUnsigned, ToSigned, Least};
-ghost use Rattle.coded_calls.specs.declared.machine_call.MachineOperation.TheVariants.{Greatest};
+ghost use Rattle.coded_calls.specs.declared.machine_call.MachineOperation.TheVariants.{Greatest, ToSignedModulo};
+ghost use Rattle.coded_calls.specs.declared.machine_call.MachineOperation.TheVariants.{ExtendedProduct};
 ghost use Rattle.coded_calls.specs.declared.exported_call.ExportedCall.TheVariants.{OfTwo as PlainOfTwo};
 ghost use Rattle.coded_calls.specs.declared.exported_call.ExportedCall.TheVariants.{RoundToIntegral as PlainIntegral};
 ghost use Rattle.coded_calls.specs.Answers.{IsKindAnswer, IsLeftBy, whole};
@@ -44,8 +45,8 @@ use crate::usual_operands::{
     is_normal, is_normal_beyond_words, is_number, is_root_of, one_word, three_words, two_words,
 };
 use apfloat_machines::{
-    MinimumRule, default_nan, greatest, least, settled, settled_conversion, settled_fused,
-    settled_signed, settled_unary, settled_unsigned,
+    MinimumRule, default_nan, extended_product, greatest, least, settled, settled_conversion,
+    settled_fused, settled_signed, settled_unary, settled_unsigned, to_signed_modulo,
 };
 use fast_bits::{add_normal, convert_normal, subtract_normal};
 use formats_at_run_time::{Arithmetic, FillsInFormat, FlaggedKind, mode_coded};
@@ -103,6 +104,12 @@ impl FillsInFormat for OnMachine {
             }
             MachineOperation::Greatest(rule, x, y) => {
                 greater_in::<S>(answer, machine, round, rule, x, y)
+            }
+            MachineOperation::ToSignedModulo(x, width) => {
+                modulo_in::<S>(answer, machine, round, x, width)
+            }
+            MachineOperation::ExtendedProduct(x, y) => {
+                extended_in::<S>(answer, machine, round, x, y)
             }
         }
     }
@@ -1312,6 +1319,80 @@ fn greater_in<S: Flagged>(
     }
     greater::<S>(answer, machine, round, rule, x, y);
     ANSWERED
+}
+
+/// A product of which an infinity times a zero is 2, if the bits of both values fit.
+#[inline(always)]
+fn extended_in<S: Flagged>(
+    answer: &mut Answer,
+    machine: CodedMachine,
+    round: Round,
+    x: u128,
+    y: u128,
+) -> u32
+    requires { S.PRECISION < S.BITS }
+    ensures { IsMachineLeftIn (of_format (constants_of S.Flagged)) machine round
+        (ExtendedProduct x y) answer.old answer.new result }
+{
+    if !both_fit::<S>(x, y) {
+        return WIDE_OPERAND;
+    }
+    if !machine.is_aarch64() {
+        return LACKING_OPERATION;
+    }
+    extended::<S>(answer, machine, round, x, y);
+    ANSWERED
+}
+
+/// A product of which an infinity times a zero is 2.
+#[inline(never)]
+fn extended<S: Flagged>(answer: &mut Answer, machine: CodedMachine, round: Round, x: u128, y: u128)
+    requires { S.PRECISION < S.BITS }
+    ensures { (format_of S.Flagged).nonfinite ≡ IEEE754
+        → IsMachineAnswer (constants_of S.Flagged) machine round (ExtendedProduct x y) answer.new }
+{
+    let (x, y) = (value::<S>(x), value::<S>(y));
+    let product = settled(machine.choices(), x, y, x.wide_mul_r(y, round));
+    *answer = written(extended_product(x, y, product));
+}
+
+/// A value as an integer modulo a power of two, if its bits fit.
+#[inline(never)]
+fn modulo_in<S: Flagged>(
+    answer: &mut Answer,
+    machine: CodedMachine,
+    round: Round,
+    x: u128,
+    width: u32,
+) -> u32
+    requires { S.PRECISION < S.BITS }
+    ensures { IsMachineLeftIn (of_format (constants_of S.Flagged)) machine round
+        (ToSignedModulo x width) answer.old answer.new result }
+{
+    if !fits::<S>(x) {
+        return WIDE_OPERAND;
+    }
+    if !is_width(2, width) {
+        return WRONG_WIDTH;
+    }
+    if !machine.has_modulo() {
+        return LACKING_OPERATION;
+    }
+    let integer = integer_modulo::<S>(x, width as usize);
+    *answer = Answer::of(integer.value.cast_unsigned(), integer.status, 0);
+    ANSWERED
+}
+
+/// The integer modulo a power of two.
+#[inline(always)]
+fn integer_modulo<S: Flagged>(x: u128, width: usize) -> StatusAnd<i128>
+    requires bits { S.PRECISION < S.BITS }
+    requires low { 2 ≤ width }
+    requires high { width ≤ 128 }
+    ensures { let c = constants_of S.Flagged in
+        Gives (IsSignedModulo (format_with c) width (value_of c x)) result }
+{
+    to_signed_modulo(value::<S>(x), width)
 }
 
 /// A value as an integer.

@@ -18,8 +18,8 @@ ghost use Rattle.coded_calls.specs.{Answers.IsReturned, Answers.IsTypeLeft, Know
 use crate::answers::{
     class, comparison, comparison_in, converted, difference, difference_in, exponent, fraction,
     from_signed, from_unsigned, fused_sum, nearest_remainder, next_down, next_up, product,
-    product_in, quotient, read, root, root_in, round_to_integral, scaled, sum, sum_in, to_signed,
-    to_unsigned, truncated_remainder,
+    product_in, quotient, read, root, root_in, round_to_integral, round_to_integral_in, scaled,
+    sum, sum_in, to_signed, to_unsigned, truncated_remainder,
 };
 use crate::codes::{ANSWERED, NO_SUCH_OPERATION, UNKNOWN_FORMAT, UNKNOWN_MODE};
 use crate::data::Answer;
@@ -371,12 +371,18 @@ pub struct RoundToIntegralCall {
     pub x: u128,
 }
 
-impl Operation for RoundToIntegralCall {
+impl KindOperation for RoundToIntegralCall {
     ghost call = { λ it. RoundToIntegral it.x };
 
     #[inline(always)]
-    fn made_in<V: ValueType>(self, round: Round, answer: &mut Answer) -> u32 {
-        round_to_integral::<V>(answer, round, self.x);
+    fn in_format<S: Flagged>(self, round: Round, answer: &mut Answer) -> u32 {
+        round_to_integral_in::<S>(answer, round, self.x);
+        ANSWERED
+    }
+
+    #[inline(always)]
+    fn in_pairs(self, round: Round, answer: &mut Answer) -> u32 {
+        round_to_integral::<DoubleDouble>(answer, round, self.x);
         ANSWERED
     }
 }

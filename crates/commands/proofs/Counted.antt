@@ -48,30 +48,23 @@ operands_of (a ∷ b ∷ c ∷ d ∷ e ∷ f ∷ []) some few = refl
 operands_of (a ∷ b ∷ c ∷ d ∷ e ∷ f ∷ g ∷ more) some few = absurd (omega arith)
 
 -- a reply to the words in their places is the reply to the command
-pub only_counted : (given : List (List ℕ)) (n : ℕ) (format operation mode first second third : List ℕ)
-    (reply : Reply)
+pub only_counted : (given : List (List ℕ)) (n : ℕ) (format operation mode first second third : List ℕ) (reply : Reply)
     → IsOnly (IsReplyTo (with_format format operation mode (take (n - 3) (first ∷ second ∷ third ∷ [])))) reply
-    → length given ≡ n → 4 ≤ n → n ≤ 6
-    → format ≡ word_at given 0 → operation ≡ word_at given 1 → mode ≡ word_at given 2
-    → first ≡ word_at given 3 → second ≡ word_at given 4 → third ≡ word_at given 5
-    → IsOnly (IsReply given) reply
+    → length given ≡ n → 4 ≤ n → n ≤ 6 → format ≡ word_at given 0 → operation ≡ word_at given 1 → mode ≡ word_at given 2
+    → first ≡ word_at given 3 → second ≡ word_at given 4 → third ≡ word_at given 5 → IsOnly (IsReply given) reply
 only_counted given n format operation mode first second third reply only count some few format_is operation_is mode_is
     first_is second_is third_is =
     let enough : 4 ≤ length given = omega arith in
     let not_more : length given ≤ 6 = omega arith in
-    let asked : command_of given
-    ≡ with_format format operation mode (take (n - 3) (first ∷ second ∷ third ∷ [])) =
-    rw (format_is, operation_is, mode_is, first_is, second_is, third_is, ← count)
-    (operands_of given enough not_more) in
+    let asked : command_of given ≡ with_format format operation mode (take (n - 3) (first ∷ second ∷ third ∷ [])) =
+    rw (format_is, operation_is, mode_is, first_is, second_is, third_is, ← count) (operands_of given enough not_more) in
     subst (λ (command : Result Command (List ℕ)). IsOnly (IsReplyTo command) reply) (sym asked) only
 
 -- a reply to words that are parts of a text, in their places, is the reply to the command
-pub only_counted_texts : (words : List (Bor (List ℕ))) (none : Bor (List ℕ)) (second third : List ℕ)
-    (reply : Reply)
+pub only_counted_texts : (words : List (Bor (List ℕ))) (none : Bor (List ℕ)) (second third : List ℕ) (reply : Reply)
     → IsOnly (IsReplyTo (with_format (get_or words 0 none).now (get_or words 1 none).now (get_or words 2 none).now
-    (take (length words - 3) ((get_or words 3 none).now ∷ second ∷ third ∷ [])))) reply
-    → 4 ≤ length words → length words ≤ 6
-    → second ≡ word_at (map (λ w. w.now) words) 4 → third ≡ word_at (map (λ w. w.now) words) 5
+    (take (length words - 3) ((get_or words 3 none).now ∷ second ∷ third ∷ [])))) reply → 4 ≤ length words
+    → length words ≤ 6 → second ≡ word_at (map (λ w. w.now) words) 4 → third ≡ word_at (map (λ w. w.now) words) 5
     → IsOnly (IsReply (map (λ w. w.now) words)) reply
 only_counted_texts words none second third reply only some few second_is third_is =
     let text = λ (w : Bor (List ℕ)). w.now in
@@ -92,8 +85,7 @@ length-operands (suc (suc (suc (suc more)))) first second third few = absurd (om
 
 -- the calculation of an operation depends only on as many words as it has operands
 calculation_of : (kind : Kind) (known : Operation) (name first second third : List ℕ) (count : ℕ)
-    → count ≡ operand_count known
-    → calculation kind known name (take count (first ∷ second ∷ third ∷ []))
+    → count ≡ operand_count known → calculation kind known name (take count (first ∷ second ∷ third ∷ []))
     ≡ calculation kind known name (first ∷ second ∷ third ∷ [])
 calculation_of kind (OfTwo arithmetic) name first second third count e = rw e refl
 calculation_of kind FusedSum name first second third count e = rw e refl
@@ -102,9 +94,8 @@ calculation_of kind Text name first second third count e = rw e refl
 
 -- a reply to the named operation is the reply to the command
 pub only_named : (format operation mode first second third : List ℕ) (count : ℕ) (kind : CommandKind)
-    (known : Operation) (round : Round) (reply : Reply)
-    → count ≤ 3 → command_kind_named format ≡ Some kind → named operation mode count ≡ Ok (known, round)
-    → IsOnly (IsReplyTo (commanded (kind_of (built_in_kind kind)) round
+    (known : Operation) (round : Round) (reply : Reply) → count ≤ 3 → command_kind_named format ≡ Some kind
+    → named operation mode count ≡ Ok (known, round) → IsOnly (IsReplyTo (commanded (kind_of (built_in_kind kind)) round
     (calculation (kind_of (built_in_kind kind)) known operation (first ∷ second ∷ third ∷ [])))) reply
     → IsOnly (IsReplyTo (with_format format operation mode (take count (first ∷ second ∷ third ∷ [])))) reply
 only_named format operation mode first second third count kind known round reply few kind_is names only =

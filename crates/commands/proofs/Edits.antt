@@ -36,21 +36,17 @@ putting_in : (y : ℕ) (rest : List ℕ) → is_one_edit rest (y ∷ rest) ≡ t
 putting_in y [] = refl
 putting_in y (z ∷ zs) =
     ⊎_elim (λ (e : (z == y) ≡ true). rw e (putting_in z zs))
-    (λ (e : (z == y) ≡ false).
-    rw e
+    (λ (e : (z == y) ≡ false). rw e
     (third (same zs (z ∷ zs)) (same zs (y ∷ z ∷ zs)) (same (z ∷ zs) (z ∷ zs)) (is_swap z zs y (z ∷ zs))
-    (same_self (z ∷ zs))))
-    (cases_Bool (z == y))
+    (same_self (z ∷ zs)))) (cases_Bool (z == y))
 
 taking_out : (x : ℕ) (rest : List ℕ) → is_one_edit (x ∷ rest) rest ≡ true
 taking_out x [] = refl
 taking_out x (z ∷ zs) =
     ⊎_elim (λ (e : (x == z) ≡ true). rw e (taking_out z zs))
-    (λ (e : (x == z) ≡ false).
-    rw e
+    (λ (e : (x == z) ≡ false). rw e
     (second (same (z ∷ zs) zs) (same (z ∷ zs) (z ∷ zs)) (same (x ∷ z ∷ zs) zs) (is_swap x (z ∷ zs) z zs)
-    (same_self (z ∷ zs))))
-    (cases_Bool (x == z))
+    (same_self (z ∷ zs)))) (cases_Bool (x == z))
 
 passes : {word other : List ℕ} → IsOneEdit word other → is_one_edit word other ≡ true
 passes (put_in y rest) = putting_in y rest
@@ -60,8 +56,7 @@ passes (replaced x y rest h) =
     (first (same rest rest) (same rest (y ∷ rest)) (same (x ∷ rest) rest) (is_swap x rest y rest) (same_self rest))
 passes (swapped x y rest h) =
     rw (ne_eqb x y h)
-    (or_right
-    (same (y ∷ rest) (x ∷ rest) || same (y ∷ rest) (y ∷ x ∷ rest) || same (x ∷ y ∷ rest) (x ∷ rest))
+    (or_right (same (y ∷ rest) (x ∷ rest) || same (y ∷ rest) (y ∷ x ∷ rest) || same (x ∷ y ∷ rest) (x ∷ rest))
     (is_swap x (y ∷ rest) y (x ∷ rest))
     (and_from (y == y && x == x) (same rest rest)
     (and_from (y == y) (x == x) (eq-eqb y y refl) (eq-eqb x x refl)) (same_self rest)))

@@ -46,23 +46,20 @@ names_more status place table flag d b within e raised =
     λ x. filter (is_raised status) (take place table) ++ cond (is_raised status x) (x ∷ []) [] in
     ap (map (λ (x : List ℕ × ℕ). x.0))
     (filter_more (is_raised status) table place d within
-    ∙ ap one e
-    ∙ ap (λ v. filter (is_raised status) (take place table) ++ cond v (flag ∷ []) []) raised)
+    ∙ ap one e ∙ ap (λ v. filter (is_raised status) (take place table) ++ cond v (flag ∷ []) []) raised)
     ∙ map-append _ (filter (is_raised status) (take place table)) (cond b (flag ∷ []) [])
 
 -- a raised flag is named after those before it
-named : (status place : ℕ) (table : List (List ℕ × ℕ)) (flag fallback : List ℕ × ℕ) (separator : List ℕ)
-    (old now new : Option (List ℕ))
-    → place < length table → get_or table place fallback ≡ flag → is_raised status flag ≡ true
-    → IsNamedTo status table place separator old now → Appends now new (separator ++ flag.0)
-    → IsNamedTo status table (place + 1) (bar ∷ []) old new
+named : (status place : ℕ) (table : List (List ℕ × ℕ)) (flag fallback : List ℕ × ℕ)
+    (separator : List ℕ) (old now new : Option (List ℕ)) → place < length table → get_or table place fallback ≡ flag
+    → is_raised status flag ≡ true → IsNamedTo status table place separator old now
+    → Appends now new (separator ++ flag.0) → IsNamedTo status table (place + 1) (bar ∷ []) old new
 named status place table flag d separator old now new within e raised so_far more_is =
     let more = names_more status place table flag d true within e raised in
     let names = raised_names status (take place table) in
     let text : join_with_byte bar (raised_names status (take (place + 1) table))
-    ≡ join_with_byte bar names ++ (separator ++ flag.0) =
-    ap (join_with_byte bar) more ∙ join-push names flag.0 ∙
-    ap (λ l. join_with_byte bar names ++ (l ++ flag.0)) (sym so_far.separator_is) in
+    ≡ join_with_byte bar names ++ (separator ++ flag.0) = ap (join_with_byte bar) more ∙ join-push names flag.0
+    ∙ ap (λ l. join_with_byte bar names ++ (l ++ flag.0)) (sym so_far.separator_is) in
     record {
       separator_is = sym (ap bar_after more ∙ bar-push names flag.0);
       written = subst (Appends old new) (sym text) (Appends-trans old now new _ _ so_far.written more_is);
@@ -87,17 +84,15 @@ at_place : {A : Type 0} (row : A → List ℕ × ℕ) (items : List A) (place : 
 at_place row items place d within = get_or-map row items place d (row d) within
 
 -- a raised flag is written after those before it
-pub name_more : {A : Type 0} (row : A → List ℕ × ℕ) (items : List A) (fallback : A) (status place : ℕ)
-    (separator name : List ℕ) (old now new : Option (List ℕ))
-    → place < length items → is_raised status (row (get_or items place fallback)) ≡ true
-    → name ≡ (row (get_or items place fallback)).0
+pub name_more : {A : Type 0} (row : A → List ℕ × ℕ) (items : List A) (fallback : A)
+    (status place : ℕ) (separator name : List ℕ) (old now new : Option (List ℕ)) → place < length items
+    → is_raised status (row (get_or items place fallback)) ≡ true → name ≡ (row (get_or items place fallback)).0
     → IsNamedTo status (map row items) place separator old now → Appends now new (separator ++ name)
     → IsNamedTo status (map row items) (place + 1) (bar ∷ []) old new
 name_more row items d status place separator name old now new within raised name_is so_far more_is =
     let inside : place < length (map row items) = rw (length-map items row) within in
     named status place (map row items) (row (get_or items place d)) (row d) separator old now new inside
-    (at_place row items place d within) raised so_far
-    (subst (λ l. Appends now new (separator ++ l)) name_is more_is)
+    (at_place row items place d within) raised so_far (subst (λ l. Appends now new (separator ++ l)) name_is more_is)
 
 -- a flag that is not raised leaves the written names unchanged
 pub name_same : {A : Type 0} (row : A → List ℕ × ℕ) (items : List A) (fallback : A) (status place : ℕ)

@@ -73,10 +73,8 @@ no_bits width digits few e =
     (number_below digits few) e
 
 -- at most 32 digits spell bits, if the number is within the width
-pub has_bits : (width : ℕ) (digits : List ℕ) (n : ℕ) → length digits ≤ 32
-    → number_of_digits Sixteen digits ≡ Some n → nat_lt n (2 ^ width) ≡ true
-    → bits_of_digits width digits ≡ Some n
+pub has_bits : (width : ℕ) (digits : List ℕ) (n : ℕ) → length digits ≤ 32 → number_of_digits Sixteen digits ≡ Some n
+    → nat_lt n (2 ^ width) ≡ true → bits_of_digits width digits ≡ Some n
 has_bits width digits n few e within =
     bits_by (not (is_empty digits)) (nat_le (length digits) 32) (every is_hexadecimal digits)
-    (nat_lt (number 16 digits) (2 ^ 128)) (number 16 digits) n (λ k. nat_lt k (2 ^ width))
-    (le-leb _ _ few) within e
+    (nat_lt (number 16 digits) (2 ^ 128)) (number 16 digits) n (λ k. nat_lt k (2 ^ width)) (le-leb _ _ few) within e

@@ -13,8 +13,7 @@ pub record IsWrittenTo (number rest place : ℕ) (text : List ℕ) : Type 0 wher
 
 -- the text of one more place begins with the digit of that place
 text_more : (number place : ℕ)
-    → hexadecimal_text number (place + 1) ≡ hexadecimal_digit (number / 16 ^ place % 16) ∷ hexadecimal_text number
-    place
+    → hexadecimal_text number (place + 1) ≡ hexadecimal_digit (number / 16 ^ place % 16) ∷ hexadecimal_text number place
 unfolding hexadecimal_text
 text_more number place = rw (add-one place) refl
 
@@ -47,9 +46,7 @@ digits_more number rest place digit text within so_far digit_is =
     let size = so_far.size in
     let inside : 31 - place < length text = omega arith in
     ap (λ n. drop n (set text (31 - place) digit)) here
-    ∙ drop-set text (31 - place) digit inside
-    ∙ ap (λ n. digit ∷ drop n text) step
-    ∙ ap (λ l. digit ∷ l) so_far.digits
+    ∙ drop-set text (31 - place) digit inside ∙ ap (λ n. digit ∷ drop n text) step ∙ ap (λ l. digit ∷ l) so_far.digits
     ∙ ap (λ d. d ∷ hexadecimal_text number place) (digit_is ∙ ap (λ n. hexadecimal_digit (n % 16)) so_far.rest_is)
     ∙ sym (text_more number place)
 

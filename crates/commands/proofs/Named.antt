@@ -16,13 +16,11 @@ provided_passed false word x y e = cc
 -- `named`, in terms of the entries of the tables
 abbrev names : Option Operation → Option Round → List ℕ → List ℕ → ℕ → Result (Operation × Round) (List ℕ)
 names operation mode first second count =
-    ok_or operation first >>= λ k. ok_or mode second >>= λ r.
-    provided (count == operand_count k) arguments (Ok (k, r))
+    ok_or operation first >>= λ k. ok_or mode second >>= λ r. provided (count == operand_count k) arguments (Ok (k, r))
 
 -- an operation that is known and accepted comes with as many operands as it takes
-count_of : (operation : Option Operation) (mode : Option Round) (first second : List ℕ) (count : ℕ)
-    (known : Operation) (round : Round)
-    → names operation mode first second count ≡ Ok (known, round) → count ≡ operand_count known
+count_of : (operation : Option Operation) (mode : Option Round) (first second : List ℕ) (count : ℕ) (known : Operation)
+    (round : Round) → names operation mode first second count ≡ Ok (known, round) → count ≡ operand_count known
 count_of None mode first second count known round e = cc
 count_of (Some k) None first second count known round e = cc
 count_of (Some k) (Some r) first second count known round e =

@@ -24,8 +24,7 @@ use Rattle.commands.specs.Replies.{IsReplyIn, IsReplyTo, IsResult}
 -- the line of a result is the only one
 pub only_line : {A : Type 0} (of_type : Relations A) (answer : StatusAnd A) (bits shown width : ℕ)
     → of_type.meaning.writes_bits answer.value bits → Determines (of_type.meaning.writes_bits answer.value)
-    → shown ≡ width
-    → IsOnly (IsLineOf of_type width answer) (line bits (shown / 4) (bits_of answer.status))
+    → shown ≡ width → IsOnly (IsLineOf of_type width answer) (line bits (shown / 4) (bits_of answer.status))
 only_line of_type answer bits shown width written once shown_is =
     let status = bits_of answer.status in
     let digits = ap (λ (w : ℕ). line bits (w / 4) status) shown_is in
@@ -37,8 +36,7 @@ only_line of_type answer bits shown width written once shown_is =
 
 -- the line of the only result is the only reply
 only_where : {A : Type 0} (of_type : Relations A) (width : ℕ) (Holds : StatusAnd A → Type 0) (answer : StatusAnd A)
-    (reply : Reply)
-    → Determines Holds → Holds answer → IsOnly (IsLineOf of_type width answer) reply
+    (reply : Reply) → Determines Holds → Holds answer → IsOnly (IsLineOf of_type width answer) reply
     → IsOnly (IsLineWhere of_type width Holds) reply
 only_where {A} of_type width Holds answer reply once answers is_line = record {
   holds = record { answer = answer; answers = answers; is_line = is_line.holds };
@@ -52,11 +50,9 @@ only_where {A} of_type width Holds answer reply once answers is_line = record {
 -- an operation on two values has one reply
 pub only_of_two : {A : Type 0} (of_type : Relations A) (mode : Round) (precision width : ℕ)
     (arithmetic : Arithmetic) (left right : List ℕ) (x y : ℕ) (a b : A) (answer : StatusAnd A) (reply : Reply)
-    → AreDetermined of_type.meaning mode precision width
-    → bits_of_word width left ≡ Some x → bits_of_word width right ≡ Some y
-    → a ≡ of_type.meaning.value_of_bits x → b ≡ of_type.meaning.value_of_bits y
-    → IsOfTwo of_type arithmetic mode a b answer
-    → IsOnly (IsLineOf of_type width answer) reply
+    → AreDetermined of_type.meaning mode precision width → bits_of_word width left ≡ Some x
+    → bits_of_word width right ≡ Some y → a ≡ of_type.meaning.value_of_bits x → b ≡ of_type.meaning.value_of_bits y
+    → IsOfTwo of_type arithmetic mode a b answer → IsOnly (IsLineOf of_type width answer) reply
     → IsOnly (IsReplyIn of_type width mode (with_two width arithmetic left right)) reply
 only_of_two {A} of_type mode precision width arithmetic left right x y a b answer reply once first second a_is
     b_is answers is_line =
@@ -66,11 +62,10 @@ only_of_two {A} of_type mode precision width arithmetic left right x y a b answe
     (of_two_once of_type mode precision width once arithmetic _ _) of_both is_line)
 
 -- the conversion of an integer has one reply
-pub only_whole_number : {A : Type 0} (of_type : Relations A) (mode : Round) (precision width : ℕ)
-    (word : List ℕ) (number : ℕ) (answer : StatusAnd A) (reply : Reply)
-    → AreDetermined of_type.meaning mode precision width
-    → whole_number_of word ≡ Some number → of_type.meaning.converts_unsigned number mode answer
-    → IsOnly (IsLineOf of_type width answer) reply
+pub only_whole_number : {A : Type 0} (of_type : Relations A)
+    (mode : Round) (precision width : ℕ) (word : List ℕ) (number : ℕ) (answer : StatusAnd A) (reply : Reply)
+    → AreDetermined of_type.meaning mode precision width → whole_number_of word ≡ Some number
+    → of_type.meaning.converts_unsigned number mode answer → IsOnly (IsLineOf of_type width answer) reply
     → IsOnly (IsReplyIn of_type width mode (with_whole_number word)) reply
 only_whole_number of_type mode precision width word number answer reply once read answers is_line =
     rw (read)
@@ -79,10 +74,8 @@ only_whole_number of_type mode precision width word number answer reply once rea
 
 -- a text without a fault has one reply
 pub only_text : {A : Type 0} (of_type : Relations A) (mode : Round) (precision width : ℕ)
-    (text : List ℕ) (answer : StatusAnd A) (reply : Reply)
-    → AreDetermined of_type.meaning mode precision width
-    → fault_of text ≡ None → of_type.meaning.reads text mode (Ok answer)
-    → IsOnly (IsLineOf of_type width answer) reply
+    (text : List ℕ) (answer : StatusAnd A) (reply : Reply) → AreDetermined of_type.meaning mode precision width
+    → fault_of text ≡ None → of_type.meaning.reads text mode (Ok answer) → IsOnly (IsLineOf of_type width answer) reply
     → IsOnly (IsReplyIn of_type width mode (with_text text)) reply
 only_text of_type mode precision width text answer reply once none answers is_line =
     rw (none)
@@ -157,12 +150,10 @@ only_of_pairs mode (Ok known) reply only = only
 only_of_pairs mode (Err word) reply only = only
 
 -- the only reply for pairs of doubles
-pub only_in_pairs : (mode : Round) (operation : Operation) (name : List ℕ) (operands : List (List ℕ))
-    (reply : Reply)
+pub only_in_pairs : (mode : Round) (operation : Operation) (name : List ℕ) (operands : List (List ℕ)) (reply : Reply)
     → IsOnly (IsReplyIn in_pairs (bits_in of_pairs) mode
     (provided (type_has (multiplies of_pairs) operation) name (with_operands (bits_in of_pairs) operation operands)))
-    reply
-    → IsOnly (IsReplyTo (commanded of_pairs mode (calculation of_pairs operation name operands))) reply
+    reply → IsOnly (IsReplyTo (commanded of_pairs mode (calculation of_pairs operation name operands))) reply
 only_in_pairs mode (OfTwo arithmetic) name operands reply only = only_of_pairs mode _ reply only
 only_in_pairs mode FusedSum name operands reply only = only
 only_in_pairs mode WholeNumber name operands reply only = only_of_pairs mode _ reply only
@@ -170,16 +161,13 @@ only_in_pairs mode Text name operands reply only = only_of_pairs mode _ reply on
 
 -- the only reply for a format, to an operation that every type has
 pub only_in_format : (constants : Constants) (mode : Round) (operation : Operation) (name : List ℕ)
-    (operands : List (List ℕ)) (reply : Reply)
-    → (operation ≡ FusedSum → nat_le constants.precision fused_limit ≡ false)
+    (operands : List (List ℕ)) (reply : Reply) → (operation ≡ FusedSum → nat_le constants.precision fused_limit ≡ false)
     → IsOnly (IsReplyIn (in_format constants) constants.bits mode
     (provided (type_has (multiplies (of_format constants)) operation) name
-    (with_operands constants.bits operation operands))) reply
-    → IsOnly (IsReplyTo (commanded (of_format constants) mode
+    (with_operands constants.bits operation operands))) reply → IsOnly (IsReplyTo (commanded (of_format constants) mode
     (calculation (of_format constants) operation name operands))) reply
 only_in_format constants mode (OfTwo arithmetic) name operands reply lacks only =
     only_of_format constants mode _ reply only
 only_in_format constants mode FusedSum name operands reply lacks only = rw (lacks refl) only
-only_in_format constants mode WholeNumber name operands reply lacks only =
-    only_of_format constants mode _ reply only
+only_in_format constants mode WholeNumber name operands reply lacks only = only_of_format constants mode _ reply only
 only_in_format constants mode Text name operands reply lacks only = only_of_format constants mode _ reply only

@@ -6,10 +6,9 @@ use Rattle.commands.specs.Replies.{line, refused, IsOnly, IsReply, IsRun, line_t
 
 -- a reply is written as its line
 pub line_run : {T E : Type 0} (command : List (List ℕ)) (out out' err : Option (List ℕ))
-    (bits digits status exit : ℕ) (written : Result T E)
-    → IsOnly (IsReply command) (line bits digits status)
-    → OnOk written (Appends out out' (line_text bits digits status))
-    → exit ≡ (if is_ok written then 0 else 1) → exit ≢ 1 → IsRun command out out' err err exit
+    (bits digits status exit : ℕ) (written : Result T E) → IsOnly (IsReply command) (line bits digits status)
+    → OnOk written (Appends out out' (line_text bits digits status)) → exit ≡ (if is_ok written then 0 else 1)
+    → exit ≢ 1 → IsRun command out out' err err exit
 line_run command out out' err bits digits status exit (Ok x) reply text exit_is some = record {
   reply = line bits digits status;
   is_reply = reply;

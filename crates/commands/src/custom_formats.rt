@@ -13,11 +13,10 @@ mod seven;
 mod ten;
 mod vast;
 mod written_bit;
-mod x87_double;
-mod x87_single;
 
 pub use broad::{Broad, BroadS};
 pub use deep::{Deep, DeepS};
+pub use formats_at_run_time::{X87DoubleS, X87SingleS};
 pub use fused_limit::{FusedLimit, FusedLimitS};
 pub use least::{Least, LeastS};
 pub use least_finite::{LeastFinite, LeastFiniteS};
@@ -27,5 +26,3 @@ pub use seven::{Seven, SevenS};
 pub use ten::{Ten, TenS};
 pub use vast::{Vast, VastS};
 pub use written_bit::{WrittenBit, WrittenBitS};
-pub use x87_double::X87DoubleS;
-pub use x87_single::X87SingleS;

@@ -4,15 +4,15 @@ use Rattle.std.proofs.{Common.List, Math.Nat.mul-div_cancel, Math.Nat.mul-mod_le
 use Rattle.std.proofs.lemmas.Bool.{and_from, eq-eqb, ne_eqb}
 use Rattle.std.specs.Prelude.{Err, IsOk, Ok, Result}
 use Rattle.apfloat_arrays.specs.declared.Counts.{Counts}
-use Rattle.apfloat_arrays.specs.declared.scaled_blocks.{BlockFormat.TheVariants.Mx, Dequantization.Dequantization}
+use Rattle.apfloat_arrays.specs.declared.scaled_blocks.{BlockFormat.BlockFormat, Dequantization.Dequantization}
 use Rattle.apfloat_arrays.specs.declared.scaled_blocks.ArrayError.{ArrayError, TheVariants.CodeTooWide}
 use Rattle.apfloat_arrays.specs.declared.scaled_blocks.ArrayError.TheVariants.{EmptyBlock, Lengths, TensorScale, Uneven}
 use Rattle.apfloat_arrays.specs.declared.scaled_blocks.Quantization.{Quantization}
 use Rattle.apfloat_arrays.specs.scaled_blocks.{Quantized.AreQuantized, Quantized.IsQuantizedArray, Formats.AreNarrow}
+use Rattle.apfloat_arrays.specs.scaled_blocks.Formats.{has_scale}
 use Rattle.apfloat_arrays.specs.scaled_blocks.Dequantized.{IsDequantizedArray}
 use Rattle.apfloat_arrays.specs.scaled_blocks.Lengths.{blocks_in, blocks_of, if_scaled}
 use Rattle.apfloat_arrays.proofs.scaled_blocks_lemmas.Formats.{not_both_in}
-use Rattle.small_formats.specs.declared.blocks.ElementFormat.{ElementFormat}
 
 one_block : (block width : ℕ) → 1 ≤ block → 1 ≤ width
     → blocks_of block width (block * width) 1 block ≡ Ok 1
@@ -31,15 +31,16 @@ one_block block width some wide =
     (eq-eqb 1 (block * width / width / block) (sym (ap (λ (n : ℕ). n / block) count ∙ one))) in
     rw (none, even, split, same) refl
 
-pub one_block_of : (element : ElementFormat) (block width values scales codes : ℕ) → 1 ≤ block → 1 ≤ width
-    → values ≡ block * width → scales ≡ 1 → codes ≡ block
-    → blocks_in (Mx element) block width values scales codes ≡ Ok 1
-one_block_of element block width values scales codes some wide v s c =
-    let format = Mx element in
+pub one_block_of : (format : BlockFormat) (block width values scales codes : ℕ) → has_scale format ≡ true
+    → 1 ≤ block → 1 ≤ width → values ≡ block * width → scales ≡ 1 → codes ≡ block
+    → blocks_in format block width values scales codes ≡ Ok 1
+one_block_of format block width values scales codes scaled some wide v s c =
+    let one : if_scaled format (Ok 1) ≡ Ok 1 = rw scaled refl in
     ap (λ (n : ℕ). blocks_in format block width n scales codes) v
     ∙ ap (λ (n : ℕ). blocks_in format block width (block * width) n codes) s
     ∙ ap (λ (n : ℕ). blocks_in format block width (block * width) 1 n) c
     ∙ ap (if_scaled format) (one_block block width some wide)
+    ∙ one
 
 -- a block is quantized without an error
 pub quantized : (q : Quantization) (values before scales old codes : List ℕ) (known : Result ℕ ArrayError)

@@ -2,12 +2,13 @@
 use Rattle.std.specs.Prelude.{◌≡◌, ℕ, ◌+◌, ◌*◌, ◌/◌, List, [], ◌∷◌}
 use Rattle.formats_at_run_time.specs.{FlaggedKinds.flagged_constants, declared.FlaggedFormat.TheVariants.BuiltIn}
 use Rattle.apfloat_arrays.specs.declared.{Counts.Counts, Extended.TheVariants.Packed, Widths.Widths}
-use Rattle.apfloat_arrays.specs.declared.scaled_blocks.{BlockFormat.TheVariants.Mx, Dequantization.Dequantization}
+use Rattle.apfloat_arrays.specs.declared.scaled_blocks.Dequantization.{Dequantization}
 use Rattle.apfloat_arrays.specs.{declared.scaled_blocks.Quantization.Quantization, Blocks.AreInPlaces, Blocks.value_at}
 use Rattle.apfloat_arrays.specs.{Outcomes.sum_of, Widths.width_of, scaled_blocks.Dequantized.AreDequantized}
 use Rattle.apfloat_arrays.specs.scaled_blocks.{Dequantized.width_out, Quantized.AreQuantized, Quantized.no_counts}
 use Rattle.small_formats.specs.declared.blocks.{ElementFormat.ElementFormat, ScaleRule.TheVariants.Floor}
 use Rattle.small_formats.specs.{blocks.Elements.width, packing.Packed.ArePacked}
+use Rattle.convert_values.specs.BlockFormats.{element_of, scale_in}
 use Rattle.convert_values.specs.declared.{block_form.BlockForm.BlockForm, blocks.BlockConversion.BlockConversion}
 use Rattle.convert_values.specs.declared.blocks.BlockWay.{BlockWay, TheVariants.Quantize, TheVariants.Dequantize}
 
@@ -15,7 +16,7 @@ use Rattle.convert_values.specs.declared.blocks.BlockWay.{BlockWay, TheVariants.
 
 -- how many bytes the codes of a block take
 abbrev pub packed_size : BlockForm → ℕ
-packed_size form = width form.element * form.length / 8
+packed_size form = width (element_of form.format) * form.length / 8
 
 -- how many bytes a block takes, with its scale
 abbrev pub block_size : BlockForm → ℕ
@@ -43,26 +44,26 @@ block_widths q = widths_by q.way (values_size q) (block_size q.form)
 
 abbrev pub quantization_of : BlockConversion → Quantization
 quantization_of q =
-    record { source = q.format; format = Mx q.form.element; rule = Floor; length = q.form.length; round = q.round }
+    record { source = q.format; format = q.form.format; rule = Floor; length = q.form.length; round = q.round }
 
 abbrev pub dequantization_of : BlockConversion → Dequantization
 dequantization_of q =
-    record { format = Mx q.form.element; length = q.form.length; target = BuiltIn q.format; round = q.round }
+    record { format = q.form.format; length = q.form.length; target = BuiltIn q.format; round = q.round }
 
 -- the values are quantized to the block in these bytes
 pub record IsQuantizedIn (q : BlockConversion) (values bytes : List ℕ) (counts : Counts) : Type 0 where
   pub scale : ℕ
   pub codes : List ℕ
   pub is_quantized : AreQuantized (quantization_of q) values 1 (scale ∷ []) codes counts
-  pub is_in_bytes : IsBlockInBytes q.form.element scale codes bytes
+  pub is_in_bytes : IsBlockInBytes (element_of q.form.format) scale codes bytes
 
 -- the values are those of the block in these bytes
 pub record IsDequantizedFrom (q : BlockConversion) (bytes values : List ℕ) (counts : Counts) : Type 0 where
-  pub scale : ℕ
+  pub first : ℕ
   pub codes : List ℕ
-  pub is_in_bytes : IsBlockInBytes q.form.element scale codes bytes
+  pub is_in_bytes : IsBlockInBytes (element_of q.form.format) first codes bytes
   pub is_dequantized : AreDequantized (dequantization_of q) (flagged_constants (BuiltIn q.format))
-      (width_out (dequantization_of q)) (scale ∷ []) codes values counts
+      (width_out (dequantization_of q)) (scale_in q.form.format first ∷ []) codes values counts
 
 abbrev pub IsConvertedBy : BlockWay → BlockConversion → List ℕ → List ℕ → Counts → Type 0
 IsConvertedBy Quantize q read written counts = IsQuantizedIn q read written counts

@@ -1,3 +1,4 @@
+pub mod BlockFormats
 pub mod Blocks
 pub mod Statuses
 pub mod StreamWidths

@@ -2,8 +2,8 @@
 
 ghost use Rattle.std.specs.Prelude.{◌≡◌, ◌+◌, ◌*◌, ◌/◌, ◌≤◌, length, take};
 
-use crate::block_form::{BlockForm, LONGEST};
-use apfloat_arrays::scaled_blocks::{BlockFormat, Dequantization, Quantization};
+use crate::block_form::{BlockForm, LONGEST, scale_in};
+use apfloat_arrays::scaled_blocks::{Dequantization, Quantization};
 use apfloat_arrays::{ConvertedBlock, Counts, Extended, Widths, width};
 use formats_at_run_time::{BuiltInFormat, FlaggedFormat};
 use rustc_apfloat::Round;
@@ -139,10 +139,10 @@ impl BlockConversion {
         requires bytes { length bytes.old ≡ block_size self.form }
         ensures { IsQuantizedIn self values.now bytes.new result }
     {
-        let BlockForm { element, length } = self.form;
+        let BlockForm { format, length } = self.form;
         let quantization = Quantization {
             source: self.format,
-            format: BlockFormat::Mx(element),
+            format,
             rule: ScaleRule::Floor,
             length,
             round: self.round,
@@ -161,16 +161,16 @@ impl BlockConversion {
         requires values { length values.old ≡ values_size self }
         ensures { IsDequantizedFrom self bytes.now values.new result }
     {
-        let BlockForm { element, length } = self.form;
+        let BlockForm { format, length } = self.form;
         let dequantization = Dequantization {
-            format: BlockFormat::Mx(element),
+            format,
             length,
             target: FlaggedFormat::BuiltIn(self.format),
             round: self.round,
         };
         let mut room = [0u8; LONGEST];
         let codes = &mut room[..length];
-        let scale = self.form.read(bytes, codes);
+        let scale = scale_in(format, self.form.read(bytes, codes));
         dequantization.dequantize(&[scale], codes, values).unwrap()
     }
 }

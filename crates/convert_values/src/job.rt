@@ -10,7 +10,8 @@ use small_formats::saturation::{FiniteNan, Overflow};
 pub const HELP: &str = "\
 usage: convert_values [--saturate | --saturate-finite | --saturate-all]
                       [--x87-bytes=10|16] FROM TO MODE
-       convert_values --block FORM [--dequantize] [--block-length N] FORMAT MODE
+       convert_values --block FORM [--dequantize] [--block-length N]
+                      [--tensor-scale X] FORMAT MODE
        convert_values [--saturate ..] [--x87-bytes=10|16]
                       --stochastic SEED FROM TO
        convert_values --help | --version
@@ -36,9 +37,12 @@ MODE      even    to the nearest value, ties to even
 --x87-bytes=10     a value of the format x87 takes 10 bytes; this is the default
 --x87-bytes=16     it takes 16 bytes; the last 6 are ignored, and written as 0
 --block FORM       values of FORMAT become blocks with a common scale, of the form
-                   mxfp4, mxfp6e2m3, mxfp6e3m2, mxfp8e4m3 or mxfp8e5m2
+                   mxfp4, mxfp6e2m3, mxfp6e3m2, mxfp8e4m3, mxfp8e5m2 or nvfp4
 --dequantize       such blocks become values of FORMAT
---block-length N   a block has N values, 1 to 1024; 32 without this option
+--block-length N   a block has N values, 1 to 1024; without this option 32, and 16
+                   in nvfp4
+--tensor-scale X   the scale of all blocks of nvfp4, a positive number, decimal or
+                   hexadecimal, read as the nearest single; 1 without this option
 --stochastic SEED  in place of a MODE: random digits take each number to one of
                    its two neighbours, the nearer one more often; SEED is a
                    whole number below 2^64
@@ -48,9 +52,9 @@ MODE      even    to the nearest value, ties to even
 The last six formats are storage formats, whose values take a byte each. FROM
 and TO cannot both be one, FORMAT cannot, and with --stochastic only TO can.
 
-A block is its scale in e8m0fnu, a byte, and after it the codes of its values:
-one of 8 bits in a byte, two of 4 bits in a byte or four of 6 bits in three,
-from the lowest bit on.
+A block is its scale in e8m0fnu, or ue4m3 in nvfp4, a byte, and after it the
+codes of its values: one of 8 bits in a byte, two of 4 bits in a byte or four of
+6 bits in three, from the lowest bit on.
 
 At the end a line on standard error counts the values, those that raised each
 flag, and the NaNs among the values written. Before that, if standard error is

@@ -38,8 +38,7 @@ use Rattle.exact_reductions.specs.declared.block_dots.BlockVector.{BlockVector}
 
 -- a total in quanta of its own format
 pub total_in_own : (f : Format) (mode : Round) (of_zero : Bool) (exact : ℤ) (value : Datum) (status : ℕ)
-    → 0 < f.precision
-    → IsRounded f mode of_zero (exact *ℤ pos (2 ^ f.scale)) (2 ^ (f.scale + f.scale)) value status
+    → 0 < f.precision → IsRounded f mode of_zero (exact *ℤ pos (2 ^ f.scale)) (2 ^ (f.scale + f.scale)) value status
     → IsRounded f mode of_zero exact (2 ^ f.scale) value status
 total_in_own f mode of_zero exact value status some h =
     let unit : ℕ = 2 ^ f.scale in
@@ -78,9 +77,8 @@ mx_scaled element mode scale code (finite b n) value status below narrow e h p =
     let few = (short element).quantum in
     let x = exact_into_double element scale below mode code value status narrow (ap is_finite e) h in
     let same : finite x.negative x.number ≡ finite b n = sym x.element_is ∙ e in
-    let point : x.quanta ≡ n * 2 ^ scale * 2 ^ (1074 - (f.scale + 127)) =
-    moved n scale (f.scale + 127) x.quanta (omega (arith, few))
-    (x.same ∙ ap (λ (d : Datum). quanta_of d * 2 ^ scale * 2 ^ 1074) same) in
+    let point : x.quanta ≡ n * 2 ^ scale * 2 ^ (1074 - (f.scale + 127)) = moved n scale (f.scale + 127) x.quanta
+    (omega (arith, few)) (x.same ∙ ap (λ (d : Datum). quanta_of d * 2 ^ scale * 2 ^ 1074) same) in
     x.value_is ∙ ap (λ (d : Datum). finite (is_negative d) x.quanta) same ∙ ap (finite b) point
 mx_scaled element mode scale code (infinite b) value status below narrow e h p =
     let some = pow_pos scale in
@@ -123,8 +121,7 @@ joint_most n q t p a b c =
     omega (arith, all)
 
 nv_scaled : (mode : Round) (scale code tensor : ℕ) (value : Datum) (status : ℕ) → scale < nan_scale
-    → IsFiniteOf single_format false tensor
-    → IsDelivered double_format mode (is_negative (element_datum E2M1FN code))
+    → IsFiniteOf single_format false tensor → IsDelivered double_format mode (is_negative (element_datum E2M1FN code))
     (quanta_of (element_datum E2M1FN code) * (scale_quanta scale * tensor) * 2 ^ double_format.scale) (2 ^ 159) value
     status
     → value ≡ scaled_datum (format_of_element E2M1FN) (scale_quanta scale * tensor) 158 (element_datum E2M1FN code)

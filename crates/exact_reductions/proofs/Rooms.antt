@@ -4,8 +4,7 @@ use Rattle.std.proofs.Math.Nat.{mul-le-mul_right}
 use Rattle.apfloat_decimals.specs.Words.{weight}
 use Rattle.apfloat_decimals.proofs.numbers.Values.{weight_some}
 
-below_top : (amount terms words : ℕ) → amount * 2 ^ 64 ≤ terms * weight words → terms < 2 ^ 64
-    → amount < weight words
+below_top : (amount terms words : ℕ) → amount * 2 ^ 64 ≤ terms * weight words → terms < 2 ^ 64 → amount < weight words
 below_top amount terms words a t =
     let some : 0 < weight words = weight_some words in
     let most : (terms + 1) * weight words ≤ 2 ^ 64 * weight words = mul-le-mul_right (weight words) (omega arith) in

@@ -32,10 +32,8 @@ make terms first_nan wrong positive_infinity negative_infinity positive negative
       exact = exact;
     }
 
-made_same : (m n : ℕ) (x y : Option Datum) (a b c d e a' b' c' d' e' : Bool) (u v : ℤ) → m ≡ n → x ≡ y
-    → a ≡ a'
-    → b ≡ b' → c ≡ c' → d ≡ d' → e ≡ e' → u ≡ v
-    → make m x a b c d e u ≡ make n y a' b' c' d' e' v
+made_same : (m n : ℕ) (x y : Option Datum) (a b c d e a' b' c' d' e' : Bool) (u v : ℤ) → m ≡ n → x ≡ y → a ≡ a' → b ≡ b'
+    → c ≡ c' → d ≡ d' → e ≡ e' → u ≡ v → make m x a b c d e u ≡ make n y a' b' c' d' e' v
 made_same m n x y a b c d e a' b' c' d' e' u v f g h i j k l o = rw (f, g, h, i, j, k, l, o) refl
 
 -- tallies with the same fields are the same
@@ -80,8 +78,7 @@ pub record IsUnderWay (before done all left : Tally) (i : ℕ) : Type 0 where
 
 -- a step of it
 pub one_done : (before done next all left rest term : Tally) (i : ℕ) → IsUnderWay before done all left i
-    → left ≡ joined term rest → next ≡ joined done term → term.terms ≡ 1
-    → IsUnderWay before next all rest (i + 1)
+    → left ≡ joined term rest → next ≡ joined done term → term.terms ≡ 1 → IsUnderWay before next all rest (i + 1)
 one_done before done next all left rest term i x here added one =
     let more = ap (λ (t : Tally). t.terms) added in
     let terms = x.terms in
@@ -94,8 +91,7 @@ one_done before done next all left rest term i x here added one =
 -- its end
 pub all_done : (before done all left : Tally) (i : ℕ) → IsUnderWay before done all left i → left ≡ no_terms
     → done ≡ joined before all
-all_done before done all left i x none =
-    sym (joined_none done) ∙ sym (ap (λ (t : Tally). joined done t) none) ∙ x.total
+all_done before done all left i x none = sym (joined_none done) ∙ sym (ap (λ (t : Tally). joined done t) none) ∙ x.total
 
 -- all terms, if there were none before
 pub from_none : (before after all : Tally) → before ≡ no_terms → after ≡ joined before all → after ≡ all
@@ -108,8 +104,7 @@ here_is : {X : Type 0} (xs : List X) (i : ℕ) (x : X) → i < length xs → x �
 here_is {X} xs i x h e = drop_more xs i x h ∙ ap (λ (z : X). z ∷ drop (i + 1) xs) (sym e)
 
 pub values_here : (f : Format) (xs : List Datum) (i : ℕ) (x : Datum) → i < length xs → x ≡ get_or xs i x
-    → tally (value_terms f (drop i xs))
-    ≡ joined (tally_of (value_term f x)) (tally (value_terms f (drop (i + 1) xs)))
+    → tally (value_terms f (drop i xs)) ≡ joined (tally_of (value_term f x)) (tally (value_terms f (drop (i + 1) xs)))
 values_here f xs i x h e = ap (λ (l : List Datum). tally (value_terms f l)) (here_is xs i x h e)
 
 pub magnitudes_here : (f : Format) (xs : List Datum) (i : ℕ) (x : Datum) → i < length xs → x ≡ get_or xs i x
@@ -124,8 +119,7 @@ products_here f xs ys i x y h k e d =
     ap (λ (l : List Datum). tally (product_terms f l (drop i ys))) (here_is xs i x h e)
     ∙ ap (λ (l : List Datum). tally (product_terms f (x ∷ drop (i + 1) xs) l)) (here_is ys i y k d)
 
-pub values_done : (f : Format) (xs : List Datum) (i : ℕ) → length xs ≤ i
-    → tally (value_terms f (drop i xs)) ≡ no_terms
+pub values_done : (f : Format) (xs : List Datum) (i : ℕ) → length xs ≤ i → tally (value_terms f (drop i xs)) ≡ no_terms
 values_done f xs i l = ap (λ (z : List Datum). tally (value_terms f z)) (drop_all i xs l)
 
 pub magnitudes_done : (f : Format) (xs : List Datum) (i : ℕ) → length xs ≤ i
@@ -145,8 +139,7 @@ finite_value f (infinite b) e = absurd (false≢true e)
 finite_value f (nan b s) e = absurd (false≢true e)
 
 pub finite_product : (f : Format) (x y : Datum) → is_finite x ≡ true → is_finite y ≡ true
-    → tally_of (product f x y)
-    ≡ number_tally (product_sign (is_negative x) (is_negative y)) (quanta_of x * quanta_of y)
+    → tally_of (product f x y) ≡ number_tally (product_sign (is_negative x) (is_negative y)) (quanta_of x * quanta_of y)
 finite_product f (finite b m) (finite c n) e d = refl
 finite_product f (finite b m) (infinite c) e d = absurd (false≢true d)
 finite_product f (finite b m) (nan c t) e d = absurd (false≢true d)
@@ -159,8 +152,7 @@ value_one f (finite b m) = refl
 value_one f (infinite b) = refl
 value_one f (nan b s) = refl
 
-one_if : (f : Format) (test sign : Bool)
-    → (tally_of (if test then invalid f else exactly (infinite sign))).terms ≡ 1
+one_if : (f : Format) (test sign : Bool) → (tally_of (if test then invalid f else exactly (infinite sign))).terms ≡ 1
 one_if f true sign = refl
 one_if f false sign = refl
 
@@ -180,9 +172,8 @@ pub record IsSpecial (value : Datum) (status : ℕ) (term : Outcome) : Type 0 wh
   pub special : is_finite value ≡ false
   pub same : special_tally value status ≡ tally_of term
 
-settled_special : (value : Datum) (status : ℕ) (term : Outcome) (d : Datum) (flags : ℕ)
-    → IsAnswer d flags value status → is_finite d ≡ false → special_tally d flags ≡ tally_of term
-    → IsSpecial value status term
+settled_special : (value : Datum) (status : ℕ) (term : Outcome) (d : Datum) (flags : ℕ) → IsAnswer d flags value status
+    → is_finite d ≡ false → special_tally d flags ≡ tally_of term → IsSpecial value status term
 settled_special value status term d flags h n t =
     record { special = ap is_finite h.value_is ∙ n; same = rw (h.value_is, h.status_is) t }
 
@@ -193,8 +184,7 @@ zero_or_infinite f mode true sign value status h = settled_special value status 
 zero_or_infinite f mode false sign value status h = settled_special value status _ _ _ h refl refl
 
 pub special_product : (f : Format) (mode : Round) (x y value : Datum) (status : ℕ)
-    → (is_finite x && is_finite y) ≡ false → IsProduct f mode x y value status
-    → IsSpecial value status (product f x y)
+    → (is_finite x && is_finite y) ≡ false → IsProduct f mode x y value status → IsSpecial value status (product f x y)
 special_product f mode (nan b s) y value status e h = settled_special value status _ _ _ h refl refl
 special_product f mode (finite b m) (nan c t) value status e h = settled_special value status _ _ _ h refl refl
 special_product f mode (infinite b) (nan c t) value status e h = settled_special value status _ _ _ h refl refl
@@ -265,8 +255,7 @@ amounts_joined sides others = omega (arith, ints)
 
 -- a finite value that is no nonzero number is a zero
 zero_quanta : (n : ℕ) → ((if eqb n 0 then Zero else Normal) ≡ Normal → ⊥) → n ≡ 0
-zero_quanta n h =
-    ⊎_elim (λ (e : n ≡ 0). e) (λ (e : n ≡ 0 → ⊥). absurd (h (rw (ne_eqb n 0 e) refl))) (cases_eq n 0)
+zero_quanta n h = ⊎_elim (λ (e : n ≡ 0). e) (λ (e : n ≡ 0 → ⊥). absurd (h (rw (ne_eqb n 0 e) refl))) (cases_eq n 0)
 
 pub finite_zero : (x : Datum) → is_finite x ≡ true → (category_of x ≡ Normal → ⊥) → quanta_of x ≡ 0
 finite_zero (finite b n) e h = zero_quanta n h

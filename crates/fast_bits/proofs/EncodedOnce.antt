@@ -4,7 +4,7 @@ use Rattle.apfloat_model.specs.{bits.Layout.IsEncodedBy, declared.kinds.Round.Ro
 use Rattle.apfloat_model.specs.formats.{Format.Format, Lawful.Constants, Lawful.IsLawful, Lawful.format_with}
 use Rattle.apfloat_model.specs.{formats.Lawful.layout_with, rounding.Flags.bits_of}
 use Rattle.apfloat_model.proofs.bits.{EncodedOnce.encoded_once, Encodings.lawful_interchange}
-use Rattle.apfloat_model.proofs.Once.{Once, difference_once, product_once, root_once, sum_once}
+use Rattle.apfloat_model.proofs.Once.{Once, difference_once, product_once, root_once, round_to_integral_once, sum_once}
 use Rattle.fast_bits.specs.{declared.encoded.Encoded.Encoded, Encoded.IsEncodedAnswer, Encoded.value_in}
 use Rattle.fast_bits.specs.Once.{AreEncodedOnce, IsEncodedOnce, IsEncodedOnceOfOne}
 
@@ -38,4 +38,5 @@ encoded_answers_once = record {
   differences = answer_once _ difference_once;
   products = answer_once _ product_once;
   roots = answer_once_of_one _ root_once;
+  integral_values = answer_once_of_one _ round_to_integral_once;
 }

@@ -7,4 +7,5 @@ pub mod EncodedOnce
 pub mod RootAnswers
 pub mod OrderedNumbers
 pub mod Magnitudes
+pub mod Integrals
 pub mod lanes_lemmas

@@ -21,7 +21,7 @@ use Rattle.fast_bits.proofs.Reading.{trailing_low}
 -- ---- quanta
 
 -- a lower exponent is that of lesser numbers
-below_exponent : (least b s c t : ℕ) → s < least → b < c → quanta_at least b s < quanta_at least c t
+pub below_exponent : (least b s c t : ℕ) → s < least → b < c → quanta_at least b s < quanta_at least c t
 below_exponent least b s zero t few less = absurd (omega (arith, less))
 below_exponent least zero s (suc c) t few less =
     let more : (least + t) * 1 ≤ (least + t) * 2 ^ c = mul-le-mul_left (least + t) (pow_pos c) in
@@ -72,15 +72,15 @@ magnitude_same least b s c t left right same =
 
 -- ---- order
 
-record AreAlike (m n i j : ℕ) : Type 0 where
-  less : m < n → i < j
-  more : n < m → j < i
-  same : m ≡ n → i ≡ j
-  some : 0 < m + n → 0 < i + j
-  none : m + n ≤ 0 → i + j ≡ 0
+pub record AreAlike (m n i j : ℕ) : Type 0 where
+  pub less : m < n → i < j
+  pub more : n < m → j < i
+  pub same : m ≡ n → i ≡ j
+  pub some : 0 < m + n → 0 < i + j
+  pub none : m + n ≤ 0 → i + j ≡ 0
 
 -- magnitudes are in the order of the quanta that they stand for
-are_alike : (least b s c t : ℕ) → s < least → t < least
+pub are_alike : (least b s c t : ℕ) → s < least → t < least
     → AreAlike (b * least + s) (c * least + t) (quanta_at least b s) (quanta_at least c t)
 are_alike least b s c t left right =
     let zero_below : 0 < least = omega (arith, left) in
@@ -162,13 +162,13 @@ infinity_fits c law implied word =
     (omega (arith, law.bits, width, word))
 
 -- the fields of bits with a magnitude: the biased exponent, followed by the trailing significand
-record AreParts (c : Constants) (bits magnitude : ℕ) : Type 0 where
-  most : (fields_of (format_with c) (layout_with c) bits).biased_exponent ≤ all_ones c.exp_bits
-  few : (fields_of (format_with c) (layout_with c) bits).trailing < 2 ^ (c.precision - 1)
-  is : magnitude ≡ (fields_of (format_with c) (layout_with c) bits).biased_exponent * 2 ^ (c.precision - 1)
+pub record AreParts (c : Constants) (bits magnitude : ℕ) : Type 0 where
+  pub most : (fields_of (format_with c) (layout_with c) bits).biased_exponent ≤ all_ones c.exp_bits
+  pub few : (fields_of (format_with c) (layout_with c) bits).trailing < 2 ^ (c.precision - 1)
+  pub is : magnitude ≡ (fields_of (format_with c) (layout_with c) bits).biased_exponent * 2 ^ (c.precision - 1)
       + (fields_of (format_with c) (layout_with c) bits).trailing
 
-parts_of : (c : Constants) (bits magnitude : ℕ) → IsInterchange (format_with c) (layout_with c)
+pub parts_of : (c : Constants) (bits magnitude : ℕ) → IsInterchange (format_with c) (layout_with c)
     → c.explicit_integer_bit ≡ false → magnitude ≡ bits % 2 ^ (c.bits - 1) → AreParts c bits magnitude
 parts_of c bits magnitude law implied is =
     let e = c.exp_bits in
@@ -201,6 +201,25 @@ number_counts f negative zero trailing = refl
 number_counts f negative (suc place) trailing = let e : suc place - 1 ≡ place = omega arith in
     rw (ne_eqb (suc place) 0 (λ none. omega (arith, none)), e) refl
 
+number_below : (f : Format) (layout : Layout) (negative : Bool) (biased trailing : ℕ)
+    → biased < all_ones layout.exponent_bits
+    → implied_datum IEEE754 f layout (fields_with negative biased trailing)
+    ≡ finite negative (quanta_at (2 ^ (f.precision - 1)) biased trailing)
+number_below f layout negative biased trailing below =
+    rw (ne_eqb biased (all_ones layout.exponent_bits) (λ e. omega (arith, e, below)))
+    (number_counts f negative biased trailing)
+
+-- the number of bits below the greatest exponent
+pub number_in : (c : Constants) (bits : ℕ) → c.explicit_integer_bit ≡ false → c.nonfinite ≡ IEEE754
+    → (fields_of (format_with c) (layout_with c) bits).biased_exponent < all_ones c.exp_bits
+    → value_in c bits ≡ finite (fields_of (format_with c) (layout_with c) bits).negative
+    (quanta_at (2 ^ (c.precision - 1)) (fields_of (format_with c) (layout_with c) bits).biased_exponent
+    (fields_of (format_with c) (layout_with c) bits).trailing)
+number_in c bits implied kind below =
+    let x = fields_of (format_with c) (layout_with c) bits in
+    value_is c bits implied kind
+    ∙ number_below (format_with c) (layout_with c) x.negative x.biased_exponent x.trailing below
+
 fields_count : (f : Format) (layout : Layout) (negative : Bool) (biased trailing : ℕ)
     → biased ≤ all_ones layout.exponent_bits → trailing < 2 ^ (f.precision - 1)
     → (biased ≡ all_ones layout.exponent_bits → trailing ≡ 0)
@@ -221,7 +240,10 @@ fields_count f layout negative biased trailing most few none =
     (λ within.
     let below : biased < top = ⊎_elim (λ (h : biased < top). h) (λ (h : top ≤ biased).
     absurd (within.1 (omega (arith, h, most)))) (cases_lt biased top) in
-    inl (rw within.0 (number_counts f negative biased trailing), below_exponent least biased trailing top 0 few below))
+    inl (
+      number_below f layout negative biased trailing below,
+      below_exponent least biased trailing top 0 few below,
+    ))
     (eqb_tells biased top)
 
 pub place_is : (c : Constants) (bits magnitude infinity : ℕ) → IsInterchange (format_with c) (layout_with c)

@@ -4,6 +4,7 @@ use Rattle.apfloat_model.specs.bits.Layout.{IsEncodedBy, datum_of}
 use Rattle.apfloat_model.specs.formats.{Datum.Datum, Datum.finite, Lawful.Constants, Lawful.format_with}
 use Rattle.apfloat_model.specs.{formats.Lawful.layout_with, declared.kinds.Round.Round, order.Classes.is_nan}
 use Rattle.apfloat_model.specs.rounding.{Flags.bits_of, Rounding.IsDelivered}
+use Rattle.apfloat_model.specs.whole_numbers.WholeNumbers.{IsRoundToIntegral}
 use Rattle.fast_bits.specs.declared.encoded.Encoded.{Encoded}
 
 -- the value that bits encode
@@ -15,6 +16,10 @@ pub record IsEncodedAnswer (c : Constants) (Says : Datum → ℕ → Type 0) (an
   pub value : Datum
   pub says : Says value (bits_of answer.status)
   pub is_encoded : IsEncodedBy (format_with c) (layout_with c) answer.bits value
+
+-- the value of the bits, rounded to an integral value
+abbrev pub IsEncodedIntegral : Constants → Round → ℕ → Encoded → Type 0
+IsEncodedIntegral c mode bits = IsEncodedAnswer c (IsRoundToIntegral (format_with c) mode (value_in c bits))
 
 -- an encoded answer that is not a NaN
 pub record IsNumberAnswer (c : Constants) (Says : Datum → ℕ → Type 0) (answer : Encoded) : Type 0 where

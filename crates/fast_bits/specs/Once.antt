@@ -3,7 +3,7 @@ use Rattle.std.specs.Prelude.{◌≡◌, ℕ, ◌<◌}
 use Rattle.apfloat_model.specs.arithmetic.{Products.IsProduct, Roots.IsRoot, Sums.IsDifference, Sums.IsSum}
 use Rattle.apfloat_model.specs.{declared.kinds.Round.Round, formats.Datum.Datum, formats.Format.Format}
 use Rattle.apfloat_model.specs.formats.Lawful.{Constants, IsLawful, format_with}
-use Rattle.apfloat_model.specs.rounding.Flags.{bits_of}
+use Rattle.apfloat_model.specs.{rounding.Flags.bits_of, whole_numbers.WholeNumbers.IsRoundToIntegral}
 use Rattle.fast_bits.specs.{declared.encoded.Encoded.Encoded, Encoded.IsEncodedAnswer, Encoded.value_in}
 
 -- in a lawful format with bits, two answers of an operation on the values that two bit patterns encode are the same
@@ -27,3 +27,4 @@ pub record AreEncodedOnce : Type 0 where
   pub differences : IsEncodedOnce IsDifference
   pub products : IsEncodedOnce IsProduct
   pub roots : IsEncodedOnceOfOne IsRoot
+  pub integral_values : IsEncodedOnceOfOne IsRoundToIntegral

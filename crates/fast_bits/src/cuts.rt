@@ -32,7 +32,7 @@ pub(crate) fn inner_place<S: Flagged>(place: ExpInt) -> Option<u32>
 
 /// The status of a rounding that cuts off a rest.
 #[inline(always)]
-fn status_of(rest: u64) -> Status
+pub(crate) fn status_of(rest: u64) -> Status
     ensures exact { rest ≡ 0 → bits_of result ≡ 0 }
     ensures inexact { (rest ≡ 0 → ⊥) → bits_of result ≡ 16 }
 {
@@ -55,7 +55,7 @@ pub(crate) fn power_of(exponent: u32) -> u64
 
 /// The sign bit of an encoding.
 #[inline(always)]
-fn sign_bit<S: Flagged>(negative: bool) -> u64
+pub(crate) fn sign_bit<S: Flagged>(negative: bool) -> u64
     requires some { 0 < S.BITS }
     requires word { S.BITS ≤ 64 }
     ensures { result ≡ (if negative then 2 ^ (S.BITS - 1) else 0) }
@@ -65,7 +65,7 @@ fn sign_bit<S: Flagged>(negative: bool) -> u64
 
 /// The integer bit of a significand, which is also the unit of the biased exponent.
 #[inline(always)]
-fn integer_bit<S: Flagged>() -> u64
+pub(crate) fn integer_bit<S: Flagged>() -> u64
     requires some { 0 < S.PRECISION }
     requires short { S.PRECISION ≤ 59 }
     ensures { result ≡ 2 ^ (S.PRECISION - 1) }
@@ -76,7 +76,7 @@ fn integer_bit<S: Flagged>() -> u64
 /// The encoding of `significand * 2^place` quanta. The integer bit, added to the place, gives the biased exponent, and
 /// so does a carry to the next power of two.
 #[inline(always)]
-fn bits_at<S: Flagged>(negative: bool, significand: u64, place: u32) -> u64
+pub(crate) fn bits_at<S: Flagged>(negative: bool, significand: u64, place: u32) -> u64
     requires bits { S.PRECISION < S.BITS }
     requires word { FitsWord (constants_of S.Flagged) }
     requires full { 2 ^ (S.PRECISION - 1) ≤ significand }

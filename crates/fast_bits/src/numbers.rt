@@ -143,7 +143,7 @@ fn are_normal<S: Flagged>(high: u32, low: u32) -> bool
 
 /// The first if `is_first`, otherwise the second.
 #[inline(always)]
-fn either<T: Copy>(is_first: bool, first: T, second: T) -> T
+pub(crate) fn either<T: Copy>(is_first: bool, first: T, second: T) -> T
     ensures { result ≡ (if is_first then first else second) }
 {
     if is_first { first } else { second }

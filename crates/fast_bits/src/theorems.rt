@@ -2,8 +2,8 @@
 
 ghost use Rattle.fast_bits.specs.Once.{AreEncodedOnce};
 
-/// A sum, a difference, a product and a root from bits to bits have one answer each: the same bits, with the same
-/// flags.
+/// A sum, a difference, a product, a root and an integral value from bits to bits have one answer each: the same bits,
+/// with the same flags.
 pub fn encoded_answers_are_unique()
     ensures { AreEncodedOnce }
 {}

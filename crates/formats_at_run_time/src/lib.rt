@@ -9,6 +9,8 @@ mod flagged;
 mod in_kind;
 mod modes;
 mod value_type;
+mod x87_double;
+mod x87_single;
 
 pub use arithmetic::Arithmetic;
 pub use built_in::{BuiltInFormat, BuiltInKind};
@@ -20,3 +22,5 @@ pub use flagged::{
 pub use in_kind::{InFormat, InKind, ReadsInFormat};
 pub use modes::{mode_coded, mode_named};
 pub use value_type::ValueType;
+pub use x87_double::X87DoubleS;
+pub use x87_single::X87SingleS;

@@ -40,8 +40,7 @@ integral_together f mode (finite b n) = answer_together _ _ ok_together
 pub raise_together : (f : Format) → OperationFlagsGoTogether f
 raise_together f =
     record {
-      comparison = λ predicate on_nan x y value status h.
-          given_together _ status (invalid_if_together _) h.status_is;
+      comparison = λ predicate on_nan x y value status h. given_together _ status (invalid_if_together _) h.status_is;
       comparison_between = λ other predicate on_nan x y value status h.
           given_together _ status (invalid_if_together _) h.status_is;
       extremum = λ which x y. answer_together _ _ (invalid_if_together _);
@@ -50,8 +49,7 @@ raise_together f =
       integer_logarithm = λ x value status h. given_together _ status (invalid_if_together _) h.status_is;
       scaled = λ mode x places. scaled_together f mode x places;
       integral = λ mode x. integral_together f mode x;
-      converted = λ mode low high x value status h.
-          given_together _ status (invalid_if_together _) h.status_is;
+      converted = λ mode low high x value status h. given_together _ status (invalid_if_together _) h.status_is;
       signed_exactly = λ mode width x value status h.
           to_signed_together f mode width x value status (to_signed f mode width x).is_exact
           (record { number_is = h.number_is; status_is = h.status_is; is_exact_is = refl });

@@ -250,8 +250,7 @@ keys_of f x y e =
 same_data : (f : Format) (x y : Datum) → AreKeysSame f x y → x ≡ y
 same_data f (nan b s) (nan c t) k =
     nans_alike b c s t
-    (sym (nan_side b (is_signaling f s)) ∙ ap (λ n. ltb n 3) k.regions ∙ nan_side c (is_signaling f t))
-    k.highs k.lows
+    (sym (nan_side b (is_signaling f s)) ∙ ap (λ n. ltb n 3) k.regions ∙ nan_side c (is_signaling f t)) k.highs k.lows
 same_data f (nan b s) (infinite c) k =
     absurd (false≢true (sym (nan_apart b (is_signaling f s)) ∙ ap is_middle k.regions ∙ infinity_within c))
 same_data f (nan b s) (finite c n) k =
@@ -325,12 +324,10 @@ total_laws f = record {
       same_data f x y (keys_of f x y (even (rank f x y) (rank f y x) ((rank_total f).antisymm x y)
       (not_greater (total_order f x y) (is_gt (rank f x y)) (by_keys f x y) h)
       (not_greater (total_order f y x) (is_gt (rank f y x)) (by_keys f y x) k)));
-  transitive = λ x y z h k.
-      by_keys f x z ∙ ap not (upto (rank_total f) x y z
-      (not_greater (total_order f x y) (is_gt (rank f x y)) (by_keys f x y) h)
+  transitive = λ x y z h k. by_keys f x z
+      ∙ ap not (upto (rank_total f) x y z (not_greater (total_order f x y) (is_gt (rank f x y)) (by_keys f x y) h)
       (not_greater (total_order f y z) (is_gt (rank f y z)) (by_keys f y z) k));
-  total = λ x y.
-      one_answer (total_order f x y) (total_order f y x) (by_keys f x y) (by_keys f y x)
+  total = λ x y. one_answer (total_order f x y) (total_order f y x) (by_keys f x y) (by_keys f y x)
       (one_way (rank f x y) (rank f y x) ((rank_total f).antisymm x y));
   below = below f;
 }

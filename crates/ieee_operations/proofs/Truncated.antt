@@ -125,8 +125,7 @@ settles false true amount parts q m is_cut t order e =
     let answer : Greater ≡ int_cmp (pos amount) (neg_ℤ (pos (m * parts))) =
     int_cmp_is (pos amount) (neg_ℤ (pos (m * parts))) Greater (omega (arith, ints, t.some)) in
     by_ranked (pos q <ℤ neg_ℤ (pos m)) (pos q ≡ neg_ℤ (pos m)) (neg_ℤ (pos m) <ℤ pos q)
-    (int_cmp (pos q) (neg_ℤ (pos m))) (int_ranks (pos q) (neg_ℤ (pos m)))
-    (λ d h. absurd (omega (arith, ints, h)))
+    (int_cmp (pos q) (neg_ℤ (pos m))) (int_ranks (pos q) (neg_ℤ (pos m))) (λ d h. absurd (omega (arith, ints, h)))
     (λ d h. rw (level_zero amount parts q m is_cut t (omega (arith, ints, h)), e ∙ d) answer)
     (λ d h. stays_greater order is_cut false (e ∙ d) ∙ answer)
 settles true false amount parts q m is_cut t order e =

@@ -31,12 +31,10 @@ integral_lowered f mode (infinite b) value status h =
 integral_lowered f mode (finite b n) value status h =
     record {
       value_is = h.value_is;
-      status_is = ap (λ (t : ℕ). lowered t inexact_bit) h.status_is
-          ∙ lowered_inexact (eqb (whole_quanta f mode b n) n);
+      status_is = ap (λ (t : ℕ). lowered t inexact_bit) h.status_is ∙ lowered_inexact (eqb (whole_quanta f mode b n) n);
     }
 
-ranged_lowered : (below past exact minus_zero : Bool) (low high number : ℤ)
-    → lowered (if below then invalid_whole low
+ranged_lowered : (below past exact minus_zero : Bool) (low high number : ℤ) → lowered (if below then invalid_whole low
     else (if past then invalid_whole high else exact_or_not number exact minus_zero)).status inexact_bit
     ≡ invalid_if (below || past)
 ranged_lowered true past exact minus_zero low high number = refl

@@ -117,8 +117,7 @@ coded_number c false index law sign l =
     unsigned false z = refl
 coded_number c true zero law sign l =
     let a = apart c law in
-    number_of_code c false 0 0 (plain_code c 0 law (omega arith)) (omega arith)
-    ∙ rw (zero_point c.precision) refl
+    number_of_code c false 0 0 (plain_code c 0 law (omega arith)) (omega arith) ∙ rw (zero_point c.precision) refl
 coded_number c true (suc index) law sign l =
     let some : eqb (suc index) 0 ≡ false = ne_eqb (suc index) 0 (λ e. omega (arith, e)) in
     let least = not_below_number c.precision (suc index) law.precision_low in
@@ -213,9 +212,8 @@ pub zero_at : (c : Descriptor) (code : ℕ) {test : Bool} → IsProjection c →
     → test ≡ eqb code (nan_code c) → test ≡ false → magnitude_of c code ≡ 0 → projected_datum c code ≡ finite false 0
 zero_at c code law l is isnt none =
     let nought : code ≡ 0 = no_sign c code law l (sym is ∙ isnt) none in
-    ap (λ (n : ℕ). projected_datum c n) nought
-    ∙ number_of_code c false 0 0 (plain_code c 0 law (omega arith)) (omega arith)
-    ∙ ap (λ (n : ℕ). finite false n) (zero_point c.precision)
+    ap (λ (n : ℕ). projected_datum c n) nought ∙ number_of_code c false 0 0 (plain_code c 0 law (omega arith))
+    (omega arith) ∙ ap (λ (n : ℕ). finite false n) (zero_point c.precision)
 
 -- ---- 1
 

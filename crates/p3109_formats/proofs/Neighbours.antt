@@ -117,13 +117,11 @@ last_at true false negative codes code m four l is sign other = omega (arith, fo
 last_at false extended true codes code m four l is sign other = absurd (false≢true sign)
 last_at false true false codes code m four l is sign other =
     ⊎_elim (λ (k : m < codes - 1). omega (arith, k, four))
-    (λ (k : codes - 1 ≤ m).
-    absurd (false≢true (sym other ∙ eq-eqb code (codes - 1) (omega (arith, k, l, is)))))
+    (λ (k : codes - 1 ≤ m). absurd (false≢true (sym other ∙ eq-eqb code (codes - 1) (omega (arith, k, l, is)))))
     (cases_lt m (codes - 1))
 last_at false false false codes code m four l is sign other =
     ⊎_elim (λ (k : m < codes - 1). omega (arith, k, four))
-    (λ (k : codes - 1 ≤ m).
-    absurd (false≢true (sym other ∙ eq-eqb code (codes - 1) (omega (arith, k, l, is)))))
+    (λ (k : codes - 1 ≤ m). absurd (false≢true (sym other ∙ eq-eqb code (codes - 1) (omega (arith, k, l, is)))))
     (cases_lt m (codes - 1))
 
 pub at_most_last : (c : Descriptor) (code : ℕ) → IsProjection c → code < 2 ^ c.bits → eqb code (nan_code c) ≡ false
@@ -157,19 +155,16 @@ negative_code c code law l isnt e =
     parts_of_code c code law l ∙ ap (λ (b : Bool). cond b (unsigned_codes c) 0 + magnitude_of c code) e in
     let unknown : nan_code c ≡ unsigned_codes c =
     ap (λ (b : Bool). cond b (unsigned_codes c) (unsigned_codes c - 1)) sign in
-    let some : 0 < magnitude_of c code =
-    ⊎_elim
+    let some : 0 < magnitude_of c code = ⊎_elim
     (λ (k : magnitude_of c code < 1).
     absurd (false≢true (sym isnt ∙ eq-eqb code (nan_code c) (omega (arith, is, unknown, k)))))
-    (λ (k : 1 ≤ magnitude_of c code). omega (arith, k))
-    (cases_lt (magnitude_of c code) 1) in
+    (λ (k : 1 ≤ magnitude_of c code). omega (arith, k)) (cases_lt (magnitude_of c code) 1) in
     record { signed = sign; is = is; some = some; at = ap (λ (b : Bool). signed b (magnitude_of c code)) e }
 
 positive_code : (c : Descriptor) (code : ℕ) → IsProjection c → code < 2 ^ c.bits → is_negative_code c code ≡ false
     → code ≡ magnitude_of c code
 positive_code c code law l e =
-    parts_of_code c code law l
-    ∙ ap (λ (b : Bool). cond b (unsigned_codes c) 0 + magnitude_of c code) e ∙ omega arith
+    parts_of_code c code law l ∙ ap (λ (b : Bool). cond b (unsigned_codes c) 0 + magnitude_of c code) e ∙ omega arith
 
 -- with a sign, the code past that of a number is one, if the number is not the last
 pub past_fits : (c : Descriptor) (code : ℕ) → IsProjection c → code < 2 ^ c.bits → is_negative_code c code ≡ true

@@ -37,16 +37,13 @@ pub point_pick_once : (p : ℕ) (mode : ConversionRound) (negative : Bool) (amou
     → IsPointPickBy p mode negative amount parts i → IsPointPickBy p mode negative amount parts j → i ≡ j
 point_pick_once p mode negative amount parts i j some = by_digits (eqb p 1)
   where
-    by_digits : (one : Bool)
-        → MatchBool one (IsCodePickBy p mode negative amount parts i)
+    by_digits : (one : Bool) → MatchBool one (IsCodePickBy p mode negative amount parts i)
         (IsPickBy p mode negative amount parts (point p i))
         → MatchBool one (IsCodePickBy p mode negative amount parts j)
-        (IsPickBy p mode negative amount parts (point p j))
-        → i ≡ j
+        (IsPickBy p mode negative amount parts (point p j)) → i ≡ j
     by_digits true x y =
         index_pick_once (takes_next mode negative) (point p) amount parts i j
-        (λ a b less. points_in_order p a b some less)
-        x y
+        (λ a b less. points_in_order p a b some less) x y
     by_digits false x y = one_number p i j some (pick_by_once p mode negative amount parts (point p i) (point p j) x y)
 
 pub random_pick_once : (p : ℕ) (mode : Round) (bits : RandomDigits) (amount parts i j : ℕ) → 0 < p
@@ -98,8 +95,7 @@ parts_of_code c code law l = by_sign c.signed refl
         ∙ ap (λ (s : Bool). cond (s && leb (unsigned_codes c) code) (unsigned_codes c) 0 + magnitude_of c code) (sym e)
     by_sign false e =
         let width : sign_bits c ≡ 0 = ap (λ (s : Bool). cond s 1 0) e in
-        let all : unsigned_codes c ≡ 2 ^ c.bits =
-        ap (λ (n : ℕ). 2 ^ (c.bits - n)) width
+        let all : unsigned_codes c ≡ 2 ^ c.bits = ap (λ (n : ℕ). 2 ^ (c.bits - n)) width
         ∙ ap (λ (n : ℕ). 2 ^ n) (let z : c.bits - 0 ≡ c.bits = omega arith in z) in
         let itself : magnitude_of c code ≡ code = mod-eq_of_lt (omega (arith, l, all)) in
         let added : magnitude_of c code ≡ 0 + magnitude_of c code = omega arith in
@@ -154,8 +150,7 @@ projected_code_once c code other law l k e =
     same_index : (c : Descriptor) (code other : ℕ) → IsProjection c → code < 2 ^ c.bits → other < 2 ^ c.bits
         → eqb code (nan_code c) ≡ false → eqb other (nan_code c) ≡ false → (past also : Bool) (negative : Bool)
         → ltb (largest_index c) (magnitude_of c code) ≡ past → ltb (largest_index c) (magnitude_of c other) ≡ also
-        → past ≡ also
-        → quanta_of (datum_by false past negative (point c.precision (magnitude_of c code)))
+        → past ≡ also → quanta_of (datum_by false past negative (point c.precision (magnitude_of c code)))
         ≡ quanta_of (datum_by false also negative (point c.precision (magnitude_of c other)))
         → magnitude_of c code ≡ magnitude_of c other
     same_index c code other law l k isnt none true true negative p a same e =
@@ -165,13 +160,12 @@ projected_code_once c code other law l k e =
     same_index c code other law l k isnt none false false negative p a same e =
         one_number c.precision (magnitude_of c code) (magnitude_of c other) law.precision_low e
 
-    both_known : (c : Descriptor) (code other : ℕ) → IsProjection c → code < 2 ^ c.bits → other < 2 ^ c.bits
-        → eqb code (nan_code c) ≡ false → eqb other (nan_code c) ≡ false
+    both_known : (c : Descriptor) (code other : ℕ) → IsProjection c → code < 2 ^ c.bits
+        → other < 2 ^ c.bits → eqb code (nan_code c) ≡ false → eqb other (nan_code c) ≡ false
         → datum_by false (ltb (largest_index c) (magnitude_of c code)) (is_negative_code c code)
         (point c.precision (magnitude_of c code))
         ≡ datum_by false (ltb (largest_index c) (magnitude_of c other)) (is_negative_code c other)
-        (point c.precision (magnitude_of c other))
-        → code ≡ other
+        (point c.precision (magnitude_of c other)) → code ≡ other
     both_known c code other law l k isnt none e =
         let past : Bool = ltb (largest_index c) (magnitude_of c code) in
         let also : Bool = ltb (largest_index c) (magnitude_of c other) in
@@ -180,8 +174,7 @@ projected_code_once c code other law l k e =
         let e' = rw sign at e in
         let index = same_index c code other law l k isnt none past also (is_negative_code c other) refl refl same
         (ap quanta_of e') in
-        parts_of_code c code law l
-        ∙ ap (λ (b : Bool). cond b (unsigned_codes c) 0 + magnitude_of c code) sign
+        parts_of_code c code law l ∙ ap (λ (b : Bool). cond b (unsigned_codes c) 0 + magnitude_of c code) sign
         ∙ ap (λ (n : ℕ). cond (is_negative_code c other) (unsigned_codes c) 0 + n) index
         ∙ sym (parts_of_code c other law k)
 
@@ -216,14 +209,12 @@ number_once c f rule b n code other status flags loses lost law l k x y =
       x.loses_is ∙ ap (λ (s : ℕ). not (eqb s ok_bits)) told ∙ sym y.loses_is,
     )
 
-infinity_once : (c : Descriptor) (saturation : Saturation) (b : Bool) (code other status flags : ℕ)
-    (loses lost : Bool) → IsProjection c → code < 2 ^ c.bits → other < 2 ^ c.bits
-    → IsInfinityBy saturation c b code status loses → IsInfinityBy saturation c b other flags lost
-    → AreSame code status loses other flags lost
+infinity_once : (c : Descriptor) (saturation : Saturation) (b : Bool) (code other status flags : ℕ) (loses lost : Bool)
+    → IsProjection c → code < 2 ^ c.bits → other < 2 ^ c.bits → IsInfinityBy saturation c b code status loses
+    → IsInfinityBy saturation c b other flags lost → AreSame code status loses other flags lost
 infinity_once c saturation b code other status flags loses lost law l k = by_rule saturation
   where
-    plain : (extended : Bool)
-        → MatchBool extended (IsCodeOf c (infinite b) 0 false code status loses)
+    plain : (extended : Bool) → MatchBool extended (IsCodeOf c (infinite b) 0 false code status loses)
         (IsCodeOf c (nan false 0) 16 true code status loses)
         → MatchBool extended (IsCodeOf c (infinite b) 0 false other flags lost)
         (IsCodeOf c (nan false 0) 16 true other flags lost) → AreSame code status loses other flags lost
@@ -239,15 +230,12 @@ infinity_once c saturation b code other status flags loses lost law l k = by_rul
 pub projected_by_once : IsProjectedByOnce
 projected_by_once c f rule (nan b s) code other status flags loses lost law l k x y =
     given_once c _ _ _ code other status flags loses lost law l k x y
-projected_by_once c f rule (infinite b) code other status flags loses lost law l k x y =
-    by_sign (b && not c.signed) x y
+projected_by_once c f rule (infinite b) code other status flags loses lost law l k x y = by_sign (b && not c.signed) x y
   where
-    by_sign : (none : Bool)
-        → MatchBool none (IsCodeOf c (nan false 0) 1 true code status loses)
+    by_sign : (none : Bool) → MatchBool none (IsCodeOf c (nan false 0) 1 true code status loses)
         (IsInfinityBy rule.saturation c b code status loses)
         → MatchBool none (IsCodeOf c (nan false 0) 1 true other flags lost)
-        (IsInfinityBy rule.saturation c b other flags lost)
-        → AreSame code status loses other flags lost
+        (IsInfinityBy rule.saturation c b other flags lost) → AreSame code status loses other flags lost
     by_sign true x y = given_once c _ _ _ code other status flags loses lost law l k x y
     by_sign false x y = infinity_once c rule.saturation b code other status flags loses lost law l k x y
 projected_by_once c f rule (finite b zero) code other status flags loses lost law l k x y =
@@ -264,8 +252,7 @@ point_pick_of : (p : ℕ) (mode : Round) (negative : Bool) (amount parts index :
     → IsPointPickBy p (Ieee mode) negative amount parts index → IsPointPick p mode negative amount parts index
 point_pick_of p mode negative amount parts index = by_digits (eqb p 1)
   where
-    by_digits : (one : Bool)
-        → MatchBool one (IsCodePickBy p (Ieee mode) negative amount parts index)
+    by_digits : (one : Bool) → MatchBool one (IsCodePickBy p (Ieee mode) negative amount parts index)
         (IsPickBy p (Ieee mode) negative amount parts (point p index))
         → MatchBool one (IsCodePick p mode negative amount parts index)
         (IsPick p mode negative amount parts (point p index))
@@ -276,8 +263,7 @@ point_pick_by : (p : ℕ) (mode : Round) (negative : Bool) (amount parts index :
     → IsPointPick p mode negative amount parts index → IsPointPickBy p (Ieee mode) negative amount parts index
 point_pick_by p mode negative amount parts index = by_digits (eqb p 1)
   where
-    by_digits : (one : Bool)
-        → MatchBool one (IsCodePick p mode negative amount parts index)
+    by_digits : (one : Bool) → MatchBool one (IsCodePick p mode negative amount parts index)
         (IsPick p mode negative amount parts (point p index))
         → MatchBool one (IsCodePickBy p (Ieee mode) negative amount parts index)
         (IsPickBy p (Ieee mode) negative amount parts (point p index))

@@ -21,12 +21,10 @@ pub record IsAt (most index : ℕ) (past : Bool) : Type 0 where
 pub at_most_past : (c : Descriptor) (code : ℕ) → IsProjection c → code < 2 ^ c.bits → eqb code (nan_code c) ≡ false
     → IsAt (largest_index c) (magnitude_of c code) (ltb (largest_index c) (magnitude_of c code))
 at_most_past c code law l other = record {
-  number = λ e.
-      ⊎_elim
+  number = λ e. ⊎_elim
       (λ (k : largest_index c < magnitude_of c code).
       absurd (false≢true (sym e ∙ lt-ltb (largest_index c) (magnitude_of c code) k)))
-      (λ (k : magnitude_of c code ≤ largest_index c). k)
-      (cases_lt (largest_index c) (magnitude_of c code));
+      (λ (k : magnitude_of c code ≤ largest_index c). k) (cases_lt (largest_index c) (magnitude_of c code));
   infinity = λ e. infinity_index c code law l other (ltb-true _ _ e);
 }
 

@@ -19,10 +19,8 @@ use Rattle.p3109_formats.proofs.OneAnswer.{random_pick_once}
 -- the index of a point is greater exactly if the point is
 order_kept : (p i j : ℕ) → 0 < p → ltb i j ≡ ltb (point p i) (point p j)
 order_kept p i j some =
-    ⊎_elim
-    (λ (l : i < j). lt-ltb i j l ∙ sym (lt-ltb (point p i) (point p j) (points_in_order p i j some l)))
-    (λ (l : j ≤ i). le-ltb i j l ∙ sym (le-ltb (point p i) (point p j) (not_greater p j i some l)))
-    (cases_lt i j)
+    ⊎_elim (λ (l : i < j). lt-ltb i j l ∙ sym (lt-ltb (point p i) (point p j) (points_in_order p i j some l)))
+    (λ (l : j ≤ i). le-ltb i j l ∙ sym (le-ltb (point p i) (point p j) (not_greater p j i some l))) (cases_lt i j)
 
 -- random digits do not ask what is odd, so their picks by codes are those by significands
 random_pick : (p : ℕ) (bits : RandomDigits) (negative : Bool) (amount parts index : ℕ) → 0 < p → 0 < parts
@@ -30,8 +28,7 @@ random_pick : (p : ℕ) (bits : RandomDigits) (negative : Bool) (amount parts in
     → IsPickBy p (Stochastic bits) negative amount parts (point p index)
 random_pick p bits negative amount parts index one some = by_digits (eqb p 1)
   where
-    by_digits : (single : Bool)
-        → MatchBool single (IsCodePickBy p (Stochastic bits) negative amount parts index)
+    by_digits : (single : Bool) → MatchBool single (IsCodePickBy p (Stochastic bits) negative amount parts index)
         (IsPickBy p (Stochastic bits) negative amount parts (point p index))
         → IsPickBy p (Stochastic bits) negative amount parts (point p index)
     by_digits true x = code_pick_by p (Stochastic bits) negative amount parts index one some (λ m c by to. refl) x
@@ -49,9 +46,8 @@ random_codes_counted p digits low amount parts negative bits index one some from
     subst (λ (n : ℕ). IsAbove p n amount parts) (sym (form_next p low one f))
     (above_is_next p (2 ^ (p - 1)) f.m f.c amount parts i (omega (arith, from, at_parts))) in
     same_count (λ (k : ℕ). ltb low (index k)) (λ (k : ℕ). ltb (point p low) (point p (index k))) (2 ^ digits)
-    (λ k h. order_kept p low (index k) one)
-    ∙ random_numbers_counted p digits (point p low) (point p (low + 1)) amount parts negative bits
-    (λ (k : ℕ). point p (index k)) some (increasing p low one) below above all
+    (λ k h. order_kept p low (index k) one) ∙ random_numbers_counted p digits (point p low) (point p (low + 1))
+    amount parts negative bits (λ (k : ℕ). point p (index k)) some (increasing p low one) below above all
     (λ k h. random_pick p (bits k) negative amount parts (index k) one some (picks k h))
 
 -- ---- rounded parts
@@ -78,8 +74,7 @@ rounded_parts_counted p digits low amount parts mode bits index one from to all 
     let fewer = rounded_fit mode digits by rest (omega (arith, to)) in
     let off : eqb (point p low * parts) amount ≡ false =
     ne_eqb (point p low * parts) amount (λ e. omega (arith, e, from)) in
-    let test : (k : ℕ) → k < top → ltb low (index k) ≡ leb top (share + k) =
-    λ k h.
+    let test : (k : ℕ) → k < top → ltb low (index k) ≡ leb top (share + k) = λ k h.
     let a = all k h in
     let takes : ℕ → ℕ → Bool → Bool = λ below above odd. reaches_next mode (bits k) below above in
     let here : IsRandomPick p mode (bits k) amount parts (index_between takes (point p) amount parts low) =

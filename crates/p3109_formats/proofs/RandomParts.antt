@@ -39,14 +39,12 @@ parts_kept number places digits high share amount parts mode loss l top low h so
     let r : ℕ = number % 2 ^ places in
     let e : places ≡ digits + j = omega (arith, l) in
     let width : k * t ≡ 2 ^ places = sym (ap (λ (n : ℕ). 2 ^ n) e ∙ pow-add 2 digits j ∙ omega arith) in
-    let sum : r ≡ share * k + number % k =
-    ap (λ (n : ℕ). number % 2 ^ n) e ∙ mod-pow-add number digits j
+    let sum : r ≡ share * k + number % k = ap (λ (n : ℕ). number % 2 ^ n) e ∙ mod-pow-add number digits j
     ∙ ap (λ (n : ℕ). n * k + number % k) (ap (λ (n : ℕ). n % t) (sym top) ∙ sym low) in
     let all : number ≡ high * k + number % k =
     sym (div-add-mod' number k) ∙ ap (λ (n : ℕ). n * k + number % k) (sym top) in
     let one : k * 1 ≡ k = omega arith in
-    let rest : StandsFor share loss r k =
-    rest_stands high share k (number % k) number r loss all sum
+    let rest : StandsFor share loss r k = rest_stands high share k (number % k) number r loss all sum
     (subst (λ (n : ℕ). StandsFor high loss number n) one h) in
     let amounts : r * (t * parts) ≡ amount * 2 ^ places = omega (arith, is) in
     let units : k * (t * parts) ≡ parts * 2 ^ places = omega arith ∙ ap (λ (n : ℕ). parts * n) width in

@@ -33,11 +33,9 @@ has_point true false none h = absurd (false≢true (h refl))
 has_point false signed none h = refl
 
 pub past_projected : (c : Descriptor) (mode : Round) (leads negative : Bool) (amount parts index code status : ℕ)
-    → (negative ≡ true → c.signed ≡ true) → largest_index c < index
-    → projected_datum c code
+    → (negative ≡ true → c.signed ≡ true) → largest_index c < index → projected_datum c code
     ≡ cond leads (past_value c negative) (finite negative (point c.precision (largest_index c)))
-    → status ≡ cond (leads_out mode negative) 20 16
-    → IsProjectedAt c mode leads negative amount parts index code status
+    → status ≡ cond (leads_out mode negative) 20 16 → IsProjectedAt c mode leads negative amount parts index code status
 past_projected c mode leads negative amount parts index code status h l value flags =
     let here : lacks_point c negative index ≡ false = has_point negative c.signed (eqb index 0) h in
     let past : ltb (largest_index c) index ≡ true = lt-ltb (largest_index c) index l in
@@ -51,8 +49,7 @@ pub within_projected : (c : Descriptor) (mode : Round) (leads negative : Bool) (
     → IsProjectedAt c mode leads negative amount parts index code status
 within_projected c mode leads negative amount parts index code status exact here l same value flags =
     let within : ltb (largest_index c) index ≡ false = le-ltb (largest_index c) index l in
-    let told = flags
-    ∙ ap (λ (b : Bool). cond b 0 (cond (ltb index (2 ^ (c.precision - 1))) 24 16)) same in
+    let told = flags ∙ ap (λ (b : Bool). cond b 0 (cond (ltb index (2 ^ (c.precision - 1))) 24 16)) same in
     record { value_is = rw (here, within) value; status_is = rw (here, within) told }
 
 -- zero is the same with either sign
@@ -76,8 +73,7 @@ pub lacking_projected : (c : Descriptor) (mode : Round) (leads : Bool) (amount p
     → c.signed ≡ false → (index ≡ 0 → ⊥) → projected_datum c code ≡ nan false 0 → status ≡ invalid_bit
     → IsProjectedAt c mode leads true amount parts index code status
 lacking_projected c mode leads amount parts index code status unsigned some value flags =
-    let lacks : lacks_point c true index ≡ true =
-    ap (λ (b : Bool). (true && not b) && not (eqb index 0)) unsigned
+    let lacks : lacks_point c true index ≡ true = ap (λ (b : Bool). (true && not b) && not (eqb index 0)) unsigned
     ∙ ap (λ (b : Bool). true && not b) (ne_eqb index 0 some) in
     record { value_is = rw lacks value; status_is = rw lacks flags }
 
@@ -167,10 +163,9 @@ lacks_no_sign false signed e = absurd (false≢true e)
 -- ---- out
 
 -- the NaN of a format with one NaN at the code of -0, whatever its precision
-pub nan_converted : (c : Descriptor) (g : Format) (mode : Round) (code : ℕ) (value : Datum) (status : ℕ)
-    (loses : Bool) → projected_datum c code ≡ nan false 0
-    → value ≡ nan (nan_sign g.nonfinite false) (quiet_significand g 0)
-    → status ≡ ok_bits → loses ≡ false
+pub nan_converted : (c : Descriptor) (g : Format) (mode : Round) (code : ℕ) (value : Datum) (status : ℕ) (loses : Bool)
+    → projected_datum c code ≡ nan false 0
+    → value ≡ nan (nan_sign g.nonfinite false) (quiet_significand g 0) → status ≡ ok_bits → loses ≡ false
     → IsConversion (projected_format c) g mode (projected_datum c code) value status loses
 nan_converted c g mode code value status loses is v s l =
     let none : 0 * 2 ^ (g.precision - c.precision) / 2 ^ 0 ≡ 0 = omega arith in
@@ -190,17 +185,15 @@ infinity_converted c f g mode code negative value status loses is h =
     subst (λ (x : Datum). IsConversion (projected_format c) g mode x value status loses) (sym is) h
 
 pub zero_converted : (c : Descriptor) (f g : Format) (mode : Round) (code : ℕ) (value : Datum) (status : ℕ)
-    (loses : Bool) → projected_datum c code ≡ finite false 0
-    → IsConversion f g mode (finite false 0) value status loses
+    (loses : Bool) → projected_datum c code ≡ finite false 0 → IsConversion f g mode (finite false 0) value status loses
     → IsConversion (projected_format c) g mode (projected_datum c code) value status loses
 zero_converted c f g mode code value status loses is h =
     subst (λ (x : Datum). IsConversion (projected_format c) g mode x value status loses) (sym is) h
 
-pub number_converted : (c : Descriptor) (g : Format) (mode : Round) (code index : ℕ) (negative : Bool) (value : Datum)
-    (status : ℕ) (loses : Bool) → 0 < c.precision → 0 < index
-    → projected_datum c code ≡ finite negative (point c.precision index)
-    → IsDelivered g mode negative (point c.precision index * 2 ^ g.scale) (2 ^ (projected_format c).scale) value
-    status
+pub number_converted : (c : Descriptor)
+    (g : Format) (mode : Round) (code index : ℕ) (negative : Bool) (value : Datum) (status : ℕ) (loses : Bool)
+    → 0 < c.precision → 0 < index → projected_datum c code ≡ finite negative (point c.precision index)
+    → IsDelivered g mode negative (point c.precision index * 2 ^ g.scale) (2 ^ (projected_format c).scale) value status
     → loses ≡ not (eqb status ok_bits)
     → IsConversion (projected_format c) g mode (projected_datum c code) value status loses
 number_converted c g mode code index negative value status loses some p is h l =

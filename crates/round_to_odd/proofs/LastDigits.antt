@@ -32,8 +32,7 @@ pub ends_above : (f : Format) (least exponent : ℤ) → pos f.scale ≡ pos (f.
     → (least -ℤ pos (f.precision - 1)) ≤ℤ exponent → 0 ≡ down (exponent +ℤ pos f.scale)
 ends_above f least exponent scale from =
     ⊎_elim (λ (none : up (exponent +ℤ pos f.scale) ≡ 0). omega (arith, ints, scale, from, none))
-    (λ (none : down (exponent +ℤ pos f.scale) ≡ 0). sym none)
-    (one_side (exponent +ℤ pos f.scale))
+    (λ (none : down (exponent +ℤ pos f.scale) ≡ 0). sym none) (one_side (exponent +ℤ pos f.scale))
 
 -- half of a number of units is a whole number of them if the number is even
 pub half_is_whole : (m w : ℕ) → 0 < w → not (eqb (m * w % (2 * w)) 0) ≡ eqb (m % 2) 1
@@ -49,9 +48,8 @@ half_is_whole m w p =
     let one : m % 2 ≡ 1 = omega (arith, z) in
     let some : m * w % (2 * w) ≡ 0 → ⊥ =
     λ (y : m * w % (2 * w) ≡ 0).
-    let d : m * w / (2 * w) * (2 * w) + m * w % (2 * w) ≡ m * w = div-add-mod' (m * w) (2 * w) in
     let t : ℕ = m * w / (2 * w) in
-    let e : m ≡ t * 2 = eq_of_mul-eq-mul_right w p m (t * 2) (omega (arith, d, y)) in
+    let e : m ≡ t * 2 = eq_of_mul-eq-mul_right w p m (t * 2) (omega (arith, div-add-mod' (m * w) (2 * w), y)) in
     omega (arith, e, one) in
     rw (ne_eqb (m * w % (2 * w)) 0 some, eq-eqb (m % 2) 1 one) refl)
     (cases_lt (m % 2) 1)
@@ -61,20 +59,18 @@ half_is_whole m w p =
 next_above : (precision half m c n : ℕ) → IsEnclosed precision half m c n 1 → n ≡ m * 2 ^ c
     → IsAbove precision ((m + 1) * 2 ^ c) (n + 1) 1
 next_above precision half m c n i e =
-    let w : 0 < 2 ^ c = pow_pos c in
     let between : IsEnclosed precision half m c (2 * n + 1) 2 = record {
       double = i.double;
       fits = i.fits;
       full = i.full;
       from = omega (arith, e);
-      to = omega (arith, e, w);
+      to = omega (arith, e, pow_pos c);
     } in
     let a : IsAbove precision ((m + 1) * 2 ^ c) (2 * n + 1) 2 =
     above_is_next precision half m c (2 * n + 1) 2 between (omega (arith, e)) in
-    let b = a.not_below in
     record {
       on_grid = a.on_grid;
-      not_below = omega (arith, b);
+      not_below = omega (arith, a.not_below);
       least = λ other g l. a.least other g (omega (arith, l));
     }
 
@@ -82,11 +78,9 @@ next_above precision half m c n i e =
 last_digit : (precision q m c above : ℕ) → IsEnclosed precision (2 ^ (precision - 1)) m c q 1 → q ≡ m * 2 ^ c
     → IsAbove precision above (q + 1) 1 → is_odd_below q above ≡ eqb (m % 2) 1
 last_digit precision q m c above i is next =
-    let above_is : above ≡ (m + 1) * 2 ^ c =
-    above_unique precision above ((m + 1) * 2 ^ c) (q + 1) 1 next
+    let above_is : above ≡ (m + 1) * 2 ^ c = above_unique precision above ((m + 1) * 2 ^ c) (q + 1) 1 next
     (next_above precision (2 ^ (precision - 1)) m c q i is) in
-    ap (λ (z : ℕ). is_odd_below q z) above_is ∙ ap (λ (z : ℕ). is_odd_below z ((m + 1) * 2 ^ c)) is
-    ∙ odd_below_is m c
+    ap (λ (z : ℕ). is_odd_below q z) above_is ∙ ap (λ (z : ℕ). is_odd_below z ((m + 1) * 2 ^ c)) is ∙ odd_below_is m c
 
 -- ---- the digit of the quantum, or the last one above it
 
@@ -103,8 +97,7 @@ few_below precision q s unit digits some fits number =
     (λ (below : 1 ≤ down unit).
     let e : up unit ≡ 0 = up_none unit below in
     let at : q * 2 ^ down unit ≡ s = number ∙ ap (λ (n : ℕ). s * 2 ^ n) e ∙ omega arith in
-    let least : 1 * 2 ^ down unit ≤ q * 2 ^ down unit = mul-le-mul_right (2 ^ down unit) some in
-    exponent_below (down unit) precision (omega (arith, least, at, fits)))
+    exponent_below (down unit) precision (omega (arith, mul-le-mul_right (2 ^ down unit) some, at, fits)))
     (cases_lt (down unit) 1)
 
 -- the last digit is odd exactly if that digit of the significand is
@@ -126,9 +119,8 @@ odd_read precision q s above unit some fits full number next =
     let u : up unit ≡ 0 = up_none unit below in
     let at : q * 2 ^ down unit ≡ s = number ∙ ap (λ (n : ℕ). s * 2 ^ n) u ∙ omega arith in
     let is : q ≡ q * 2 ^ 0 = omega arith in
-    let least : q * 1 ≤ q * 2 ^ down unit = mul-le-mul_left q (pow_pos (down unit)) in
     let i : IsEnclosed precision half q 0 q 1 =
-    enclosed half q 0 double (omega (arith, least, at, fits)) (inl refl) is in
+    enclosed half q 0 double (omega (arith, mul-le-mul_left q (pow_pos (down unit)), at, fits)) (inl refl) is in
     ap (λ (n : ℕ). eqb (n % 2) 1) (zeros_cut q s (down unit) at)
     ∙ sym (last_digit precision q q 0 above i is next))
     (cases_lt (down unit) 1)
@@ -136,11 +128,10 @@ odd_read precision q s above unit some fits full number next =
     enclosed : (half m c : ℕ) → 2 ^ precision ≡ 2 * half → m < 2 ^ precision → (c ≡ 0) ⊎ (half ≤ m) → q ≡ m * 2 ^ c
         → IsEnclosed precision half m c q 1
     enclosed half m c double fits full is =
-        let w : 0 < 2 ^ c = pow_pos c in
         record {
           double = double;
           fits = fits;
           full = full;
           from = omega (arith, is);
-          to = omega (arith, is, w);
+          to = omega (arith, is, pow_pos c);
         }

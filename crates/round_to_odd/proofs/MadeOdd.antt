@@ -21,18 +21,15 @@ next_is : (precision below above next amount parts : ℕ) → 0 < parts → belo
     → IsBelow precision below amount parts → IsAbove precision above amount parts
     → IsAbove precision next (below + 1) 1 → next ≡ above
 next_is precision below above next amount parts p h x y z =
-    let a = y.not_below in
-    let l : below < above = lt_of_mul-lt-mul_right parts (omega (arith, a, h)) in
+    let l : below < above = lt_of_mul-lt-mul_right parts (omega (arith, y.not_below, h)) in
     let k : next ≤ above = z.least above y.on_grid (omega (arith, l)) in
-    let b = z.not_below in
     let m : amount ≤ next * parts =
     ⊎_elim
     (λ (q : next * parts < amount).
-    let n : next ≤ below = x.greatest next z.on_grid (omega (arith, q)) in absurd (omega (arith, n, b)))
+    let n : next ≤ below = x.greatest next z.on_grid (omega (arith, q)) in absurd (omega (arith, n, z.not_below)))
     (λ (q : amount ≤ next * parts). q)
     (cases_lt (next * parts) amount) in
-    let n : above ≤ next = y.least next z.on_grid m in
-    omega (arith, k, n)
+    omega (arith, k, y.least next z.on_grid m)
 
 -- ---- values
 
@@ -46,11 +43,10 @@ largest_stays f negative value result e made =
     rw (or_right (is_odd_below (largest f) y.above) (eqb (largest f) (largest f)) (eqb_self (largest f))) refl
 
 -- an inexact value toward zero, made odd
-inexact_made : (f : Format) (negative : Bool) (amount parts below above : ℕ) (value result : Datum) → 3 ≤ f.precision
-    → 0 < parts → below ≤ largest f → below * parts < amount → IsBelow f.precision below amount parts
+inexact_made : (f : Format) (negative : Bool) (amount parts below above : ℕ) (value result : Datum)
+    → 3 ≤ f.precision → 0 < parts → below ≤ largest f → below * parts < amount → IsBelow f.precision below amount parts
     → IsAbove f.precision above amount parts → value ≡ signed_quanta f.nonfinite negative below
-    → IsMadeOdd f negative value result
-    → result ≡ delivered_value f TowardZero negative (odd_between below above)
+    → IsMadeOdd f negative value result → result ≡ delivered_value f TowardZero negative (odd_between below above)
 inexact_made f negative amount parts below above value result precise some l h x y e made =
     let sign : Bool = if eqb below 0 then zero_sign f.nonfinite negative else negative in
     let z : IsMadeOddNumber f negative sign below result =
@@ -62,8 +58,7 @@ inexact_made f negative amount parts below above value result precise some l h x
     ap (λ (v : ℕ). if is_odd_below below v || eqb below (largest f) then finite sign below else finite negative v) n in
     let stays : finite sign below ≡ signed_quanta f.nonfinite negative below =
     sym (quanta_are f.nonfinite negative below) in
-    let a = y.not_below in
-    let order : below < above = lt_of_mul-lt-mul_right parts (omega (arith, a, h)) in
+    let order : below < above = lt_of_mul-lt-mul_right parts (omega (arith, y.not_below, h)) in
     ⊎_elim
     (λ (t : is_odd_below below above ≡ true).
     r ∙ rw (t, le-ltb (largest f) below l) stays)
@@ -100,12 +95,11 @@ tiny_flag false status e = ap (λ (s : ℕ). has_flag s inexact_bit) e
 
 -- the value that is made of the answer for a lower neighbour
 made_value : (f : Format) (negative : Bool) (amount parts below above : ℕ) (answer result : StatusAnd Datum)
-    → 3 ≤ f.precision → 0 < parts → IsBelow f.precision below amount parts → IsAbove f.precision above amount parts
-    → answer.value ≡ delivered_value f TowardZero negative below
+    → 3 ≤ f.precision → 0 < parts → IsBelow f.precision below amount parts
+    → IsAbove f.precision above amount parts → answer.value ≡ delivered_value f TowardZero negative below
     → bits_of answer.status ≡ delivered_status f TowardZero negative amount parts below
     → MatchBool (has_flag (bits_of answer.status) inexact_bit) (IsMadeOdd f negative answer.value result.value)
-    (result.value ≡ answer.value)
-    → result.value ≡ delivered_value f TowardZero negative (odd_between below above)
+    (result.value ≡ answer.value) → result.value ≡ delivered_value f TowardZero negative (odd_between below above)
 made_value f negative amount parts below above answer result precise some x y v s made =
     let order : below ≤ above = below_le_above f.precision below above amount parts some x y in
     ⊎_elim

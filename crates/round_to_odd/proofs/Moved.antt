@@ -5,7 +5,7 @@ use Rattle.std.proofs.lemmas.Bool.{MatchBool-at_false, eqb-true, ne_eqb, or_part
 use Rattle.apfloat_model.specs.declared.kinds.Category.TheVariants.{Normal, Zero}
 use Rattle.apfloat_model.specs.formats.Datum.{Datum, finite, infinite, nan}
 use Rattle.apfloat_model.specs.formats.Format.{Format, largest}
-use Rattle.apfloat_model.specs.arithmetic.NextUp.{IsNextUp, IsNextGreater, IsNextOfNumber}
+use Rattle.apfloat_model.specs.arithmetic.NextUp.{IsNextUp, IsNextGreater}
 use Rattle.apfloat_model.specs.order.Classes.{category_of, is_negative, quanta_of}
 use Rattle.apfloat_model.specs.rounding.{Grid.IsOnGrid, Grid.IsAbove, Negation.negated}
 use Rattle.apfloat_model.proofs.general.{Choices.not_zero, Choices.above_zero, Powers.twice_half}
@@ -41,12 +41,10 @@ stays_made f negative (finite b n) y test precise e d stays t =
     let q : quanta_of y ≡ n = ap quanta_of (magnitude_is f (finite b n) y e d) in
     let stays' : StaysIf f n test = subst (λ (k : ℕ). StaysIf f k test) q stays in
     let a = next_point f n precise in
-    let yes : (is_odd_below n a.0 || eqb n (largest f)) ≡ true = sym (stays' a.0 a.1) ∙ t in
     record {
       above = a.0;
       is_above = a.1;
-      value_is =
-          sym (ap (λ (v : Bool). if v then finite b n else finite negative a.0) yes);
+      value_is = sym (ap (λ (v : Bool). if v then finite b n else finite negative a.0) (sym (stays' a.0 a.1) ∙ t));
     }
 stays_made f negative (infinite b) y test precise e d stays t = refl
 stays_made f negative (nan b s) y test precise e d stays t = refl
@@ -55,10 +53,8 @@ stays_made f negative (nan b s) y test precise e d stays t = refl
 next_greater : (f : Format) (y value : Datum) (n status : ℕ) → y ≡ finite false n → 0 < n
     → eqb n (largest f) ≡ false → IsNextUp f y value status → IsNextGreater f n value status
 next_greater f y value n status e some below up =
-    let at : IsNextUp f (finite false n) value status =
-    subst (λ (v : Datum). IsNextUp f v value status) e up in
-    let number : IsNextOfNumber f false n value status = MatchBool-at_false _ _ (not_zero n some) at in
-    MatchBool-at_false _ _ below number
+    let at : IsNextUp f (finite false n) value status = subst (λ (v : Datum). IsNextUp f v value status) e up in
+    MatchBool-at_false _ _ below (MatchBool-at_false _ _ (not_zero n some) at)
 
 -- a number that moves
 pub moves_made : (f : Format) (negative : Bool) (x y next result : Datum) (test : Bool) (status : ℕ)
@@ -74,12 +70,11 @@ moves_made f negative (finite b n) y next result test status precise e d stays t
     let greater = next_greater f y next n status m (above_zero n (number_only (eqb n 0) e)) none.1 up in
     let no : (is_odd_below n greater.next || eqb n (largest f)) ≡ false =
     sym (stays' greater.next greater.is_above) ∙ t in
-    let least = greater.is_above.not_below in
     record {
       above = greater.next;
       is_above = greater.is_above;
       value_is =
-          signed greater.next (omega (arith, least)) greater.is.value_is
+          signed greater.next (omega (arith, greater.is_above.not_below)) greater.is.value_is
           ∙ sym (ap (λ (v : Bool). if v then finite b n else finite negative greater.next) no);
     }
 moves_made f negative (infinite b) y next result test status precise e d stays t up signed = cc

@@ -14,8 +14,7 @@ to_odd_once f negative amount parts answer other x y =
     let b : x.below ≡ y.below = below_unique f.precision x.below y.below amount parts x.is_below y.is_below in
     let a : x.above ≡ y.above = above_unique f.precision x.above y.above amount parts x.is_above y.is_above in
     same_answer answer other
-    (x.value_is
-    ∙ ap (λ (z : ℕ). delivered_value f TowardZero negative (odd_between z x.above)) b
+    (x.value_is ∙ ap (λ (z : ℕ). delivered_value f TowardZero negative (odd_between z x.above)) b
     ∙ ap (λ (z : ℕ). delivered_value f TowardZero negative (odd_between y.below z)) a ∙ sym y.value_is)
     (x.status_is ∙ ap (λ (z : ℕ). delivered_status f TowardZero negative amount parts z) b ∙ sym y.status_is)
 
@@ -23,8 +22,7 @@ pub rounded_again_once : IsRoundedAgainOnce
 rounded_again_once f g mode first answer other x y =
     let e = conversion_once f g mode first.value answer.value other.value x.again y.again x.loses_info y.loses_info
     x.is_conversion y.is_conversion in
-    same_answer answer other e.0
-    (x.status_is ∙ ap (λ (z : ℕ). joined z (bits_of first.status)) e.1 ∙ sym y.status_is)
+    same_answer answer other e.0 (x.status_is ∙ ap (λ (z : ℕ). joined z (bits_of first.status)) e.1 ∙ sym y.status_is)
 
 integral_once : (f : Format) (x : Datum) → Once (IsRoundToOddIntegral f x)
 integral_once f (nan b s) = answer_once _ _

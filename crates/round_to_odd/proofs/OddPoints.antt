@@ -15,25 +15,21 @@ use Rattle.round_to_odd.specs.Odd.{is_odd_below, odd_between}
 -- twice a grid point has as many digits
 pub twice_on_grid : (digits n : ℕ) → IsOnGrid digits n → IsOnGrid digits (2 * n)
 twice_on_grid digits n g =
-    let t : 2 ^ (g.place + 1) ≡ 2 * 2 ^ g.place = twice_power g.place in
     let k : g.significand * 2 ^ (g.place + 1) ≡ g.significand * (2 * 2 ^ g.place) =
-    ap (λ (x : ℕ). g.significand * x) t in
-    let e : n ≡ g.significand * 2 ^ g.place = g.is in
-    record { significand = g.significand; place = g.place + 1; fits = g.fits; is = omega (arith, k, e) }
+    ap (λ (x : ℕ). g.significand * x) (twice_power g.place) in
+    record { significand = g.significand; place = g.place + 1; fits = g.fits; is = omega (arith, k, g.is) }
 
 -- a grid point is on each grid with more digits
 pub wider_grid : (digits wide n : ℕ) → digits ≤ wide → IsOnGrid digits n → IsOnGrid wide n
 wider_grid digits wide n l g =
     let k : 2 ^ digits ≤ 2 ^ wide = pow-le-pow_right two_pos l in
-    let f = g.fits in
-    record { significand = g.significand; place = g.place; fits = omega (arith, k, f); is = g.is }
+    record { significand = g.significand; place = g.place; fits = omega (arith, k, g.fits); is = g.is }
 
 -- a grid point times a power of two has as many digits
 pub moved_on_grid : (digits n w : ℕ) → IsOnGrid digits n → IsOnGrid digits (n * 2 ^ w)
 moved_on_grid digits n w g =
     let s = g.significand in
-    let t : 2 ^ (g.place + w) ≡ 2 ^ g.place * 2 ^ w = pow-add 2 g.place w in
-    let k : s * 2 ^ (g.place + w) ≡ s * (2 ^ g.place * 2 ^ w) = ap (λ (x : ℕ). s * x) t in
+    let k : s * 2 ^ (g.place + w) ≡ s * (2 ^ g.place * 2 ^ w) = ap (λ (x : ℕ). s * x) (pow-add 2 g.place w) in
     let e : n * 2 ^ w ≡ s * 2 ^ g.place * 2 ^ w = ap (λ (x : ℕ). x * 2 ^ w) g.is in
     record { significand = s; place = g.place + w; fits = g.fits; is = omega (arith, k, e) }
 
@@ -52,8 +48,7 @@ pub neighbours : (precision below above amount parts : ℕ) → 0 < precision �
     → AreNeighbours precision below above amount parts
 neighbours precision below above amount parts l p x y =
     let half : ℕ = 2 ^ (precision - 1) in
-    let d : 2 ^ precision ≡ 2 * half = sym (twice_half precision l) in
-    let r = enclosed_at precision half amount parts p d in
+    let r = enclosed_at precision half amount parts p (sym (twice_half precision l)) in
     let c = r.0 in
     let m : ℕ = amount / (parts * 2 ^ c) in
     let i : IsEnclosed precision half m c amount parts = r.1 in
@@ -67,15 +62,13 @@ neighbours precision below above amount parts l p x y =
       above_is =
           ⊎_elim
           (λ (q : below * parts < amount).
-          let q' : m * 2 ^ c * parts < amount = subst (λ (z : ℕ). z * parts < amount) b q in
           inr ((
             q,
             above_unique precision above ((m + 1) * 2 ^ c) amount parts y
-                (above_is_next precision half m c amount parts i q'),
+                (above_is_next precision half m c amount parts i (subst (λ (z : ℕ). z * parts < amount) b q)),
           )))
           (λ (q : amount ≤ below * parts).
-          let n = x.not_above in
-          let e : amount ≡ below * parts = omega (arith, q, n) in
+          let e : amount ≡ below * parts = omega (arith, q, x.not_above) in
           inl ((
             e,
             above_unique precision above below amount parts y
@@ -98,8 +91,7 @@ even_factor k s w t p e = eq_of_mul-eq-mul_right w p k (2 * (s * t)) (omega (ari
 few_factor : (k s w t : ℕ) → 0 < w → 0 < t → k * (w * (2 * t)) ≡ 2 * (s * w) → k ≤ s
 few_factor k s w t p q e =
     let a : k * t ≡ s = eq_of_mul-eq-mul_right w p (k * t) s (omega (arith, e)) in
-    let b : k * 1 ≤ k * t = mul-le-mul_left k q in
-    omega (arith, a, b)
+    omega (arith, a, mul-le-mul_left k q)
 
 -- a point with an odd last digit is not an even multiple of the last place
 pub not_even : (precision k c n : ℕ) → k % 2 ≡ 1 → (c ≡ 0) ⊎ (2 ^ (precision - 1) ≤ k)
@@ -120,16 +112,13 @@ not_even precision k c n o (inr f) g e =
     pow-add 2 j (t + 1) ∙ ap (λ (x : ℕ). 2 ^ j * x) (twice_power t) in
     let d : k * (2 ^ j * (2 * 2 ^ t)) ≡ 2 * (s * 2 ^ j) =
     ap (λ (x : ℕ). k * x) (sym (ap (λ (x : ℕ). 2 ^ x) a ∙ b)) ∙ e' in
-    let l : k ≤ s = few_factor k s (2 ^ j) (2 ^ t) (pow_pos j) (pow_pos t) d in
-    let h = g.fits in
-    absurd (omega (arith, l, h, f)))
+    absurd (omega (arith, few_factor k s (2 ^ j) (2 ^ t) (pow_pos j) (pow_pos t) d, g.fits, f)))
     (λ (q : c ≤ j).
     let t = j - c in
     let a : j ≡ c + t = omega arith in
     let b : 2 ^ j ≡ 2 ^ c * 2 ^ t = ap (λ (x : ℕ). 2 ^ x) a ∙ pow-add 2 c t in
     let d : k * 2 ^ c ≡ 2 * (s * (2 ^ c * 2 ^ t)) = e' ∙ ap (λ (x : ℕ). 2 * (s * x)) b in
-    let r : k ≡ 2 * (s * 2 ^ t) = even_factor k s (2 ^ c) (2 ^ t) (pow_pos c) d in
-    absurd (omega (arith, r, o)))
+    absurd (omega (arith, even_factor k s (2 ^ c) (2 ^ t) (pow_pos c) d, o)))
     (cases_lt j c)
 
 -- ---- comparisons
@@ -160,8 +149,7 @@ between_agrees digits amount parts below above point s lower upper l h apart = r
       (cases_lt (2 * n) point);
   same = λ n g q.
       let k = lower n g (omega (arith, q)) in
-      let m : 2 * n * parts ≤ below * parts = mul-le-mul_right parts k in
-      absurd (omega (arith, m, q, s));
+      absurd (omega (arith, mul-le-mul_right parts k, q, s));
   more = λ n g q.
       let k = upper n g (omega (arith, q)) in
       ⊎_elim (λ (r : point < 2 * n). r) (λ (r : 2 * n ≤ point). absurd (apart n g (omega (arith, k, r, h))))
@@ -238,13 +226,10 @@ sum_on_grid precision below above amount parts l p x y =
     subst (λ (z : ℕ). IsOnGrid (precision + 1) z) s
     (wider_grid precision (precision + 1) (2 * below) (omega arith) (twice_on_grid precision below x.on_grid)))
     (λ (e : (below * parts < amount) × (above ≡ (m + 1) * 2 ^ c)).
-    let a = e.1 in
-    let f = i.enclosed.fits in
-    let t : 2 ^ (precision + 1) ≡ 2 * 2 ^ precision = twice_power precision in
     record {
       significand = 2 * m + 1;
       place = c;
-      fits = omega (arith, f, t);
-      is = omega (arith, a, b);
+      fits = omega (arith, i.enclosed.fits, twice_power precision);
+      is = omega (arith, e.1, b);
     })
     i.above_is

@@ -25,8 +25,7 @@ takes_out NearestTiesToAway negative odd x y h = grind arith
 -- the pick is past the largest value, or is the largest value, inexactly and in a mode that does not lead out
 abbrev pub IsPickedAtEnd : Format → Round → Bool → ℕ → ℕ → ℕ → Type 0
 IsPickedAtEnd g mode negative c d pick =
-    (ltb (largest g) pick ≡ true)
-    ⊎ ((leads_out mode negative ≡ false) × ((pick ≡ largest g) × (largest g * d < c)))
+    (ltb (largest g) pick ≡ true) ⊎ ((leads_out mode negative ≡ false) × ((pick ≡ largest g) × (largest g * d < c)))
 
 -- all digits set: U is their last place, and V that of the greatest significand of a coarser format, whose next point
 -- is the same power of two
@@ -35,11 +34,8 @@ ends_alike p q U V l pos e =
     let w = p - q - 2 in
     let a : 2 ^ p ≡ 2 ^ q * (2 ^ 2 * 2 ^ w) =
     ap (λ (x : ℕ). 2 ^ x) (omega arith) ∙ pow-add 2 q (2 + w) ∙ ap (λ (x : ℕ). 2 ^ q * x) (pow-add 2 2 w) in
-    let b : 2 ^ p * U ≡ 2 ^ q * (2 ^ 2 * 2 ^ w) * U = ap (λ (x : ℕ). x * U) a in
-    let k : 1 ≤ 2 ^ w = pow_pos w in
-    let c : 4 * U * 1 ≤ 4 * U * 2 ^ w = mul-le-mul_left (4 * U) k in
-    let f : V ≡ 4 * U * 2 ^ w = cancel (2 ^ q) V U (2 ^ w) (pow_pos q) (omega (arith, b, e)) in
-    omega (arith, c, f)
+    let f : V ≡ 4 * U * 2 ^ w = cancel (2 ^ q) V U (2 ^ w) (pow_pos q) (omega (arith, ap (λ (x : ℕ). x * U) a, e)) in
+    omega (arith, mul-le-mul_left (4 * U) (pow_pos w), f)
   where
     cancel : (q V U w : ℕ) → 0 < q → q * V ≡ q * (4 * w) * U → V ≡ 4 * U * w
     cancel q V U w p e = eq_of_mul-eq-mul_right q p V (4 * U * w) (omega (arith, e))
@@ -68,27 +64,20 @@ picked_below g mode negative p c d pick U precise more some pos all same x =
     } in
     let above : m * 2 ^ g.span * d < c = omega (arith, r', w, all, same, pos) in
     let take : takes_above mode negative (c - m * 2 ^ g.span * d) ((m + 1) * 2 ^ g.span * d - c) (eqb (m % 2) 1)
-    ≡ leads_out mode negative =
-    takes_out mode negative (eqb (m % 2) 1) _ _ (omega (arith, r', w, all, same, pos)) in
-    let e : pick ≡ cond (leads_out mode negative) (m + 1) m * 2 ^ g.span =
-    pick_unique q mode negative c d pick _ x
+    ≡ leads_out mode negative = takes_out mode negative (eqb (m % 2) 1) _ _ (omega (arith, r', w, all, same, pos)) in
+    let e : pick ≡ cond (leads_out mode negative) (m + 1) m * 2 ^ g.span = pick_unique q mode negative c d pick _ x
     (inexact_pick q mode negative half m g.span c d (leads_out mode negative) i above take) in
-    let fits : greatest_significand g.nonfinite q < 2 ^ q = greatest_fits g.nonfinite q in
     by_end (leads_out mode negative) (greatest_significand g.nonfinite q) m (2 ^ g.span) pick (pow_pos g.span)
-    (omega (arith, r, fits)) e above
+    (omega (arith, r, greatest_fits g.nonfinite q)) e above
   where
     by_end : (out : Bool) (top m w pick : ℕ) → 0 < w → top ≤ m → pick ≡ cond out (m + 1) m * w → m * w * d < c
         → (ltb (top * w) pick ≡ true) ⊎ ((out ≡ false) × ((pick ≡ top * w) × (top * w * d < c)))
-    by_end true top m w pick k l e s =
-        let a : top * w ≤ m * w = mul-le-mul_right w l in
-        inl (lt-ltb (top * w) pick (omega (arith, a, e, k)))
+    by_end true top m w pick k l e s = inl (lt-ltb (top * w) pick (omega (arith, mul-le-mul_right w l, e, k)))
     by_end false top m w pick k l e s =
         let a : top * w ≤ m * w = mul-le-mul_right w l in
         let b : top * w * d ≤ m * w * d = mul-le-mul_right d a in
-        ⊎_elim
-        (λ (z : top * w < pick). inl (lt-ltb (top * w) pick z))
-        (λ (z : pick ≤ top * w). inr ((refl, (omega (arith, a, e, z), omega (arith, b, s)))))
-        (cases_lt (top * w) pick)
+        ⊎_elim (λ (z : top * w < pick). inl (lt-ltb (top * w) pick z))
+        (λ (z : pick ≤ top * w). inr ((refl, (omega (arith, a, e, z), omega (arith, b, s))))) (cases_lt (top * w) pick)
 
 -- the largest value of a finer format with infinities, rounded to a format whose greatest exponent is not above
 pub picked_at_end : (g : Format) (mode : Round) (negative : Bool) (p span scale pick : ℕ) → 3 ≤ g.precision
@@ -116,9 +105,7 @@ picked_at_end g mode negative p span scale pick precise more within x =
     let e : q + g.span + scale ≡ p + span + g.scale =
     ⊎_elim
     (λ (y : q + g.span + scale < p + span + g.scale).
-    let k : 2 * 2 ^ (q + g.span + scale) ≤ 2 ^ (p + span + g.scale) =
-    half_at_most (q + g.span + scale) (p + span + g.scale) y in
-    absurd (omega (arith, k, u, v, z, all, most)))
+    absurd (omega (arith, half_at_most (q + g.span + scale) (p + span + g.scale) y, u, v, z, all, most)))
     (λ (y : p + span + g.scale ≤ q + g.span + scale). omega arith)
     (cases_lt (q + g.span + scale) (p + span + g.scale)) in
     picked_below g mode negative p c d pick U precise more (pow_pos scale) pos all
@@ -144,9 +131,7 @@ end_not_tiny g mode negative c d precise s =
     let n : (2 ^ q) * d ≡ (2 * half) * d = ap (λ (z : ℕ). z * d) (sym t) in
     let o : (2 ^ q - 1) * d ≤ (2 ^ q) * d = mul-le-mul_right d (omega arith) in
     let one : ltb c (smallest_normalized g * d) ≡ false = le-ltb c (half * d) (omega (arith, k, s)) in
-    let two : ltb (largest g) (smallest_normalized g) ≡ false = le-ltb (largest g) half b in
-    let three : leb (2 * c) ((2 ^ q - 1) * d) ≡ false =
-    lt-leb (2 * c) ((2 ^ q - 1) * d) (omega (arith, k, s, n, o)) in
+    let three : leb (2 * c) ((2 ^ q - 1) * d) ≡ false = lt-leb (2 * c) ((2 ^ q - 1) * d) (omega (arith, k, s, n, o)) in
     let four : ltb (2 * c) (2 ^ q * d) ≡ false = le-ltb (2 * c) (2 ^ q * d) (omega (arith, k, s, n)) in
     let below : rounds_below_normal q mode negative c d ≡ false = rw (three, four) refl in
-    either_false g.tiny_before_rounding _ _ one (either_false g.ieee_flags _ _ below two)
+    either_false g.tiny_before_rounding _ _ one (either_false g.ieee_flags _ _ below (le-ltb (largest g) half b))

@@ -12,10 +12,8 @@ at_most_an_eighth false = lit≤ tt
 
 -- a quantum of at most an eighth will do with the flags of IEEE 754 and without them
 room : (g f : Constants) → f.nonfinite ≡ IEEE754 → g.precision + 2 ≤ f.precision
-    → (format_with g).scale + 3 ≤ (format_with f).scale
-    → g.precision + (format_with g).span + (format_with f).scale
-    ≤ f.precision + (format_with f).span + (format_with g).scale
-    → HaveRoom g f
+    → (format_with g).scale + 3 ≤ (format_with f).scale → g.precision + (format_with g).span + (format_with f).scale
+    ≤ f.precision + (format_with f).span + (format_with g).scale → HaveRoom g f
 room g f kind digits quantum exponents ieee =
     let few = at_most_an_eighth (reads_halves (format_with (record g { ieee_flags = ieee }))) in
     record { kind = kind; digits = digits; quantum = omega (arith, few, quantum); exponents = exponents; flags = refl }

@@ -12,18 +12,9 @@ pub scaled_agrees : (square fine amount parts times : ℕ) → 0 < times → Agr
     → AgreesWithRoot square fine (amount * times) (parts * times)
 scaled_agrees square fine amount parts times p a = record {
   some = mul-pos a.some p;
-  less = λ n h.
-      let k : n * parts < amount * fine = a.less n h in
-      let l : n * parts * times < amount * fine * times = mul-lt-mul_of_pos_right k p in
-      omega (arith, l);
-  same = λ n h.
-      let k : n * parts ≡ amount * fine = a.same n h in
-      let l : n * parts * times ≡ amount * fine * times = ap (λ (x : ℕ). x * times) k in
-      omega (arith, l);
-  more = λ n h.
-      let k : amount * fine < n * parts = a.more n h in
-      let l : amount * fine * times < n * parts * times = mul-lt-mul_of_pos_right k p in
-      omega (arith, l);
+  less = λ n h. omega (arith, mul-lt-mul_of_pos_right (a.less n h) p);
+  same = λ n h. omega (arith, ap (λ (x : ℕ). x * times) (a.same n h));
+  more = λ n h. omega (arith, mul-lt-mul_of_pos_right (a.more n h) p);
 }
 
 -- a fraction that agrees at finer multiples agrees, multiplied, with the root multiplied
@@ -46,15 +37,13 @@ moved_agrees square fine times amount parts a = record {
 pub root_some : (square fine amount parts : ℕ) → 0 < square → 0 < fine → AgreesWithRoot square fine amount parts
     → 0 < amount
 root_some square fine amount parts p q a =
-    let s : 0 < square * (fine * fine) = mul-pos p (mul-pos q q) in
-    let k : 0 * parts < amount * fine = a.less 0 (omega (arith, s)) in
+    let k : 0 * parts < amount * fine = a.less 0 (omega (arith, mul-pos p (mul-pos q q))) in
     lt_of_mul-lt-mul_right fine (omega (arith, k))
 
 -- as the root is delivered, so is a fraction that agrees with it at quarters
 pub fraction_delivered : (f : Format) (mode : Round) (square parts amount units : ℕ) (value : Datum) (status : ℕ)
     → 0 < f.precision → 0 < parts → AgreesWithRoot square 4 amount units
-    → IsDeliveredRoot f mode square parts value status
-    → IsDelivered f mode false amount (units * parts) value status
+    → IsDeliveredRoot f mode square parts value status → IsDelivered f mode false amount (units * parts) value status
 fraction_delivered f mode square parts amount units value status precise some agrees d =
     let r = delivered_exists f mode false amount (units * parts) precise (mul-pos agrees.some some) in
     let e = delivered_root_once f mode square parts r.0 value r.1.0 status

@@ -19,9 +19,8 @@ precise_too f g precise room = let digits = room.digits in omega (arith, precise
 
 -- The root of `square`, divided by `parts`, in units of 1, and a fraction that agrees with it at quarters of quanta of
 -- g: if that fraction is delivered in f toward zero, made odd and rounded again, the root is rounded once in g.
-root_again : (f g : Format) (mode : Round) (square parts amount units : ℕ)
-    (toward first answer : StatusAnd Datum) → 3 ≤ g.precision → HasRoomFor g f → 0 < square → 0 < parts
-    → AgreesWithRoot square (4 * 2 ^ g.scale) amount units
+root_again : (f g : Format) (mode : Round) (square parts amount units : ℕ) (toward first answer : StatusAnd Datum)
+    → 3 ≤ g.precision → HasRoomFor g f → 0 < square → 0 < parts → AgreesWithRoot square (4 * 2 ^ g.scale) amount units
     → Gives (IsDelivered f TowardZero false (amount * 2 ^ f.scale) (units * parts)) toward
     → IsAnswerMadeOdd f false toward first → Gives (IsRoundedAgain f g mode first) answer
     → Gives (IsDeliveredRoot g mode (square * (2 ^ g.scale * 2 ^ g.scale)) parts) answer
@@ -33,9 +32,8 @@ root_again f g mode square parts amount units toward first answer precise room s
     let q : 0 < 4 * coarse = omega (arith, g₁) in
     let pieces : 0 < units * parts = mul-pos agrees.some apart in
     let positive : 0 < amount * fine = mul-pos (root_some square (4 * coarse) amount units some q agrees) p in
-    let odd : Gives (IsToOdd f false (amount * fine) (units * parts)) first =
-    odd_of_truncated f false (amount * fine) (units * parts) toward first (precise_too f g precise room) pieces d
-    made in
+    let odd : Gives (IsToOdd f false (amount * fine) (units * parts)) first = odd_of_truncated f false (amount * fine)
+    (units * parts) toward first (precise_too f g precise room) pieces d made in
     let once : IsDelivered g mode false (amount * fine * coarse) (units * parts * fine) answer.value
     (bits_of answer.status) =
     rounded_once f g mode false (amount * fine) (units * parts) first answer precise room positive pieces odd second in
@@ -64,16 +62,13 @@ root_rounded_once h f g mode quanta toward first answer precise room some root m
     let in_f : AgreesWithRoot square (4 * fine) r.amount r.parts =
     coarser square (4 * fine) coarse r.amount r.parts q r.agrees in
     let e : 4 * fine * coarse ≡ 4 * coarse * fine = omega arith in
-    let in_g : AgreesWithRoot square (4 * coarse) r.amount r.parts =
-    coarser square (4 * coarse) fine r.amount r.parts p
+    let in_g : AgreesWithRoot square (4 * coarse) r.amount r.parts = coarser square (4 * coarse) fine r.amount r.parts p
     (subst (λ (x : ℕ). AgreesWithRoot square x r.amount r.parts) e r.agrees) in
     let three : 3 ≤ f.precision = precise_too f g precise room in
-    let toward_zero : IsDeliveredRoot f TowardZero (square * (fine * fine)) parts toward.value
-    (bits_of toward.status) =
-    rw (not_zero quanta some) at root in
     let d : IsDelivered f TowardZero false (r.amount * fine) (r.parts * parts) toward.value (bits_of toward.status) =
     fraction_delivered f TowardZero (square * (fine * fine)) parts (r.amount * fine) r.parts toward.value
-    (bits_of toward.status) (omega (arith, three)) s (moved_agrees square 4 fine r.amount r.parts in_f) toward_zero in
+    (bits_of toward.status) (omega (arith, three)) s (moved_agrees square 4 fine r.amount r.parts in_f)
+    (rw (not_zero quanta some) at root) in
     rw (not_zero quanta some)
     (root_again f g mode square parts r.amount r.parts toward first answer precise room (mul-pos some s) s in_g d made
     second)
@@ -82,9 +77,6 @@ pub own_root_rounded_once : IsOwnRootRoundedOnce
 own_root_rounded_once f g mode quanta toward first answer precise room some root made second =
     let fine : ℕ = 2 ^ f.scale in
     let three : 3 ≤ f.precision = precise_too f g precise room in
-    let toward_zero : IsDeliveredRoot f TowardZero (quanta * fine) 1 toward.value (bits_of toward.status) =
-    rw (not_zero quanta some) at root in
-    root_rounded_once f f g mode quanta toward first answer precise room some
-    (rw (not_zero quanta some)
+    root_rounded_once f f g mode quanta toward first answer precise room some (rw (not_zero quanta some)
     (multiplied_root f TowardZero (quanta * fine) fine toward.value (bits_of toward.status) (omega (arith, three))
-    (pow_pos f.scale) toward_zero)) made second
+    (pow_pos f.scale) (rw (not_zero quanta some) at root))) made second

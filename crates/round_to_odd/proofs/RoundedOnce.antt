@@ -78,8 +78,7 @@ odd_within f below above amount parts kind precise some x y a l =
     let h : 0 < half = pow_pos (p - 1) in
     let m : ℕ = 2 ^ p - 1 in
     let r : m + 1 ≡ 2 ^ p = omega (arith, t, h) in
-    let top : largest f ≡ m * 2 ^ f.span =
-    ap (λ (k : NonfiniteBehavior). greatest_significand k p * 2 ^ f.span) kind in
+    let top : largest f ≡ m * 2 ^ f.span = ap (λ (k : NonfiniteBehavior). greatest_significand k p * 2 ^ f.span) kind in
     let n : ℕ = 2 ^ (p - 1 + f.span) in
     let n' : 2 * n ≡ (m + 1) * 2 ^ f.span =
     let e : n ≡ half * 2 ^ f.span = pow-add 2 (p - 1) f.span in
@@ -94,13 +93,12 @@ odd_within f below above amount parts kind precise some x y a l =
     x.greatest (2 * n) (wider_grid (p - 1) p (2 * n) (omega arith) (twice_on_grid (p - 1) n g)) z in
     absurd (omega (arith, k, l, top, n', w)))
     (cases_lt amount (2 * n * parts)) in
-    let less : odd_between below above < 2 * n = a.more n g under in
     ⊎_elim
     (λ (z : m * 2 ^ f.span < odd_between below above).
     let k : (m + 1) * 2 ^ f.span ≤ odd_between below above =
     none_between p half m f.span (odd_between below above) (sym t) (inr (omega (arith, t, h)))
     (odd_on_grid p below above amount parts x y) z in
-    absurd (omega (arith, k, less, n')))
+    absurd (omega (arith, k, a.more n g under, n')))
     (λ (z : odd_between below above ≤ m * 2 ^ f.span). omega (arith, z, top))
     (cases_lt (m * 2 ^ f.span) (odd_between below above))
 
@@ -143,14 +141,11 @@ inexact_too f g below amount parts pick room some x n o =
     let b : pick * 2 ^ w ≤ below =
     x.greatest (pick * 2 ^ w)
     (wider_grid g.precision f.precision (pick * 2 ^ w) d (moved_on_grid g.precision pick w o)) (omega (arith, r)) in
-    let c : pick * 2 ^ w * parts ≤ below * parts = mul-le-mul_right parts b in
-    let l = x.not_above in
-    n (omega (arith, c, l, r)))
+    n (omega (arith, mul-le-mul_right parts b, x.not_above, r)))
 
 -- the flags of the first result add none to those of the second
-flags_once : (f g : Format) (mode : Round) (negative : Bool) (amount parts below pick again first : ℕ)
-    → HasRoomFor g f → 0 < parts → IsBelow f.precision below amount parts → below ≤ largest f
-    → IsOnGrid g.precision pick
+flags_once : (f g : Format) (mode : Round) (negative : Bool) (amount parts below pick again first : ℕ) → HasRoomFor g f
+    → 0 < parts → IsBelow f.precision below amount parts → below ≤ largest f → IsOnGrid g.precision pick
     → again ≡ delivered_status g mode negative (amount * 2 ^ g.scale) (parts * 2 ^ f.scale) pick
     → first ≡ delivered_status f TowardZero negative amount parts below → joined again first ≡ again
 flags_once f g mode negative amount parts below pick again first room some x l o e d =
@@ -194,20 +189,15 @@ far_magnitude f g below amount parts precise room some x h =
     ap (λ (k : NonfiniteBehavior). greatest_significand k p * 2 ^ f.span) room.kind in
     let k : (m + 1) * 2 ^ f.span ≤ below =
     none_between p half m f.span below (sym t) (inr (omega (arith, t, pos))) x.on_grid (omega (arith, top, h)) in
-    let r' : (m + 1) * 2 ^ f.span ≡ 2 ^ (p + f.span) =
-    ap (λ (z : ℕ). z * 2 ^ f.span) r ∙ sym (pow-add 2 p f.span) in
+    let r' : (m + 1) * 2 ^ f.span ≡ 2 ^ (p + f.span) = ap (λ (z : ℕ). z * 2 ^ f.span) r ∙ sym (pow-add 2 p f.span) in
     let a : 2 ^ (p + f.span) * parts ≤ below * parts = mul-le-mul_right parts (omega (arith, k, r')) in
-    let l = x.not_above in
     let b : 2 ^ (p + f.span) * parts * 2 ^ g.scale ≤ amount * 2 ^ g.scale =
-    mul-le-mul_right (2 ^ g.scale) (omega (arith, a, l)) in
+    mul-le-mul_right (2 ^ g.scale) (omega (arith, a, x.not_above)) in
     let c : 2 ^ (g.precision + g.span + f.scale) ≤ 2 ^ (p + f.span + g.scale) =
     pow-le-pow_right two_pos room.exponents in
     let c' : 2 ^ (g.precision + g.span) * 2 ^ f.scale ≤ 2 ^ (p + f.span) * 2 ^ g.scale =
-    let u = pow-add 2 (g.precision + g.span) f.scale in
-    let v = pow-add 2 (p + f.span) g.scale in omega (arith, c, u, v) in
-    let d : 2 ^ (g.precision + g.span) * 2 ^ f.scale * parts ≤ 2 ^ (p + f.span) * 2 ^ g.scale * parts =
-    mul-le-mul_right parts c' in
-    record { some = mul-pos some (pow_pos f.scale); from = omega (arith, b, d) }
+    let v = pow-add 2 (p + f.span) g.scale in omega (arith, c, pow-add 2 (g.precision + g.span) f.scale, v) in
+    record { some = mul-pos some (pow_pos f.scale); from = omega (arith, b, mul-le-mul_right parts c') }
 
 -- the value and the flags that are delivered for the largest value, together with the flags of the first overflow, are
 -- those of any magnitude past all values
@@ -230,8 +220,7 @@ end_alike g mode negative c d a b p e again first value ieee precise same (inr h
     let is : p ≡ largest g = h.1.0 in
     let above = h.1.1 in
     let within : ltb (largest g) (largest g) ≡ false = le-ltb (largest g) (largest g) (omega arith) in
-    let some : 0 < largest g =
-    mul-pos (greatest_some g.nonfinite g.precision precise) (pow_pos g.span) in
+    let some : 0 < largest g = mul-pos (greatest_some g.nonfinite g.precision precise) (pow_pos g.span) in
     let zero : eqb (largest g) 0 ≡ false = not_zero (largest g) some in
     let inexact : eqb (largest g * d) c ≡ false = ne_eqb (largest g * d) c (λ z. omega (arith, z, above)) in
     let big : is_tiny g mode negative c d (largest g) ≡ false = end_not_tiny g mode negative c d precise above in
@@ -255,8 +244,7 @@ number_rounded : (f g : Format) (mode : Round) (negative : Bool) (n : ℕ) (firs
 number_rounded f g mode negative n first value again loses some is x =
     let y : IsConversion f g mode (finite negative n) value again loses =
     subst (λ (z : Datum). IsConversion f g mode z value again loses) is x in
-    let z : IsConvertedNumber f g mode negative n value again loses =
-    MatchBool-at_false _ _ (not_zero n some) y in
+    let z : IsConvertedNumber f g mode negative n value again loses = MatchBool-at_false _ _ (not_zero n some) y in
     z.is_delivered
 
 past_once : (f g : Format) (mode : Round) (negative : Bool) (amount parts : ℕ) (first answer : StatusAnd Datum)
@@ -274,8 +262,7 @@ past_once f g mode negative amount parts first answer precise room some odd seco
     let is : first.value ≡ finite negative (largest f) = odd.value_is ∙ rw past refl in
     let top : largest f ≡ (2 ^ p - 1) * 2 ^ f.span =
     ap (λ (k : NonfiniteBehavior). greatest_significand k p * 2 ^ f.span) room.kind in
-    let nonzero : 0 < largest f =
-    mul-pos (greatest_some f.nonfinite p (omega arith)) (pow_pos f.span) in
+    let nonzero : 0 < largest f = mul-pos (greatest_some f.nonfinite p (omega arith)) (pow_pos f.span) in
     let d : IsDelivered g mode negative (largest f * 2 ^ g.scale) (2 ^ f.scale) answer.value second.again =
     number_rounded f g mode negative (largest f) first.value answer.value second.again second.loses_info nonzero is
     second.is_conversion in
@@ -287,14 +274,11 @@ past_once f g mode negative amount parts first answer precise room some odd seco
     far_magnitude f g odd.below amount parts precise room some odd.is_below h in
     let there = (delivered_exists g mode negative (amount * 2 ^ g.scale) (parts * 2 ^ f.scale) (omega arith)
     far.some).1.1 in
-    let past' : ltb (largest g) there.pick ≡ true =
-    picks_past g mode negative (amount * 2 ^ g.scale) (parts * 2 ^ f.scale) there.pick (omega arith) far
-    there.is_pick in
-    let raised : bits_of first.status ≡ (if f.ieee_flags || false then 20 else 16) =
-    odd.status_is ∙ rw (lt-ltb (largest f) odd.below h) refl in
+    let past' : ltb (largest g) there.pick ≡ true = picks_past g mode negative (amount * 2 ^ g.scale)
+    (parts * 2 ^ f.scale) there.pick (omega arith) far there.is_pick in
     let both = end_alike g mode negative ((2 ^ p - 1) * 2 ^ f.span * 2 ^ g.scale) (2 ^ f.scale) (amount * 2 ^ g.scale)
     (parts * 2 ^ f.scale) d'.pick there.pick second.again (bits_of first.status) answer.value f.ieee_flags precise
-    room.flags e past' d'.value_is d'.status_is raised in
+    room.flags e past' d'.value_is d'.status_is (odd.status_is ∙ rw (lt-ltb (largest f) odd.below h) refl) in
     record {
       pick = there.pick;
       is_pick = there.is_pick;
@@ -307,9 +291,8 @@ past_once f g mode negative amount parts first answer precise room some odd seco
     between below above false h l = omega (arith, h, l)
 
 within_once : (f g : Format) (mode : Round) (negative : Bool) (amount parts : ℕ) (first answer : StatusAnd Datum)
-    → 3 ≤ g.precision → HasRoomFor g f → 0 < amount → 0 < parts
-    → (odd : Gives (IsToOdd f negative amount parts) first) → Gives (IsRoundedAgain f g mode first) answer
-    → odd.below ≤ largest f
+    → 3 ≤ g.precision → HasRoomFor g f → 0 < amount → 0 < parts → (odd : Gives (IsToOdd f negative amount parts) first)
+    → Gives (IsRoundedAgain f g mode first) answer → odd.below ≤ largest f
     → Gives (IsDelivered g mode negative (amount * 2 ^ g.scale) (parts * 2 ^ f.scale)) answer
 within_once f g mode negative amount parts first answer precise room nonzero some odd second h =
     let more = room.digits in
@@ -321,27 +304,23 @@ within_once f g mode negative amount parts first answer precise room nonzero som
     let l : o ≤ largest f =
     odd_within f odd.below odd.above amount parts room.kind (omega arith) some odd.is_below odd.is_above a h in
     let within : ltb (largest f) o ≡ false = le-ltb (largest f) o l in
-    let is : first.value ≡ finite negative o =
-    odd.value_is ∙ rw within (signed_some f.nonfinite negative o pos) in
     let d : IsDelivered g mode negative (o * 2 ^ g.scale) (2 ^ f.scale) answer.value second.again =
-    number_rounded f g mode negative o first.value answer.value second.again second.loses_info pos is
-    second.is_conversion in
+    number_rounded f g mode negative o first.value answer.value second.again second.loses_info pos
+    (odd.value_is ∙ rw within (signed_some f.nonfinite negative o pos)) second.is_conversion in
     let e = delivered_once_more f g mode negative amount parts o answer.value second.again precise room a d in
     record {
       pick = e.pick;
       is_pick = e.is_pick;
       value_is = e.value_is;
-      status_is = second.status_is
-          ∙ flags_once f g mode negative amount parts odd.below e.pick second.again (bits_of first.status) room some
-          odd.is_below h
+      status_is = second.status_is ∙ flags_once f g mode negative amount parts odd.below e.pick second.again
+          (bits_of first.status) room some odd.is_below h
           (pick_on_grid g.precision mode negative (amount * 2 ^ g.scale) (parts * 2 ^ f.scale) e.pick e.is_pick)
           e.status_is odd.status_is ∙ e.status_is;
     }
 
 pub rounded_once : IsRoundedOnce
 rounded_once f g mode negative amount parts first answer precise room nonzero some odd second =
-    ⊎_elim
-    (λ (h : largest f < odd.below).
+    ⊎_elim (λ (h : largest f < odd.below).
     past_once f g mode negative amount parts first answer precise room some odd second h)
     (λ (h : odd.below ≤ largest f).
     within_once f g mode negative amount parts first answer precise room nonzero some odd second h)

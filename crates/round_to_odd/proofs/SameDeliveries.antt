@@ -55,8 +55,7 @@ module _ (precision a b c d : ℕ) (halves : SameSides (precision + 1) 2 a b c d
   below_same point x = record {
     on_grid = x.on_grid;
     not_above =
-        let l = x.not_above in
-        ⊎_elim (λ (q : a < point * b). let k = point_more point x.on_grid q in absurd (omega (arith, k, l)))
+        ⊎_elim (λ (q : a < point * b). let k = point_more point x.on_grid q in absurd (omega (arith, k, x.not_above)))
         (λ (q : point * b ≤ a). q) (cases_lt a (point * b));
     greatest = λ other g l.
         x.greatest other g
@@ -69,8 +68,7 @@ module _ (precision a b c d : ℕ) (halves : SameSides (precision + 1) 2 a b c d
   above_same point x = record {
     on_grid = x.on_grid;
     not_below =
-        let l = x.not_below in
-        ⊎_elim (λ (q : point * b < a). let k = point_less point x.on_grid q in absurd (omega (arith, k, l)))
+        ⊎_elim (λ (q : point * b < a). let k = point_less point x.on_grid q in absurd (omega (arith, k, x.not_below)))
         (λ (q : a ≤ point * b). q) (cases_lt (point * b) a);
     least = λ other g l.
         x.least other g
@@ -132,8 +130,7 @@ module _ (precision a b c d : ℕ) (halves : SameSides (precision + 1) 2 a b c d
 
   half_less_same : (n : ℕ) → IsOnGrid (precision + 1) n → ltb (2 * a) (n * b) ≡ ltb (2 * c) (n * d)
   half_less_same =
-      half_same (λ x y. ltb x y) false (λ x y l. le-ltb x y (omega (arith, l)))
-      (λ x y e. le-ltb x y (omega (arith, e)))
+      half_same (λ x y. ltb x y) false (λ x y l. le-ltb x y (omega (arith, l))) (λ x y e. le-ltb x y (omega (arith, e)))
       (λ x y l. lt-ltb x y l)
 
   half_at_most_same : (n : ℕ) → IsOnGrid (precision + 1) n → leb (2 * a) (n * b) ≡ leb (2 * c) (n * d)
@@ -154,21 +151,17 @@ below_normal_same precision a b c d mode negative halves quarters =
     let next : ℕ = 2 ^ precision in
     let p : 0 < next = pow_pos precision in
     let w : 2 ^ (precision + 1) ≡ 2 * next = twice_power precision in
-    let g₁ : IsOnGrid (precision + 1) last = few_on_grid (precision + 1) last (omega (arith, p, w)) in
-    let g₂ : IsOnGrid (precision + 1) next = few_on_grid (precision + 1) next (omega (arith, p, w)) in
     let g₃ : IsOnGrid (precision + 1) (last + next) = few_on_grid (precision + 1) (last + next) (omega (arith, p, w)) in
-    let e₁ = half_at_most_same precision a b c d halves last g₁ in
-    let e₂ = half_less_same precision a b c d halves next g₂ in
+    let e₁ = half_at_most_same precision a b c d halves last (few_on_grid (precision + 1) last (omega (arith, p, w))) in
+    let e₂ = half_less_same precision a b c d halves next (few_on_grid (precision + 1) next (omega (arith, p, w))) in
     let t : Bool = takes_above mode negative (2 * a - last * b) (next * b - 2 * a) true in
     let u : Bool = takes_above mode negative (2 * c - last * d) (next * d - 2 * c) true in
     where_open (leb (2 * a) (last * b)) (ltb (2 * a) (next * b)) t u
     (λ x y.
     let l₁ : last * b < 2 * a = leb-false (2 * a) (last * b) x in
     let l₂ : 2 * a < next * b = ltb-true (2 * a) (next * b) y in
-    let l₃ : last * d < 2 * c = leb-false (2 * c) (last * d) (sym e₁ ∙ x) in
-    let l₄ : 2 * c < next * d = ltb-true (2 * c) (next * d) (sym e₂ ∙ y) in
     takes_alike mode negative true last next (2 * a) b (2 * c) d (omega (arith, l₁)) (omega (arith, l₂))
-    (omega (arith, l₃)) (omega (arith, l₄))
+    (omega (arith, leb-false (2 * c) (last * d) (sym e₁ ∙ x))) (omega (arith, ltb-true (2 * c) (next * d) (sym e₂ ∙ y)))
     (λ q. let k = quarters.less (last + next) g₃ (omega (arith, q)) in omega (arith, k))
     (λ q. let k = quarters.same (last + next) g₃ (omega (arith, q)) in omega (arith, k))
     (λ q. let k = quarters.more (last + next) g₃ (omega (arith, q)) in omega (arith, k))) ∙
@@ -191,22 +184,19 @@ module _ (f : Format) (a b c d : ℕ) (halves : SameSides (f.precision + 1) 2 a 
       by_rule f.tiny_before_rounding f.ieee_flags (ltb a (smallest_normalized f * b))
       (ltb c (smallest_normalized f * d)) (rounds_below_normal f.precision mode negative a b)
       (rounds_below_normal f.precision mode negative c d) (ltb pick (smallest_normalized f))
-      (less_same f.precision a b c d halves (smallest_normalized f)
-      (power_on_grid f.precision (f.precision - 1) some))
+      (less_same f.precision a b c d halves (smallest_normalized f) (power_on_grid f.precision (f.precision - 1) some))
       (λ h. below_normal_same f.precision a b c d mode negative halves (quarters h))
 
   status_same : (mode : Round) (negative : Bool) (pick : ℕ) → IsOnGrid f.precision pick
       → delivered_status f mode negative a b pick ≡ delivered_status f mode negative c d pick
   status_same mode negative pick g =
       ap (λ (t : Bool). if ltb (largest f) pick
-      then (if raises_overflow f mode negative then overflow_bit + inexact_bit else inexact_bit)
-      else (if t then ok_bits
+      then (if raises_overflow f mode negative then overflow_bit + inexact_bit else inexact_bit) else (if t then ok_bits
       else (if is_tiny f mode negative a b pick then underflow_bit + inexact_bit else inexact_bit)))
-      (exact_same f.precision a b c d halves pick g) ∙
-      ap (λ (t : Bool). if ltb (largest f) pick
+      (exact_same f.precision a b c d halves pick g) ∙ ap (λ (t : Bool). if ltb (largest f) pick
       then (if raises_overflow f mode negative then overflow_bit + inexact_bit else inexact_bit)
-      else (if eqb (pick * d) c then ok_bits
-      else (if t then underflow_bit + inexact_bit else inexact_bit))) (tiny_same mode negative pick)
+      else (if eqb (pick * d) c then ok_bits else (if t then underflow_bit + inexact_bit else inexact_bit)))
+      (tiny_same mode negative pick)
 
   -- what is delivered for the one is delivered for the other
   pub same_delivered : (mode : Round) (negative : Bool) (value : Datum) (status : ℕ) → 0 < d

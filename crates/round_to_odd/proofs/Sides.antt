@@ -18,21 +18,15 @@ sides_in : (digits wide G T X amount parts point : ℕ) → 0 < G * T
     → SameSides digits T (amount * G) (parts * (2 * X * (G * T))) (point * G) (2 * X * (G * T))
 sides_in digits wide G T X amount parts point p grid a = record {
   less = λ n g h.
-      let k : 2 * (n * X) * parts < amount = lt_of_mul-lt-mul_right (G * T) (omega (arith, h)) in
-      let r : 2 * (n * X) < point = a.less (n * X) (grid n g) k in
-      let m : 2 * (n * X) * (G * T) < point * (G * T) = mul-lt-mul_of_pos_right r p in
-      omega (arith, m);
+      let r : 2 * (n * X) < point = a.less (n * X) (grid n g) (lt_of_mul-lt-mul_right (G * T) (omega (arith, h))) in
+      omega (arith, mul-lt-mul_of_pos_right r p);
   same = λ n g h.
       let k : 2 * (n * X) * parts ≡ amount =
       eq_of_mul-eq-mul_right (G * T) p (2 * (n * X) * parts) amount (omega (arith, h)) in
-      let r : 2 * (n * X) ≡ point = a.same (n * X) (grid n g) k in
-      let m : 2 * (n * X) * (G * T) ≡ point * (G * T) = ap (λ (x : ℕ). x * (G * T)) r in
-      omega (arith, m);
+      omega (arith, ap (λ (x : ℕ). x * (G * T)) (a.same (n * X) (grid n g) k));
   more = λ n g h.
-      let k : amount < 2 * (n * X) * parts = lt_of_mul-lt-mul_right (G * T) (omega (arith, h)) in
-      let r : point < 2 * (n * X) = a.more (n * X) (grid n g) k in
-      let m : point * (G * T) < 2 * (n * X) * (G * T) = mul-lt-mul_of_pos_right r p in
-      omega (arith, m);
+      let r : point < 2 * (n * X) = a.more (n * X) (grid n g) (lt_of_mul-lt-mul_right (G * T) (omega (arith, h))) in
+      omega (arith, mul-lt-mul_of_pos_right r p);
 }
 
 -- The magnitude and the odd point, in quanta of a format whose scale is `coarse`, where those of the point have the

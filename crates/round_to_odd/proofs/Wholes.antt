@@ -57,9 +57,8 @@ integral_toward f (infinite b) value status h k = h
 integral_toward f (finite b n) value status h k =
     let t : ℕ = n / 2 ^ f.scale in
     let e : whole_pick TowardZero b n (2 ^ f.scale) ≡ t = toward_is b n (2 ^ f.scale) in
-    let is : value ≡ finite _ (t * 2 ^ f.scale) =
-    h.value_is ∙ ap (λ (z : ℕ). signed_quanta f.nonfinite b (z * 2 ^ f.scale)) e
-    ∙ quanta_are f.nonfinite b (t * 2 ^ f.scale) in
+    let is : value ≡ finite _ (t * 2 ^ f.scale) = h.value_is ∙ ap
+    (λ (z : ℕ). signed_quanta f.nonfinite b (z * 2 ^ f.scale)) e ∙ quanta_are f.nonfinite b (t * 2 ^ f.scale) in
     let o : odd_whole n (2 ^ f.scale) ≡ whole_pick TowardZero b n (2 ^ f.scale) =
     odd_is_toward b n (2 ^ f.scale) (k _ t is) in
     record {
@@ -78,9 +77,8 @@ integral_outward f (infinite b) truncated value first status g h k = h
 integral_outward f (finite b n) truncated value first status g h k =
     let t : ℕ = n / 2 ^ f.scale in
     let e : whole_pick TowardZero b n (2 ^ f.scale) ≡ t = toward_is b n (2 ^ f.scale) in
-    let is : truncated ≡ finite _ (t * 2 ^ f.scale) =
-    g.value_is ∙ ap (λ (z : ℕ). signed_quanta f.nonfinite b (z * 2 ^ f.scale)) e
-    ∙ quanta_are f.nonfinite b (t * 2 ^ f.scale) in
+    let is : truncated ≡ finite _ (t * 2 ^ f.scale) = g.value_is ∙ ap
+    (λ (z : ℕ). signed_quanta f.nonfinite b (z * 2 ^ f.scale)) e ∙ quanta_are f.nonfinite b (t * 2 ^ f.scale) in
     let o : odd_whole n (2 ^ f.scale) ≡ whole_pick (outward_mode b) b n (2 ^ f.scale) =
     odd_is_outward b n (2 ^ f.scale) (k _ t is) in
     record {
@@ -217,18 +215,13 @@ odd_out_outward : (low high : ℤ) (negative : Bool) (n parts : ℕ) → (low �
     → converted low high negative n parts (odd_whole n parts)
     ≡ converted low high negative n parts (whole_pick (outward_mode negative) negative n parts)
 odd_out_outward low high negative n parts l h even =
-    ⊎_elim
-    (λ (q : eqb (n / parts % 2) 1 ≡ true).
-    ap (λ (z : ℕ). converted low high negative n parts z)
+    ⊎_elim (λ (q : eqb (n / parts % 2) 1 ≡ true). ap (λ (z : ℕ). converted low high negative n parts z)
     (odd_is_toward negative n parts q ∙ toward_is negative n parts) ∙
     sym (out_alike low high negative n parts (n / parts) (whole_pick (outward_mode negative) negative n parts) l h
-    (at_least negative n parts)
-    (λ e.
-    let k = even_if_in_range low high negative n parts (n / parts) e in
-    even (ap (λ (z : ℕ). z % 2) k ∙ eqb-true (n / parts % 2) 1 q))))
-    (λ (q : eqb (n / parts % 2) 1 ≡ false).
-    ap (λ (z : ℕ). converted low high negative n parts z) (odd_is_outward negative n parts q))
-    (cases_Bool (eqb (n / parts % 2) 1))
+    (at_least negative n parts) (λ e. even
+    (ap (λ (z : ℕ). z % 2) (even_if_in_range low high negative n parts (n / parts) e) ∙ eqb-true (n / parts % 2) 1 q))))
+    (λ (q : eqb (n / parts % 2) 1 ≡ false). ap (λ (z : ℕ). converted low high negative n parts z)
+    (odd_is_outward negative n parts q)) (cases_Bool (eqb (n / parts % 2) 1))
   where
     by : (exact : Bool) (t : ℕ) → t ≤ cond exact t (t + 1)
     by true t = omega arith

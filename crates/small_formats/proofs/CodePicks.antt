@@ -41,11 +41,10 @@ form_encloses p low amount parts one f from to =
 -- ---- the pick
 
 -- a pick by the last digit of the code is one by that of the significand, if the mode decides alike by both
-pub code_pick_by : (p : ℕ) (mode : ConversionRound) (negative : Bool) (amount parts index : ℕ) → 0 < p
-    → 0 < parts → ((m c x y : ℕ)
+pub code_pick_by : (p : ℕ) (mode : ConversionRound) (negative : Bool) (amount parts index : ℕ)
+    → 0 < p → 0 < parts → ((m c x y : ℕ)
     → takes_next mode negative x y (eqb (m % 2) 1) ≡ takes_next mode negative x y (eqb (index_of p m c % 2) 1))
-    → IsCodePickBy p mode negative amount parts index
-    → IsPickBy p mode negative amount parts (point p index)
+    → IsCodePickBy p mode negative amount parts index → IsPickBy p mode negative amount parts (point p index)
 code_pick_by p mode negative amount parts index one some alike x =
     let f = form_of p x.low one in
     let next = form_next p x.low one f in
@@ -54,16 +53,14 @@ code_pick_by p mode negative amount parts index one some alike x =
     let moved : Bool = moves mode negative by to (eqb (f.m % 2) 1) in
     let odd : Bool = eqb (x.low % 2) 1 in
     let enclosed = form_encloses p x.low amount parts one f x.from x.to in
-    let same : moved
-    ≡ moves mode negative (amount - point p x.low * parts) (point p (x.low + 1) * parts - amount) odd =
+    let same : moved ≡ moves mode negative (amount - point p x.low * parts) (point p (x.low + 1) * parts - amount) odd =
     ap (λ (b : Bool). cond (eqb by 0) false b) (alike f.m f.c by to)
     ∙ ap (λ (n : ℕ). moves mode negative by to (eqb (n % 2) 1)) (sym f.is)
     ∙ ap (λ (n : ℕ). moves mode negative (amount - n * parts) to odd) (sym (form_point p x.low one f))
     ∙ ap (λ (n : ℕ). moves mode negative (amount - point p x.low * parts) (n * parts - amount) odd) (sym next) in
     let is = x.is ∙ sym (index_is p mode negative amount parts x.low moved x.from same) in
-    let point_is : point p index ≡ cond moved (f.m + 1) f.m * 2 ^ f.c =
-    ap (λ (n : ℕ). point p n) is ∙ ap (λ (n : ℕ). point p (cond moved (n + 1) n)) f.is
-    ∙ moved_point p f.m f.c one f.fits f.full moved in
+    let point_is : point p index ≡ cond moved (f.m + 1) f.m * 2 ^ f.c = ap (λ (n : ℕ). point p n) is
+    ∙ ap (λ (n : ℕ). point p (cond moved (n + 1) n)) f.is ∙ moved_point p f.m f.c one f.fits f.full moved in
     subst (λ (n : ℕ). IsPickBy p mode negative amount parts n) (sym point_is)
     (picked_between p mode negative (2 ^ (p - 1)) f.m f.c amount parts moved some enclosed refl)
 

@@ -13,8 +13,7 @@ use Rattle.small_formats.proofs.CodesCompared.{not_below_number, zero_point}
 -- ---- elements
 
 pub zero_converted : (c : StorageConstants) (g : Format) (mode : Round) (code : ℕ) (value : Datum) (status : ℕ)
-    (loses : Bool) → magnitude_of c code ≡ 0
-    → IsKept (finite (zero_sign g.nonfinite (is_negative_code c code)) 0)
+    (loses : Bool) → magnitude_of c code ≡ 0 → IsKept (finite (zero_sign g.nonfinite (is_negative_code c code)) 0)
     (loses_zero_sign g (is_negative_code c code)) value status loses
     → IsConversion (format_with c) g mode (datum_of c code) value status loses
 zero_converted c g mode code value status loses z h =

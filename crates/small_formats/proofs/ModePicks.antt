@@ -116,10 +116,8 @@ moves_kept mode negative odd number k m c amount parts u d q e of a =
 
 -- between two codes whose numbers, in units of the amount, are `at` and `next`
 pub code_between : (mode : ConversionRound) (negative : Bool) (amount at next low : ℕ) (moved : Bool)
-    → at ≤ amount
-    → moved ≡ moves mode negative (amount - at) (next - amount) (eqb (low % 2) 1)
-    → cond moved (low + 1) low
-    ≡ cond (eqb at amount) low
+    → at ≤ amount → moved ≡ moves mode negative (amount - at) (next - amount) (eqb (low % 2) 1)
+    → cond moved (low + 1) low ≡ cond (eqb at amount) low
     (cond (takes_next mode negative (amount - at) (next - amount) (eqb (low % 2) 1)) (low + 1) low)
 code_between mode negative amount at next low moved from e =
     let odd : Bool = eqb (low % 2) 1 in

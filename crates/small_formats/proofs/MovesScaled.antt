@@ -37,7 +37,5 @@ moves_scaled mode negative odd x y w p =
 pub moves_alike : (mode : ConversionRound) (negative odd : Bool) (x y a b v w : ℕ) → 0 < v → 0 < w → x * v ≡ a * w
     → y * v ≡ b * w → moves mode negative x y odd ≡ moves mode negative a b odd
 moves_alike mode negative odd x y a b v w p q e f =
-    sym (moves_scaled mode negative odd x y v p)
-    ∙ ap (λ (n : ℕ). moves mode negative n (y * v) odd) e
-    ∙ ap (λ (n : ℕ). moves mode negative (a * w) n odd) f
-    ∙ moves_scaled mode negative odd a b w q
+    sym (moves_scaled mode negative odd x y v p) ∙ ap (λ (n : ℕ). moves mode negative n (y * v) odd) e
+    ∙ ap (λ (n : ℕ). moves mode negative (a * w) n odd) f ∙ moves_scaled mode negative odd a b w q

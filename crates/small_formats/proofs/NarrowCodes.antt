@@ -45,8 +45,7 @@ field_fits e l =
     (cases_lt e 7)
 
 -- both encode the same datum
-same_datum : (b : Bool) (e t : ℕ) → e < 8
-    → datum_of_fields wide_format wide_layout (fields_with b (field e) t)
+same_datum : (b : Bool) (e t : ℕ) → e < 8 → datum_of_fields wide_format wide_layout (fields_with b (field e) t)
     ≡ datum_of_fields e3m4_format e3m4_layout (fields_with b e t)
 same_datum b e t l =
     ⊎_elim

@@ -49,10 +49,8 @@ code_once c code other x law l k e f =
     let sign : leb half code ≡ leb half other = ap is_negative same in
     let rest : code % half ≡ other % half =
     one_number c.precision (code % half) (other % half) (omega (arith, law.precision_low)) (ap quanta_of same) in
-    code_is half code (omega (arith, l, double))
-    ∙ ap (λ (b : Bool). cond b half 0 + code % half) sign
-    ∙ ap (λ (n : ℕ). cond (leb half other) half 0 + n) rest
-    ∙ sym (code_is half other (omega (arith, k, double)))
+    code_is half code (omega (arith, l, double)) ∙ ap (λ (b : Bool). cond b half 0 + code % half) sign
+    ∙ ap (λ (n : ℕ). cond (leb half other) half 0 + n) rest ∙ sym (code_is half other (omega (arith, k, double)))
 
 -- ---- conversions
 
@@ -118,8 +116,7 @@ pub signed_interchange : IsInterchange signed_format signed_layout
 signed_interchange =
     record { precise = lit≤ tt; some = lit≤ tt; bits = refl; within = lit≤ tt; span = refl; explicit = refl }
 
-pub unsigned_encoded : (code : ℕ) → code < 128 → IsEncodedBy signed_format signed_layout code
-    (unsigned_datum code)
+pub unsigned_encoded : (code : ℕ) → code < 128 → IsEncodedBy signed_format signed_layout code (unsigned_datum code)
 unsigned_encoded code l = record { below = omega (arith, l); canonical = refl; is = refl }
 
 pub unsigned_code_once : (code other : ℕ) → code < 128 → other < 128 → unsigned_datum code ≡ unsigned_datum other

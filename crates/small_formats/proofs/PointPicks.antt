@@ -16,12 +16,9 @@ use Rattle.small_formats.proofs.{Points.at_index, Points.at_next, StoredPicks.ex
 point_picked : (p : ℕ) (mode : ConversionRound) (negative : Bool) (amount parts index : ℕ) → 0 < p → 0 < parts
     → IsCodePickBy p mode negative amount parts index → IsPointPickBy p mode negative amount parts index
 point_picked p mode negative amount parts index some q x =
-    ⊎_elim
-    (λ (one : p ≡ 1). match_true (eqb p 1) _ _ (eq-eqb p 1 one) x)
-    (λ (more : p ≡ 1 → ⊥).
-    match_false (eqb p 1) _ _ (ne_eqb p 1 more)
-    (code_picks_by p mode negative amount parts index (omega (arith, some, more)) q x))
-    (cases_eq p 1)
+    ⊎_elim (λ (one : p ≡ 1). match_true (eqb p 1) _ _ (eq-eqb p 1 one) x)
+    (λ (more : p ≡ 1 → ⊥). match_false (eqb p 1) _ _ (ne_eqb p 1 more)
+    (code_picks_by p mode negative amount parts index (omega (arith, some, more)) q x)) (cases_eq p 1)
 
 -- the point is the number itself exactly if nothing was lost
 exact_by : (p m c amount parts index : ℕ) (loss : Loss) (moved exact : Bool) → 0 < p → 0 < parts
@@ -31,8 +28,7 @@ exact_by : (p m c amount parts index : ℕ) (loss : Loss) (moved exact : Bool) �
     → (exact ≡ false → loss ≡ ExactlyZero → ⊥) → exact ≡ eqb (point p index * parts) amount
 exact_by p m c amount parts index loss moved exact some q i h still is when unless =
     let times : point p index * parts ≡ cond moved (m + 1) m * 2 ^ c * parts =
-    ap (λ (n : ℕ). n * parts)
-    (ap (λ (n : ℕ). point p n) is ∙ moved_point p m c some i.fits i.full moved) in
+    ap (λ (n : ℕ). n * parts) (ap (λ (n : ℕ). point p n) is ∙ moved_point p m c some i.fits i.full moved) in
     let same : loss ≡ ExactlyZero → cond moved (m + 1) m * 2 ^ c * parts ≡ amount = λ z.
     let exactly : amount ≡ m * (2 ^ c * parts) = subst (λ (x : Loss). StandsFor m x amount (2 ^ c * parts)) z h in
     let none : amount - m * 2 ^ c * parts ≡ 0 = omega (arith, exactly) in
@@ -62,8 +58,7 @@ point_at p mode negative number k m c amount parts u d index loss moved exact so
     let next : point p (low + 1) * parts ≡ (m + 1) * 2 ^ c * parts = ap (λ (n : ℕ). n * parts) after in
     let from = i.from in
     let kept = test ∙ sym (moves_kept mode negative odd number k m c amount parts u d q e of a) in
-    let moved_is : moved
-    ≡ moves mode negative (amount - point p low * parts) (point p (low + 1) * parts - amount) odd =
+    let moved_is : moved ≡ moves mode negative (amount - point p low * parts) (point p (low + 1) * parts - amount) odd =
     kept ∙ ap (λ (n : ℕ). moves mode negative (amount - n) to odd) (sym at)
     ∙ ap (λ (n : ℕ). moves mode negative (amount - point p low * parts) (n - amount) odd) (sym next) in
     let start : point p low * parts ≤ amount = omega (arith, from, at) in

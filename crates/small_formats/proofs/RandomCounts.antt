@@ -63,8 +63,7 @@ random_numbers_counted precision digits below above amount parts negative bits p
     let to : ℕ = above * parts - amount in
     let share : ℕ = parts_above digits by to in
     let fewer = parts_below digits by to (above_some precision below above amount parts p l x y) in
-    let test : (k : ℕ) → k < top → ltb below (pick k) ≡ leb top (share + k) =
-    λ k h.
+    let test : (k : ℕ) → k < top → ltb below (pick k) ≡ leb top (share + k) = λ k h.
     let a = all k h in
     let q = picks k h in
     let low : q.below ≡ below = below_unique precision q.below below amount parts q.is_below x in
@@ -77,8 +76,7 @@ random_numbers_counted precision digits below above amount parts negative bits p
     ∙ ap (λ (n : ℕ). leb (2 ^ n) (parts_above n by to + (bits k).random)) a.0
     ∙ ap (λ (n : ℕ). leb top (share + n)) a.1 in
     same_count (λ k. ltb below (pick k)) (λ k. leb top (share + k)) top test
-    ∙ reaching top share top (omega (arith, fewer))
-    ∙ (let e : share + top - top ≡ share = omega arith in e)
+    ∙ reaching top share top (omega (arith, fewer)) ∙ (let e : share + top - top ≡ share = omega arith in e)
 
 pub stays_exact : StaysExact
 stays_exact precision mode negative point amount parts pick p grid e x =
@@ -87,8 +85,7 @@ stays_exact precision mode negative point amount parts pick p grid e x =
     let high : x.above ≡ point =
     above_unique precision x.above point amount parts x.is_above (exact_above precision point amount parts p grid e) in
     x.is ∙ ap (λ (n : ℕ). next_between mode negative n x.above amount parts) low
-    ∙ ap (λ (n : ℕ). next_between mode negative point n amount parts) high
-    ∙ sym (cond_same _ point)
+    ∙ ap (λ (n : ℕ). next_between mode negative point n amount parts) high ∙ sym (cond_same _ point)
 
 pub picks_of_model : ArePicksOfModel
 picks_of_model precision mode negative amount parts pick x = record {

@@ -51,8 +51,7 @@ twice low parts = let e : 2 ^ (low + 1) ≡ 2 ^ low * 2 = pow-add 2 low 1 in rw 
 
 -- the mode decides by the distances from both scales as by the digits that are cut off
 pub code_moves : (mode : ConversionRound) (digits amount parts low : ℕ) (odd : Bool) (z : ℤ) → 0 < parts
-    → pos low ≡ z +ℤ pos 124 → 2 ^ 124 ≤ digits → digits < 2 ^ 125
-    → amount * 2 ^ down z ≡ digits * (parts * 2 ^ up z)
+    → pos low ≡ z +ℤ pos 124 → 2 ^ 124 ≤ digits → digits < 2 ^ 125 → amount * 2 ^ down z ≡ digits * (parts * 2 ^ up z)
     → moves mode false (digits % 2 ^ 124) (2 ^ 124 - digits % 2 ^ 124) odd
     ≡ moves mode false (amount - 2 ^ low * parts) (2 ^ (low + 1) * parts - amount) odd
 code_moves mode digits amount parts low odd z some at least most h =

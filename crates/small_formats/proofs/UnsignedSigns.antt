@@ -22,9 +22,7 @@ sign_converted f mode (finite b (suc n)) value status loses number positive h =
     let some : eqb (suc n) 0 ≡ false = ne_eqb (suc n) 0 (λ e. omega (arith, e)) in
     let k = MatchBool-at_false _ (IsConvertedNumber f signed_format mode b (suc n) value status loses) some h in
     let d = k.is_delivered in
-    ap is_negative d.value_is
-    ∙ kept_sign (ltb (largest signed_format) d.pick) (leads_out mode b) (eqb d.pick 0) b (nan_base signed_format)
-    (largest signed_format) d.pick
-    ∙ positive
+    ap is_negative d.value_is ∙ kept_sign (ltb (largest signed_format) d.pick) (leads_out mode b) (eqb d.pick 0) b
+    (nan_base signed_format) (largest signed_format) d.pick ∙ positive
 sign_converted f mode (infinite b) value status loses number positive h = cc
 sign_converted f mode (nan b s) value status loses number positive h = cc

@@ -63,8 +63,7 @@ largest_far : (c : StorageConstants) (f : Format) (times : ℕ) → IsWider c f 
 largest_far c f times w =
     let g : Format = format_with c in let p : ℕ = f.precision - 1 in
     let digits = w.digits in let more = w.exponents in
-    let a : 2 ^ p * 2 ^ f.span ≤ largest f =
-    mul-le-mul_right (2 ^ f.span)
+    let a : 2 ^ p * 2 ^ f.span ≤ largest f = mul-le-mul_right (2 ^ f.span)
     (greatest_full f.nonfinite f.precision (omega (arith, digits, w.law.precision_low))) in
     let b : 2 ^ p * 2 ^ f.span * 2 ^ g.scale ≤ largest f * 2 ^ g.scale = mul-le-mul_right (2 ^ g.scale) a in
     let d : 2 ^ (c.precision + g.span + f.scale) ≤ 2 ^ (p + f.span + g.scale) =
@@ -115,8 +114,7 @@ widened_is c f w code value status loses x =
     let i : ℕ = magnitude_of c code in let m : ℕ = point c.precision i in
     let k : ℕ = 2 ^ (f.scale - g.scale) in let top : ℕ = 2 ^ (c.precision + g.span) in
     let below = mod_below code (2 ^ (c.bits - 1)) (pow_pos (c.bits - 1)) in
-    let most : m ≤ largest g =
-    subst (λ (n : ℕ). m ≤ n) (largest_point c w.law)
+    let most : m ≤ largest g = subst (λ (n : ℕ). m ≤ n) (largest_point c w.law)
     (not_greater c.precision i (largest_index c) (omega (arith, low)) (omega (arith, below))) in
     let under = largest_below g in let far = largest_far c f k w in
     let a : m * (k * 2 ^ g.scale) ≤ top * (k * 2 ^ g.scale) =
@@ -215,11 +213,9 @@ module _ (c : StorageConstants) (f : Format) (times : ℕ) (w : IsWider c f time
   into : (x : Datum) → made.value ≡ x → IsProjection f c mode of_zero x (bits_of made.status) code status
   into x e = subst (λ (v : Datum). IsProjection f c mode of_zero v (bits_of made.status) code status) e t
 
-  stored : (negative : Bool) (n x y : ℕ) → 0 < n → made.value ≡ finite negative n
-      → ((value : Datum)
+  stored : (negative : Bool) (n x y : ℕ) → 0 < n → made.value ≡ finite negative n → ((value : Datum)
       → IsDelivered (format_with c) mode negative (n * 2 ^ (format_with c).scale) (2 ^ f.scale) value status
-      → IsDelivered (format_with c) mode negative x y value status)
-      → IsStored c mode (rounded negative x y) code status
+      → IsDelivered (format_with c) mode negative x y value status) → IsStored c mode (rounded negative x y) code status
   stored negative n x y p e same =
       let s : IsSaturated c mode negative (n * 2 ^ (format_with c).scale) (2 ^ f.scale) code status =
       rw (not_zero n p) at (into (finite negative n) e) in
@@ -227,9 +223,8 @@ module _ (c : StorageConstants) (f : Format) (times : ℕ) (w : IsWider c f time
         value = delivered_value (format_with c) mode negative s.pick;
         yields = same (delivered_value (format_with c) mode negative s.pick)
             (record { pick = s.pick; is_pick = s.is_pick; value_is = refl; status_is = s.status_is });
-        value_is = s.value_is
-            ∙ settled (format_with c) s.pick negative (ltb (largest (format_with c)) s.pick) (leads_out mode negative)
-            (eqb s.pick 0) (eqb-true s.pick 0);
+        value_is = s.value_is ∙ settled (format_with c) s.pick negative (ltb (largest (format_with c)) s.pick)
+            (leads_out mode negative) (eqb s.pick 0) (eqb-true s.pick 0);
       }
 
   -- a nonzero magnitude, which is x / y quanta of the storage format
@@ -316,18 +311,16 @@ module _ (c : StorageConstants) (f : Format) (times : ℕ) (w : IsWider c f time
       })
       (cases_lt 0 amount)
 
-  total : (b d : Bool) (m n k parts y : ℕ) → 0 < k → 0 < parts → 0 < y
-      → parts * 2 ^ f.scale ≡ k * 2 ^ (format_with c).scale * y → of_zero ≡ zero_sum_sign mode b d
+  total : (b d : Bool) (m n k parts y : ℕ) → 0 < k
+      → 0 < parts → 0 < y → parts * 2 ^ f.scale ≡ k * 2 ^ (format_with c).scale * y → of_zero ≡ zero_sum_sign mode b d
       → Gives (IsRounded f TowardZero (zero_sum_sign TowardZero b d) (signed b (m * k) +ℤ signed d (n * k)) parts)
-      truncated
-      → IsStored c mode (totalled b d (signed b m +ℤ signed d n) y) code status
+      truncated → IsStored c mode (totalled b d (signed b m +ℤ signed d n) y) code status
   total b d m n k parts y p some apart e z h =
       let whole : ℤ = signed b m +ℤ signed d n in let toward : Bool = zero_sum_sign TowardZero b d in
       let own : Bool = zero_sum_sign mode b d in let size = magnitude-times whole k in
       let scaled : (signed b (m * k) +ℤ signed d (n * k)) ≡ (whole *ℤ pos k) =
-      ap (λ (i : ℤ). i +ℤ signed d (n * k)) (signed_times b m k)
-      ∙ ap (λ (i : ℤ). (signed b m *ℤ pos k) +ℤ i) (signed_times d n k)
-      ∙ sym (sum_times (signed b m) (signed d n) (pos k)) in
+      ap (λ (i : ℤ). i +ℤ signed d (n * k)) (signed_times b m k) ∙ ap (λ (i : ℤ). (signed b m *ℤ pos k) +ℤ i)
+      (signed_times d n k) ∙ sym (sum_times (signed b m) (signed d n) (pos k)) in
       let same : magnitude whole * (parts * 2 ^ f.scale) ≡ magnitude whole * k * 2 ^ (format_with c).scale * y =
       ap (λ (i : ℕ). magnitude whole * i) e ∙ omega arith in
       let r = number (sign_of toward (whole *ℤ pos k)) (sign_of own whole) (magnitude (whole *ℤ pos k)) parts
@@ -347,8 +340,7 @@ module _ (c : StorageConstants) (f : Format) (times : ℕ) (w : IsWider c f time
       → Gives (IsDifference f TowardZero (finite b (m * times)) (finite d (n * times))) truncated
       → IsStored c mode (difference_of (format_with c) (finite b m) (finite d n)) code status
   difference b d m n z h =
-      subst (λ (y : Datum). IsStored c mode (sum_of (format_with c) (finite b m) y) code status)
-      (sym (negated_is d n))
+      subst (λ (y : Datum). IsStored c mode (sum_of (format_with c) (finite b m) y) code status) (sym (negated_is d n))
       (sum b (not d) m n z
       (subst (λ (y : Datum). Gives (IsSum f TowardZero (finite b (m * times)) y) truncated)
       (ap (λ (k : NonfiniteBehavior). negated k (finite d (n * times))) w.kind ∙ negated_is d (n * times)) h))
@@ -358,8 +350,7 @@ module _ (c : StorageConstants) (f : Format) (times : ℕ) (w : IsWider c f time
       → IsStored c mode (product_of (format_with c) (finite b m) (finite d n)) code status
   product b d m n z h =
       number (product_sign b d) (product_sign b d) (m * times * (n * times)) (2 ^ f.scale) (m * n)
-      (2 ^ (format_with c).scale)
-      (pow_pos f.scale) (pow_pos (format_with c).scale)
+      (2 ^ (format_with c).scale) (pow_pos f.scale) (pow_pos (format_with c).scale)
       (ap (λ (i : ℕ). m * n * (i * i)) w.scale ∙ omega arith) (λ _. refl) (λ _. z) h
 
   pub fused : (a b d : Bool) (l m n : ℕ) → of_zero ≡ zero_sum_sign mode (product_sign a b) d
@@ -373,8 +364,7 @@ module _ (c : StorageConstants) (f : Format) (times : ℕ) (w : IsWider c f time
       let right : n * times * fs ≡ n * gs * k = ap (λ (i : ℕ). n * times * i) w.scale ∙ omega arith in
       total s d (l * m) (n * gs) k fs gs (mul-pos w.some w.some) (pow_pos f.scale) (pow_pos (format_with c).scale)
       (ap (λ (i : ℕ). i * i) w.scale ∙ omega arith) z
-      (subst (λ (i : ℕ). Gives (IsRounded f TowardZero toward (signed s (l * m * k) +ℤ signed d i) fs) truncated)
-      right
+      (subst (λ (i : ℕ). Gives (IsRounded f TowardZero toward (signed s (l * m * k) +ℤ signed d i) fs) truncated) right
       (subst (λ (i : ℕ). Gives (IsRounded f TowardZero toward (signed s i +ℤ signed d (n * times * fs)) fs)
       truncated) left h))
 
@@ -483,8 +473,7 @@ saturated_across c mode b m n x y code status some p q e s =
       pick = s.pick;
       is_pick = pick;
       value_is = s.value_is;
-      status_is = told.status_is
-          ∙ ap (λ (i : ℕ). delivered_status g mode b m n i)
+      status_is = told.status_is ∙ ap (λ (i : ℕ). delivered_status g mode b m n i)
           (pick_unique c.precision mode b m n told.pick s.pick told.is_pick pick);
     }
 

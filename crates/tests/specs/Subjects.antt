@@ -1,7 +1,7 @@
 -- Formats whose roundings are compared with those of the plain program.
 use Rattle.std.specs.Prelude.{ℤ, ◌^◌, ◌<◌, ◌≤◌, ◌≤ℤ◌, pos, negsuc}
 use Rattle.rustc_apfloat.specs.Format.{Format}
-use Rattle.conformance.specs.{declared.plain.Bounds.Bounds, Plain.HasBounds}
+use Rattle.tests.specs.{declared.plain.Bounds.Bounds, Plain.HasBounds}
 
 -- the bounds of the format, and the exponent of a part of its quantum
 pub record IsSubject (f : Format) (bounds : Bounds) (exponent : ℤ) : Type 0 where

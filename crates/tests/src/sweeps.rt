@@ -1,4 +1,4 @@
-//! Tests that need several crates, with the formats, the laws and the plain slow program of `conformance`.
+//! Tests that need several crates, with the formats, the laws and the plain slow program.
 
 #[cfg(test)]
 mod agreements;

@@ -100,6 +100,18 @@ library_calls! {
     /// Unless the width is from 1 to 128.
     fn settled_unsigned<S>(machine: Machine, x: IeeeFloat<S>, width: usize, answer: StatusAnd<u128>)
         -> Option<StatusAnd<u128>> where (1..=128).contains(&width) => "no integer has this width";
+    /// The value rounded toward zero, modulo two to the power of `width`, as a signed integer of `width` binary digits,
+    /// with the flags of `to_i128_r`; 0 for infinities and NaNs.
+    ///
+    /// # Panics
+    ///
+    /// Unless the width is from 2 to 128.
+    fn to_signed_modulo<S>(x: IeeeFloat<S>, width: usize) -> StatusAnd<i128>
+        where (2..=128).contains(&width) => "no signed integer has this width";
+    /// The product of two values as FMULX of Arm gives it, given that of the machine: of an infinity and a zero 2 with
+    /// the sign of the product, without a flag, and any other unchanged.
+    fn extended_product<S>(x: IeeeFloat<S>, y: IeeeFloat<S>, product: StatusAnd<IeeeFloat<S>>)
+        -> StatusAnd<IeeeFloat<S>>;
 
     /// The NaN that an operation on two operands delivers.
     ///

@@ -48,8 +48,7 @@ pub positive_root : (g : Format) (mode : Round) (negative : Bool) (amount places
     → 0 < amount → negative ≡ false
     → IsDeliveredRoot g mode (amount * 2 ^ places * (2 ^ g.scale * 2 ^ g.scale)) (2 ^ places) value status
     → IsRootOf g mode (number negative amount places) value status
-positive_root g mode negative amount places value status p e h =
-    rw (ne_eqb amount 0 (λ z. omega (arith, z, p)), e) h
+positive_root g mode negative amount places value status p e h = rw (ne_eqb amount 0 (λ z. omega (arith, z, p)), e) h
 
 -- the root of a zero
 pub zero_root : (g : Format) (mode : Round) (negative : Bool) (amount places : ℕ) (value : Datum) (status : ℕ)

@@ -29,8 +29,7 @@ moved_amount min x low e j n s h v =
 
 -- the amount of a zero significand is 0
 pub no_amount : (low e : ℤ) (n : ℕ) → IsQuantaAt low 0 e n → n ≡ 0
-no_amount low e n h =
-    eq_of_mul-eq-mul_right (2 ^ down (e -ℤ low)) (pow_pos (down (e -ℤ low))) n 0 (omega (arith, h))
+no_amount low e n h = eq_of_mul-eq-mul_right (2 ^ down (e -ℤ low)) (pow_pos (down (e -ℤ low))) n 0 (omega (arith, h))
 
 -- the amount of another significand is above 0
 pub some_amount : (low e : ℤ) (s n : ℕ) → 0 < s → IsQuantaAt low s e n → 0 < n
@@ -41,8 +40,7 @@ some_amount low e s n p h =
 -- so are those of a term
 pub no_term : (places n : ℕ) (x : Term) → x.significand ≡ 0 → IsAmount n places x → n ≡ 0
 no_term places n x z h =
-    no_amount (neg_ℤ (pos places)) x.exponent n
-    (subst (λ (m : ℕ). IsQuantaAt (neg_ℤ (pos places)) m x.exponent n) z h)
+    no_amount (neg_ℤ (pos places)) x.exponent n (subst (λ (m : ℕ). IsQuantaAt (neg_ℤ (pos places)) m x.exponent n) z h)
 
 pub some_term : (places n : ℕ) (x : Term) → (x.significand ≡ 0 → ⊥) → IsAmount n places x → 0 < n
 some_term places n x p h = some_amount (neg_ℤ (pos places)) x.exponent x.significand n (omega (arith, p)) h

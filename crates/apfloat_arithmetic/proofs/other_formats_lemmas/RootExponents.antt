@@ -21,9 +21,8 @@ root_is m w s scale odd x half last h e l =
     same_places m w (down (x -ℤ neg_ℤ (pos s))) (up (x -ℤ neg_ℤ (pos s))) (s + (scale + scale) + (d + d)) (124 + odd)
     ((u + s) + (u + s)) h (omega (arith, ints)) in
     let i : 2 ^ (s + (scale + scale) + (d + d)) ≡ 2 ^ s * (2 ^ scale * 2 ^ scale) * (2 ^ d * 2 ^ d) =
-    pow3 s (scale + scale) (d + d) ∙
-    ap (λ (z : ℕ). 2 ^ s * z * 2 ^ (d + d)) (square scale) ∙
-    ap (λ (z : ℕ). 2 ^ s * (2 ^ scale * 2 ^ scale) * z) (square d) in
+    pow3 s (scale + scale) (d + d) ∙ ap (λ (z : ℕ). 2 ^ s * z * 2 ^ (d + d)) (square scale)
+    ∙ ap (λ (z : ℕ). 2 ^ s * (2 ^ scale * 2 ^ scale) * z) (square d) in
     let j : 2 ^ ((u + s) + (u + s)) ≡ (2 ^ u * 2 ^ s) * (2 ^ u * 2 ^ s) =
     square (u + s) ∙ ap (λ (z : ℕ). z * z) (pow-add 2 u s) in
     let a : m * 2 ^ (s + (scale + scale) + (d + d)) ≡ m * (2 ^ s * (2 ^ scale * 2 ^ scale) * (2 ^ d * 2 ^ d)) =

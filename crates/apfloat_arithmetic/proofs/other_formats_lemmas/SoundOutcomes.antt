@@ -46,8 +46,7 @@ quotient_sound g (infinity b) (infinity c) = invalid_together
 quotient_sound g (infinity b) (number c n t) = infinity_sound g (product_sign b c)
 quotient_sound g (number b m s) (infinity c) = ok_together
 quotient_sound g (number b m s) (number c n t) =
-    if_case IsSound (eqb n 0)
-    (λ e. if_case IsSound (eqb m 0) (λ f. invalid_together) (λ f. div_by_zero_together))
+    if_case IsSound (eqb n 0) (λ e. if_case IsSound (eqb m 0) (λ f. invalid_together) (λ f. div_by_zero_together))
     (λ e. mul-pos (above_zero n e) (pow_pos s))
 
 with_infinity_sound : (g : Format) (negative : Bool) (amount : ℕ) (z : Extended)
@@ -68,5 +67,4 @@ pub root_sound : (g : Format) (x : Extended) → IsSound (root_of g x)
 root_sound g (not_number s d) = invalid_if_together s
 root_sound g (infinity b) = if_case IsSound b (λ e. invalid_together) (λ e. infinity_sound g false)
 root_sound g (number b n s) =
-    if_case IsSound (eqb n 0) (λ e. ok_together)
-    (λ e. if_case IsSound b (λ f. invalid_together) (λ f. pow_pos s))
+    if_case IsSound (eqb n 0) (λ e. ok_together) (λ e. if_case IsSound b (λ f. invalid_together) (λ f. pow_pos s))

@@ -271,7 +271,7 @@ stored_codes c law =
           datum_is c index (cond negative (2 ^ (c.bits - 1)) 0 + index) negative (omega (arith, half, within)) refl;
     }
 
-no_overflow : (exact tiny : Bool) → bit_and (cond exact 0 (cond tiny 24 16)) 4 ≡ 0
+pub no_overflow : (exact tiny : Bool) → bit_and (cond exact 0 (cond tiny 24 16)) 4 ≡ 0
 no_overflow true tiny = refl
 no_overflow false true = refl
 no_overflow false false = refl

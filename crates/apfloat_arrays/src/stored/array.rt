@@ -5,6 +5,7 @@ ghost use Rattle.rustc_apfloat.specs.Types.{constants_of};
 ghost use Rattle.formats_at_run_time.specs.FormatKinds.{IfFormat};
 ghost use Rattle.apfloat_arrays.specs.{Blocks.IsBlock, Bytes.number_of};
 ghost use Rattle.apfloat_arrays.specs.stored.Arrays.{IsConverted, IsLoadedIn, IsStoredIn, widths_of};
+ghost use Rattle.apfloat_arrays.specs.stored.NumberArrays.{AreStorable, AreStored};
 
 use crate::each::{ValueConversion, convert_each};
 use crate::stored::code_tables::{Codes, has_code_table, load_codes};
@@ -140,20 +141,31 @@ impl ReadsInFormat for StoreCall<'_> {
 
     fn read_in_format<S: Semantics>(self, bytes: &mut [u8]) -> Counts {
         if let Some(counts) = store_numbers::<S>(self, bytes) {
-            return counts;
+            counts
+        } else {
+            store_slowly::<S>(self, bytes)
         }
-        let stored = Stored::<S> {
-            target: self.target,
-            round: self.round,
-            overflow: self.overflow,
-            source: PhantomData,
-        };
-        let widths = Widths {
-            source: self.width,
-            target: 1,
-        };
-        convert_each(stored, widths, self.count, self.input, bytes)
     }
+}
+
+/// Converts values into a storage format, each in its place, in the general way. In line, since the fields of a call in
+/// memory would be read again for each value.
+#[inline(always)]
+pub(crate) fn store_slowly<S: Semantics>(call: StoreCall, output: &mut [u8]) -> Counts
+    requires { AreStorable (constants_of S.Semantics) call output.old }
+    ensures { AreStored (constants_of S.Semantics) call.entry output.new result }
+{
+    let stored = Stored::<S> {
+        target: call.target,
+        round: call.round,
+        overflow: call.overflow,
+        source: PhantomData,
+    };
+    let widths = Widths {
+        source: call.width,
+        target: 1,
+    };
+    convert_each(stored, widths, call.count, call.input, output)
 }
 
 impl WritesInFormat for LoadCall<'_> {

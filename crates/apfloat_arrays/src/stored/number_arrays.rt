@@ -11,6 +11,7 @@ use crate::bytes::{bits_in, has_width, write_number};
 use crate::counts::{Counts, Outcome};
 use crate::each::{ValueConversion, convert_each};
 use crate::stored::array::{StoreCall, store_value};
+use crate::stored::e3m4_arrays::store_e3m4;
 use crate::stored::formats::StoredFormat;
 use crate::stored::number_codes::{digits_below, is_number, is_word_source, store_number};
 use crate::widths::Widths;
@@ -31,7 +32,8 @@ pub(crate) fn store_numbers<S: Semantics>(call: StoreCall, output: &mut [u8]) ->
         StoredFormat::E2M1FN => store_in::<S, E2M1FN>(call, output),
         StoredFormat::E2M3FN => store_in::<S, E2M3FN>(call, output),
         StoredFormat::E3M2FN => store_in::<S, E3M2FN>(call, output),
-        StoredFormat::E3M4 | StoredFormat::E8M0FNU | StoredFormat::UE4M3 => None,
+        StoredFormat::E3M4 => store_e3m4::<S>(call, output),
+        StoredFormat::E8M0FNU | StoredFormat::UE4M3 => None,
     }
 }
 

@@ -22,13 +22,10 @@ fault_free rest tail scan n s f = rw (n, s.one_dot, s.empty_is, s.tail_is) f
 
 -- the number after the prefix is read, if no fault was found
 pub literal_read : (shape : Shape) (mode : Round) (negative : Bool) (rest tail : List ℕ) (scan : Scan)
-    (answer : StatusAnd Unpacked)
-    → is_empty rest ≡ false → IsScanned rest tail scan → fault_after scan.some tail ≡ None
-    → IsStored shape answer.value
-    → IsScaledDelivery (format_at shape) mode negative (digits_number rest)
+    (answer : StatusAnd Unpacked) → is_empty rest ≡ false → IsScanned rest tail scan → fault_after scan.some tail ≡ None
+    → IsStored shape answer.value → IsScaledDelivery (format_at shape) mode negative (digits_number rest)
     ((exponent_number (drop 1 tail) -ℤ pos (4 * scan.places)) +ℤ pos (format_at shape).scale)
-    (datum_at shape answer.value) (bits_of answer.status)
-    → IsLiteralRead shape mode negative rest answer
+    (datum_at shape answer.value) (bits_of answer.status) → IsLiteralRead shape mode negative rest answer
 literal_read shape mode negative rest tail scan answer n s f stored d =
     record {
       no_fault = fault_free rest tail scan n s f;
@@ -39,9 +36,7 @@ literal_read shape mode negative rest tail scan answer n s f stored d =
 -- a text of length 0 is empty
 pub empty_text : (rest : List ℕ) → true ≡ (length rest == 0) → is_empty rest ≡ true
 empty_text [] h = refl
-empty_text (c ∷ rest) h =
-    let e = eqb-true (length (c ∷ rest)) 0 (sym h) in
-    absurd (omega (arith, e))
+empty_text (c ∷ rest) h = absurd (omega (arith, eqb-true (length (c ∷ rest)) 0 (sym h)))
 
 -- a text of another length is not empty
 pub some_text : (rest : List ℕ) → false ≡ (length rest == 0) → is_empty rest ≡ false

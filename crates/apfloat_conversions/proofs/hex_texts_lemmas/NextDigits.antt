@@ -19,8 +19,7 @@ even cut p =
 
 -- one more digit is cut off, after others
 pub with_next_cut : (number significand digit cut : ℕ) (loss after : Loss) → 0 < cut → 2 ^ 124 ≤ significand
-    → IsKeptAt number significand loss cut
-    → ((half : ℕ) → 0 < half → StandsFor significand loss number (2 * half)
+    → IsKeptAt number significand loss cut → ((half : ℕ) → 0 < half → StandsFor significand loss number (2 * half)
     → StandsFor significand after (number * 16 + digit) (16 * (2 * half)))
     → IsKeptAt (number * 16 + digit) significand after (cut + 1)
 with_next_cut number significand digit cut loss after p full k step =
@@ -36,11 +35,10 @@ with_next_cut number significand digit cut loss after p full k step =
     }
 
 -- the first digit is cut off
-pub with_first_cut : (number significand digit cut : ℕ) (loss after : Loss) → cut ≡ 0 → 2 ^ 124 ≤ significand
-    → IsKeptAt number significand loss cut
+pub with_first_cut : (number significand digit cut : ℕ) (loss after : Loss) → cut ≡ 0
+    → 2 ^ 124 ≤ significand → IsKeptAt number significand loss cut
     → ((quotient amount unit : ℕ) → 0 < unit → StandsFor (quotient * (2 * 8) + digit) ExactlyZero amount unit
-    → StandsFor quotient after amount (2 * 8 * unit))
-    → IsKeptAt (number * 16 + digit) significand after (cut + 1)
+    → StandsFor quotient after amount (2 * 8 * unit)) → IsKeptAt (number * 16 + digit) significand after (cut + 1)
 with_first_cut number significand digit cut loss after none full k step =
     let l : loss ≡ ExactlyZero = k.exact none in
     let one : 2 ^ (4 * cut) ≡ 1 = ap (λ (n : ℕ). 2 ^ (4 * n)) none in

@@ -1,7 +1,6 @@
 -- The text within one pair of parentheses.
 use Rattle.std.proofs.Common.{◌≡◌, ℕ, ◌-◌, ◌<◌, ◌≤◌, Bool, false, ◌&&◌, eqb, List, [], ◌∷◌, ◌++◌, length, take, drop}
-use Rattle.std.proofs.Common.{get_or, refl, sym, ap, ◌∙◌, arith}
-use Rattle.std.proofs.Math.Bool.{and-true}
+use Rattle.std.proofs.{Common.get_or, Common.refl, Common.sym, Common.ap, Common.◌∙◌, Common.arith, Math.Bool.and-true}
 use Rattle.std.proofs.lemmas.Bool.{eq-eqb, ne_eqb, and_right, cond-true, cond-false}
 use Rattle.apfloat_model.specs.texts.Digits.{same}
 use Rattle.apfloat_model.specs.texts.Specials.{inside, in_parentheses, plain_payload, payload_of}
@@ -15,8 +14,7 @@ last_same d (e ∷ ys) = rw (eqb_self d) (last_same e ys)
 
 -- a text of two characters or more is in parentheses if its ends are
 by_ends : (c d : ℕ) (ys : List ℕ)
-    → same (c ∷ d ∷ ys) (in_parentheses (inside (c ∷ d ∷ ys)))
-    ≡ (eqb c 40 && eqb (get_or (d ∷ ys) (length ys) 0) 41)
+    → same (c ∷ d ∷ ys) (in_parentheses (inside (c ∷ d ∷ ys))) ≡ (eqb c 40 && eqb (get_or (d ∷ ys) (length ys) 0) 41)
 by_ends c d ys =
     let e : length (c ∷ d ∷ ys) - 2 ≡ length ys = omega arith in
     rw e (ap (λ (b : Bool). eqb c 40 && b) (last_same d ys))
@@ -41,8 +39,7 @@ pub without_start : (xs : List ℕ) → 2 ≤ length xs → (get_or xs 0 0 ≡ 4
 without_start [] h p = absurd (omega (arith, h))
 without_start (c ∷ []) h p = absurd (omega (arith, h))
 without_start (c ∷ d ∷ ys) h p =
-    cond-false _ _ _
-    (by_ends c d ys ∙ ap (λ (b : Bool). b && eqb (get_or (d ∷ ys) (length ys) 0) 41) (ne_eqb c 40 p))
+    cond-false _ _ _ (by_ends c d ys ∙ ap (λ (b : Bool). b && eqb (get_or (d ∷ ys) (length ys) 0) 41) (ne_eqb c 40 p))
 
 -- without a closing parenthesis, a payload is plain
 pub without_end : (xs : List ℕ) → 2 ≤ length xs → (get_or xs (length xs - 1) 0 ≡ 41 → ⊥)
@@ -51,8 +48,7 @@ without_end [] h p = absurd (omega (arith, h))
 without_end (c ∷ []) h p = absurd (omega (arith, h))
 without_end (c ∷ d ∷ ys) h p =
     cond-false _ _ _
-    (by_ends c d ys ∙
-    and_right (eqb c 40) _ (ne_eqb (get_or (d ∷ ys) (length ys) 0) 41 (λ e. p (last_of c d ys ∙ e))))
+    (by_ends c d ys ∙ and_right (eqb c 40) _ (ne_eqb (get_or (d ∷ ys) (length ys) 0) 41 (λ e. p (last_of c d ys ∙ e))))
 
 -- a text too short for both parentheses is a plain payload
 pub too_short : (xs : List ℕ) → 1 ≤ length xs → length xs < 2 → payload_of xs ≡ plain_payload xs

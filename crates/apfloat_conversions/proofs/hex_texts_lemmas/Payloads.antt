@@ -18,10 +18,7 @@ grown Ten n c = omega arith
 -- more digits make no smaller number
 fold_grows : (radix : Radix) (n : ℕ) (digits : List ℕ) → n ≤ fold (longer radix) n digits
 fold_grows radix n [] = omega arith
-fold_grows radix n (c ∷ digits) =
-    let more = fold_grows radix (longer radix n c) digits in
-    let one = grown radix n c in
-    omega (arith, more, one)
+fold_grows radix n (c ∷ digits) = omega (arith, fold_grows radix (longer radix n c) digits, grown radix n c)
 
 -- a character that is not a digit, or leads past the bound, ends the reading
 stops : (radix : Radix) (n c : ℕ) (digits : List ℕ) (is_digit fits : Bool) → is_digit_of radix c ≡ is_digit
@@ -29,16 +26,14 @@ stops : (radix : Radix) (n c : ℕ) (digits : List ℕ) (is_digit fits : Bool) �
     → (if is_digit && fits then Some (longer radix n c) else None) ≡ None → read_on radix n (c ∷ digits) ≡ None
 stops radix n c digits false l p q e = first_fails (is_digit_of radix c) (every (is_digit_of radix) digits) _ _ p
 stops radix n c digits true false p q e =
-    let g = fold_grows radix (longer radix n c) digits in
     let f = ltb-false (longer radix n c) (2 ^ 128) q in
-    first_holds (is_digit_of radix c) (every (is_digit_of radix) digits) _ _ p
-    ∙ last_fails (every (is_digit_of radix) digits) _ _ (le-ltb _ _ (omega (arith, g, f)))
+    first_holds (is_digit_of radix c) (every (is_digit_of radix) digits) _ _ p ∙ last_fails
+    (every (is_digit_of radix) digits) _ _ (le-ltb _ _ (omega (arith, fold_grows radix (longer radix n c) digits, f)))
 stops radix n c digits true true p q e = cc
 
 -- after any other character, reading goes on with the longer number
 goes : (radix : Radix) (n c m : ℕ) (digits : List ℕ) (is_digit fits : Bool) → is_digit_of radix c ≡ is_digit
-    → ltb (longer radix n c) (2 ^ 128) ≡ fits
-    → (if is_digit && fits then Some (longer radix n c) else None) ≡ Some m
+    → ltb (longer radix n c) (2 ^ 128) ≡ fits → (if is_digit && fits then Some (longer radix n c) else None) ≡ Some m
     → (m < 2 ^ 128) × (read_on radix n (c ∷ digits) ≡ read_on radix m digits)
 goes radix n c m digits false l p q e = cc
 goes radix n c m digits true false p q e = cc

@@ -22,32 +22,25 @@ use Rattle.apfloat_conversions.specs.hex_texts.{Scans.IsKeptAt, Saturation.IsNea
 far_up : (format : Format) (number s k : ℕ) (z p : ℤ) → 0 < s → s * 2 ^ k ≤ number → p ≡ z -ℤ pos k
     → pos (format.precision + format.span) ≤ℤ z → IsFarAbove format (number * 2 ^ up p) (2 ^ down p)
 far_up format number s k z p some from e far =
-    let a : 1 * 2 ^ k ≤ s * 2 ^ k = mul-le-mul_right (2 ^ k) some in
-    let b : 2 ^ k ≤ number = omega (arith, a, from) in
-    let c : 2 ^ k * 2 ^ up p ≤ number * 2 ^ up p = mul-le-mul_right (2 ^ up p) b in
+    let b : 2 ^ k ≤ number = omega (arith, mul-le-mul_right (2 ^ k) some, from) in
     let g : format.precision + format.span + down p ≤ k + up p = omega (arith, ints, e, far) in
     let h : 2 ^ (format.precision + format.span + down p) ≤ 2 ^ (k + up p) = pow-le-pow_right two_pos g in
     let i : 2 ^ (format.precision + format.span + down p) ≡ 2 ^ (format.precision + format.span) * 2 ^ down p =
     pow-add 2 (format.precision + format.span) (down p) in
-    let j : 2 ^ (k + up p) ≡ 2 ^ k * 2 ^ up p = pow-add 2 k (up p) in
-    record { some = pow_pos (down p); from = omega (arith, c, h, i, j) }
+    record { some = pow_pos (down p); from = omega (arith, mul-le-mul_right (2 ^ up p) b, h, i, pow-add 2 k (up p)) }
 
 -- an exponent that was clamped from below leads far below the format
 far_down : (number s k : ℕ) (z p : ℤ) → 0 < number → s < 2 ^ 128 → number < (s + 1) * 2 ^ k → p ≡ z -ℤ pos k
-    → z ≤ℤ neg_ℤ (pos 129)
-    → IsFarBelow (number * 2 ^ up p) (2 ^ down p)
+    → z ≤ℤ neg_ℤ (pos 129) → IsFarBelow (number * 2 ^ up p) (2 ^ down p)
 far_down number s k z p some small to e far =
     let l : s + 1 ≤ 2 ^ 128 = omega (arith, small) in
-    let a : (s + 1) * 2 ^ k ≤ 2 ^ 128 * 2 ^ k = mul-le-mul_right (2 ^ k) l in
-    let b : number < 2 ^ 128 * 2 ^ k = omega (arith, a, to) in
-    let i : 2 ^ (128 + k) ≡ 2 ^ 128 * 2 ^ k = pow-add 2 128 k in
-    let b' : number < 2 ^ (128 + k) = subst (λ (x : ℕ). number < x) (sym i) b in
+    let b : number < 2 ^ 128 * 2 ^ k = omega (arith, mul-le-mul_right (2 ^ k) l, to) in
+    let b' : number < 2 ^ (128 + k) = subst (λ (x : ℕ). number < x) (sym (pow-add 2 128 k)) b in
     let c : number * 2 ^ up p < 2 ^ (128 + k) * 2 ^ up p = mul-lt-mul_of_pos_right b' (pow_pos (up p)) in
-    let j : 2 ^ (128 + k + up p) ≡ 2 ^ (128 + k) * 2 ^ up p = pow-add 2 (128 + k) (up p) in
     let m : 2 ^ (1 + (128 + k + up p)) ≡ 2 * 2 ^ (128 + k + up p) = pow-add 2 1 (128 + k + up p) in
     let g : 1 + (128 + k + up p) ≤ down p = omega (arith, ints, e, far) in
     let h : 2 ^ (1 + (128 + k + up p)) ≤ 2 ^ down p = pow-le-pow_right two_pos g in
-    record { some = mul-pos some (pow_pos (up p)); to = omega (arith, c, j, m, h) }
+    record { some = mul-pos some (pow_pos (up p)); to = omega (arith, c, pow-add 2 (128 + k) (up p), m, h) }
 
 -- ---- one exponent for another
 
@@ -70,19 +63,14 @@ moved format mode negative number s cut loss exact unit v status b some small k 
     subst (λ (z : ℤ). IsScaledDelivery format mode negative number (power_at (4 * cut) format.scale z) v status) e d
 moved format mode negative number s cut loss exact unit v status b some small k (inr (inl e)) d =
     let from = stands_from s loss number (2 ^ (4 * cut)) k.stands in
-    let l : pos (format.precision + format.span) ≤ℤ (unit +ℤ pos format.scale) = omega (arith, ints, b.above, e) in
-    let m : pos (format.precision + format.span) ≤ℤ (exact +ℤ pos format.scale) = omega (arith, ints, b.above, e) in
-    far_above format mode negative _ _ _ _ v status b.some
-    (far_up format number s (4 * cut) (unit +ℤ pos format.scale)
-    (power_at (4 * cut) format.scale unit) some from refl l)
+    far_above format mode negative _ _ _ _ v status b.some (far_up format number s (4 * cut) (unit +ℤ pos format.scale)
+    (power_at (4 * cut) format.scale unit) some from refl (omega (arith, ints, b.above, e)))
     (far_up format number s (4 * cut) (exact +ℤ pos format.scale)
-    (power_at (4 * cut) format.scale exact) some from refl m)
-    d
+    (power_at (4 * cut) format.scale exact) some from refl (omega (arith, ints, b.above, e))) d
 moved format mode negative number s cut loss exact unit v status b some small k (inr (inr e)) d =
-    let from = stands_from s loss number (2 ^ (4 * cut)) k.stands in
     let to = stands_to s loss number (2 ^ (4 * cut)) (pow_pos (4 * cut)) k.stands in
     let p : 0 < s * 2 ^ (4 * cut) = mul-pos some (pow_pos (4 * cut)) in
-    let n : 0 < number = omega (arith, p, from) in
+    let n : 0 < number = omega (arith, p, stands_from s loss number (2 ^ (4 * cut)) k.stands) in
     let l : (unit +ℤ pos format.scale) ≤ℤ neg_ℤ (pos 129) = omega (arith, ints, b.below, e) in
     let m : (exact +ℤ pos format.scale) ≤ℤ neg_ℤ (pos 129) = omega (arith, ints, b.below, e) in
     far_below format mode negative _ _ _ _ v status b.some
@@ -93,8 +81,7 @@ moved format mode negative number s cut loss exact unit v status b some small k 
 -- ---- the kept digits
 
 -- the places of the number's power of two and of the unit have equal sums on both sides
-balanced : (k scale : ℕ) (unit : ℤ)
-    → k + (up (power_at k scale unit) + down (unit +ℤ pos scale))
+balanced : (k scale : ℕ) (unit : ℤ) → k + (up (power_at k scale unit) + down (unit +ℤ pos scale))
     ≡ down (power_at k scale unit) + up (unit +ℤ pos scale)
 balanced k scale unit = omega (arith, ints)
 
@@ -115,17 +102,14 @@ stands_at number s k scale loss unit h =
 
 -- rounding the kept digits, with a clamped exponent, is rounding the number
 pub number_delivered : (format : Format) (mode : Round) (negative : Bool) (number s cut places : ℕ) (loss : Loss)
-    (exact unit : ℤ) (value : Datum) (status : ℕ)
-    → IsBounded format → 0 < s → s < 2 ^ 128 → IsKeptAt number s loss cut
-    → IsNear text_bound ((exact +ℤ pos (4 * cut)) -ℤ pos (4 * places)) unit
-    → ((amount parts : ℕ) → 0 < parts
+    (exact unit : ℤ) (value : Datum) (status : ℕ) → IsBounded format → 0 < s → s < 2 ^ 128 → IsKeptAt number s loss cut
+    → IsNear text_bound ((exact +ℤ pos (4 * cut)) -ℤ pos (4 * places)) unit → ((amount parts : ℕ) → 0 < parts
     → StandsFor s loss (amount * 2 ^ down (unit +ℤ pos format.scale)) (parts * 2 ^ up (unit +ℤ pos format.scale))
     → IsDelivered format mode negative amount parts value status)
     → IsScaledDelivery format mode negative number ((exact -ℤ pos (4 * places)) +ℤ pos format.scale) value status
 number_delivered format mode negative number s cut places loss exact unit v status b some small k near step =
     let d = step (number * 2 ^ up (power_at (4 * cut) format.scale unit))
-    (2 ^ down (power_at (4 * cut) format.scale unit))
-    (pow_pos (down (power_at (4 * cut) format.scale unit)))
+    (2 ^ down (power_at (4 * cut) format.scale unit)) (pow_pos (down (power_at (4 * cut) format.scale unit)))
     (stands_at number s (4 * cut) format.scale loss unit k.stands) in
     let e : power_at (4 * cut) format.scale ((exact +ℤ pos (4 * cut)) -ℤ pos (4 * places))
     ≡ (exact -ℤ pos (4 * places)) +ℤ pos format.scale = omega (arith, ints) in
@@ -165,8 +149,7 @@ fine_digits precision number s cut loss p k =
     (λ (e : cut ≡ 0). inl (k.exact e))
     (λ (l : 2 ^ 124 ≤ s).
     let g : precision - 1 ≤ 124 = omega (arith, p) in
-    let h : 2 ^ (precision - 1) ≤ 2 ^ 124 = pow-le-pow_right two_pos g in
-    inr (inr (omega (arith, h, l))))
+    inr (inr (omega (arith, pow-le-pow_right two_pos g, l))))
     k.full
 
 -- the format of a shape has a digit, and its precision, span and scale are bounded

@@ -15,8 +15,7 @@ refused_by (Err y) e P Q is q = subst Q (sym is) q
 -- ---- a scan that is rebuilt
 
 -- a scan rebuilt from its parts is the same scan
-pub scan_remade : (rest left : List ℕ) (next made : Scan) → made ≡ next
-    → IsScan rest left next → IsScan rest left made
+pub scan_remade : (rest left : List ℕ) (next made : Scan) → made ≡ next → IsScan rest left next → IsScan rest left made
 scan_remade rest left next made e s = subst (λ (x : Scan). IsScan rest left x) (sym e) s
 
 -- ---- the end of a significand

@@ -69,9 +69,8 @@ no_special text b =
     (begun_of body b)
 
 -- the fault of a literal is that of the text after its prefix
-literal_fault_is : (text : List ℕ) → is_empty text ≡ false → is_empty (after_mark text) ≡ false
-    → special_of text ≡ None → begins_literal (after_mark text) ≡ true
-    → fault_of text ≡ after_prefix_fault (drop 2 (after_mark text))
+literal_fault_is : (text : List ℕ) → is_empty text ≡ false → is_empty (after_mark text) ≡ false → special_of text ≡ None
+    → begins_literal (after_mark text) ≡ true → fault_of text ≡ after_prefix_fault (drop 2 (after_mark text))
 literal_fault_is text t b s l = rw (t, b, s, l) refl
 
 -- a text is read if its literal is
@@ -92,14 +91,12 @@ text_of_literal shape mode text answer l r =
     }
 
 -- a text with a prefix is read as a number, or refused for the first fault after the prefix
-pub literal_text : (shape : Shape) (mode : Round) (text rest : List ℕ) (negative : Bool)
-    (result : Result (StatusAnd Unpacked) Fault)
-    → is_empty text ≡ false → is_empty (after_mark text) ≡ false → begins_literal (after_mark text) ≡ true
-    → rest ≡ drop 2 (after_mark text) → negative ≡ is_minus (mark_of text)
-    → MatchResult result (λ answer. IsLiteralRead shape mode negative rest answer)
+pub literal_text : (shape : Shape) (mode : Round)
+    (text rest : List ℕ) (negative : Bool) (result : Result (StatusAnd Unpacked) Fault) → is_empty text ≡ false
+    → is_empty (after_mark text) ≡ false → begins_literal (after_mark text) ≡ true → rest ≡ drop 2 (after_mark text)
+    → negative ≡ is_minus (mark_of text) → MatchResult result (λ answer. IsLiteralRead shape mode negative rest answer)
     (λ fault. after_prefix_fault rest ≡ Some fault)
-    → MatchResult result (λ answer. IsTextRead shape mode text answer)
-    (λ fault. fault_of text ≡ Some fault)
+    → MatchResult result (λ answer. IsTextRead shape mode text answer) (λ fault. fault_of text ≡ Some fault)
 literal_text shape mode text rest negative (Ok answer) t b l r n h =
     text_of_literal shape mode text answer l (rw (r, n) at h)
 literal_text shape mode text rest negative (Err fault) t b l r n h =

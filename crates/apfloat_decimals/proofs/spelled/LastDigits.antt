@@ -180,8 +180,7 @@ no_digits count n none = ap (λ (k : ℕ). last_digits k n) (sym none)
 pub all_last : (n : ℕ) → n < 2 ^ 128 → last_digits (length (decimal n)) n ≡ decimal n
 unfolding last_digits
 all_last n few =
-    decimal_by_steps_wide (λ (m : ℕ) (ds : List ℕ). last_digits (length ds) m ≡ ds) one more n
-    (omega (arith, few))
+    decimal_by_steps_wide (λ (m : ℕ) (ds : List ℕ). last_digits (length ds) m ≡ ds) one more n (omega (arith, few))
   where
     one : (m : ℕ) → m < 10 → last_digits (length ((48 + m) ∷ [])) m ≡ (48 + m) ∷ []
     one m l = let same : 48 + m % 10 ≡ 48 + m = omega (arith, l) in ap (λ (k : ℕ). k ∷ []) same
@@ -240,10 +239,8 @@ moved_taken all count n power at old new most within is taken =
     let both = length-append (take at old) (last_digits count n) in
     let long : length text ≡ at + count = omega (arith, start, last_length count n, both) in
     let written : take (at + all) new ≡ text ++ replicate (all - count) 48 =
-    taken ∙ ap (λ (k : ℕ). take at old ++ last_digits all (n * k)) is
-    ∙ moved_last all count n (take at old) most in
-    sym (take-take (at + count) (at + all) new (omega (arith, most)))
-    ∙ ap (λ (x : List ℕ). take (at + count) x) written
+    taken ∙ ap (λ (k : ℕ). take at old ++ last_digits all (n * k)) is ∙ moved_last all count n (take at old) most in
+    sym (take-take (at + count) (at + all) new (omega (arith, most))) ∙ ap (λ (x : List ℕ). take (at + count) x) written
     ∙ take_at text (replicate (all - count) 48) (at + count) long
 
 -- leading zeros and the digits of a number are its last digits
@@ -263,8 +260,7 @@ pub pair_joined : (n a b : ℕ) (text : List ℕ) → n < 100 → a ≡ 48 + n /
 unfolding last_digits
 pair_joined n a b text few first second =
     let tens : 48 + n / 10 ≡ 48 + n / 10 % 10 = omega (arith, few) in
-    append_assoc text (a ∷ []) (b ∷ [])
-    ∙ ap (λ (k : ℕ). text ++ (k ∷ b ∷ [])) (first ∙ tens)
+    append_assoc text (a ∷ []) (b ∷ []) ∙ ap (λ (k : ℕ). text ++ (k ∷ b ∷ [])) (first ∙ tens)
     ∙ ap (λ (k : ℕ). text ++ ((48 + n / 10 % 10) ∷ k ∷ [])) second
 
 -- ---- the table of pairs

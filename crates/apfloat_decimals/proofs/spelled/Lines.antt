@@ -201,8 +201,7 @@ sign_length false = lit≤ tt
 all_zeros : (xs : List ℕ) → ((i : ℕ) → slice_index xs i ≡ 0) → xs ≡ replicate (length xs) 0
 all_zeros [] zero = refl
 all_zeros (x ∷ xs) zero =
-    ap (λ (k : ℕ). k ∷ xs) (zero 0)
-    ∙ ap (λ (ys : List ℕ). 0 ∷ ys) (all_zeros xs (λ i. zero (suc i)))
+    ap (λ (k : ℕ). k ∷ xs) (zero 0) ∙ ap (λ (ys : List ℕ). 0 ∷ ys) (all_zeros xs (λ i. zero (suc i)))
 
 pub text_and_zeros : (bytes text : List ℕ) (end all : ℕ) → take end bytes ≡ text → AreZerosFrom end bytes
     → end ≤ all → length bytes ≡ all → bytes ≡ text ++ replicate (all - length text) 0

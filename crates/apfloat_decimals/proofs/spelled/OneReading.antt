@@ -41,8 +41,7 @@ decimal_reading_once f mode text v w r s (inr x) (inr y) = reading_once f mode t
 
 -- if a text has no fault, it has no fault as a decimal text either
 same_fault : (empty bare special literal : Bool) (rest body : Option Fault)
-    → (if empty then Some EmptyText
-    else (if bare then Some LoneMark
+    → (if empty then Some EmptyText else (if bare then Some LoneMark
     else (if special then None else (if not literal then Some NoLiteral else rest)))) ≡ None
     → (if empty then Some EmptyText
     else (if bare then Some LoneMark else (if special then None else (if literal then rest else body)))) ≡ None

@@ -22,8 +22,7 @@ number_upto digits i n =
 pub digit_next : (digits : List ℕ) (i n : ℕ) → every is_decimal digits ≡ true → i < length digits
     → number_from n (take (i + 1) digits) ≡ number_from n (take i digits) * 10 + (get_or digits i 0 - 48)
 digit_next digits i n h l =
-    number_next digits i n l
-    ∙ ap (λ (v : ℕ). number_from n (take i digits) * 10 + v)
+    number_next digits i n l ∙ ap (λ (v : ℕ). number_from n (take i digits) * 10 + v)
     (value_of_digit (get_or digits i 0) (digit_of digits i h l).1)
 
 -- a number is at least the number that its first digits, with the next one, spell

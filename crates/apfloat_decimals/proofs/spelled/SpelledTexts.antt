@@ -55,8 +55,7 @@ written : (tail : List ℕ) → (not (is_empty tail) && not (begins is_e tail)) 
     → written_fault tail ≡ None → IsWrittenExponent tail (exponent_number (drop 1 tail))
 written [] b d = refl
 written (letter ∷ exponent) b d =
-    let every_one =
-    left_none (not (every is_decimal (after_mark exponent))) WrongInExponent
+    let every_one = left_none (not (every is_decimal (after_mark exponent))) WrongInExponent
     (cond (is_empty (after_mark exponent)) (Some NoExponentDigits) None) d in
     let some_one = left_none (is_empty (after_mark exponent)) NoExponentDigits None every_one.1 in (
       not-false (is_e letter) b,
@@ -89,8 +88,7 @@ body_text body whole rest fraction tail some w r f t n h =
       written = exponent_number (drop 1 tail);
       spelled = body_is ∙ ap (λ (x : List ℕ). whole ++ x) rest_is;
       is_point = rw f s.is_point;
-      are_digits = append-every is_decimal whole fraction (first_digits body whole w)
-          (fraction_digits rest fraction f);
+      are_digits = append-every is_decimal whole fraction (first_digits body whole w) (fraction_digits rest fraction f);
       has_digits = some_length (whole ++ fraction) (empty_none (whole ++ fraction) some_digit);
       is_written = written tail b.0 d.1;
       digits_are = refl;
@@ -103,11 +101,9 @@ body_text body whole rest fraction tail some w r f t n h =
 
 -- a text without a fault has that number, rounded once, as its value
 pub body_spelled : (format : Format) (mode : Round) (negative : Bool) (body whole rest fraction tail : List ℕ)
-    (some : Bool) (value : Datum) (status : ℕ) → whole ≡ run is_decimal body
-    → rest ≡ after_run is_decimal body
+    (some : Bool) (value : Datum) (status : ℕ) → whole ≡ run is_decimal body → rest ≡ after_run is_decimal body
     → fraction ≡ fraction_in rest → tail ≡ after_fraction rest → some ≡ not (is_empty (whole ++ fraction))
-    → fault_after some tail ≡ None
-    → IsDecimalDelivery format mode negative (number 10 (whole ++ fraction))
+    → fault_after some tail ≡ None → IsDecimalDelivery format mode negative (number 10 (whole ++ fraction))
     (exponent_number (drop 1 tail) -ℤ pos (length fraction)) value status
     → IsSpelled format mode negative body value status
 body_spelled format mode negative body whole rest fraction tail some value status w r f t n h delivered =
@@ -129,8 +125,7 @@ body_faulted body whole rest fraction tail some fault w r f t n h =
     let f' : fraction ≡ fraction_in (after_run is_decimal body) = f ∙ ap fraction_in r in
     let d : whole ++ fraction ≡ run is_decimal body ++ fraction_in (after_run is_decimal body) =
     ap (λ (x : List ℕ). x ++ fraction) w ∙ ap (λ (x : List ℕ). run is_decimal body ++ x) f' in
-    subst (λ (x : List ℕ).
-    fault_after (not (is_empty x)) (after_fraction (after_run is_decimal body)) ≡ Some fault) d
+    subst (λ (x : List ℕ). fault_after (not (is_empty x)) (after_fraction (after_run is_decimal body)) ≡ Some fault) d
     (subst (λ (x : List ℕ). fault_after (not (is_empty (whole ++ fraction))) x ≡ Some fault) t' h')
 
 -- ---- texts that are not empty
@@ -156,8 +151,7 @@ pub other_fault : (text : List ℕ) (fault : Fault)
     → fault_of text ≡ Some fault → decimal_fault_of text ≡ Some fault
 other_fault [] fault h first = first
 other_fault (c ∷ text) fault h first =
-    go (is_empty (after_mark (c ∷ text))) (is_some (special_of (c ∷ text)))
-    (begins_literal (after_mark (c ∷ text)))
+    go (is_empty (after_mark (c ∷ text))) (is_some (special_of (c ∷ text))) (begins_literal (after_mark (c ∷ text)))
     (after_prefix_fault (drop 2 (after_mark (c ∷ text)))) (body_fault (after_mark (c ∷ text))) h first
   where
     go : (b s l : Bool) (x y : Option Fault) → (not b && not l) ≡ false
@@ -174,8 +168,7 @@ pub plain_fault : (text : List ℕ) (fault other : Fault)
     → body_fault (after_mark text) ≡ Some fault → decimal_fault_of text ≡ Some fault
 plain_fault [] fault other h first body = absurd (false≢true h)
 plain_fault (c ∷ text) fault other h first body =
-    go (is_empty (after_mark (c ∷ text))) (is_some (special_of (c ∷ text)))
-    (begins_literal (after_mark (c ∷ text)))
+    go (is_empty (after_mark (c ∷ text))) (is_some (special_of (c ∷ text))) (begins_literal (after_mark (c ∷ text)))
     (after_prefix_fault (drop 2 (after_mark (c ∷ text)))) (body_fault (after_mark (c ∷ text))) h first body
   where
     go : (b s l : Bool) (x y : Option Fault) → (not b && not l) ≡ true

@@ -86,8 +86,7 @@ parts_of whole point fraction tail (inr none) w f t d = rw (none.0, none.1) (par
 -- the number of a decimal text from its parts; the text has no fault
 pub record IsOnlyText (body : List ℕ) (digits : ℕ) (exponent : ℤ) : Type 0 where
   pub digits_are : digits ≡ number 10 (all_digits body)
-  pub exponent_is : exponent
-      ≡ exponent_number (drop 1 (after_fraction (after_run is_decimal body)))
+  pub exponent_is : exponent ≡ exponent_number (drop 1 (after_fraction (after_run is_decimal body)))
       -ℤ pos (length (fraction_in (after_run is_decimal body)))
   pub faultless : body_fault body ≡ None
   pub some : is_empty body ≡ false
@@ -106,8 +105,7 @@ only_text body digits exponent x =
     let some : is_empty (x.whole ++ x.fraction) ≡ false = not_empty (x.whole ++ x.fraction) x.has_digits in
     record {
       digits_are = x.digits_are ∙ ap (λ (t : List ℕ). number 10 t) (sym all);
-      exponent_is = x.exponent_is
-          ∙ ap (λ (z : ℤ). z -ℤ pos (length x.fraction)) tail.number_is
+      exponent_is = x.exponent_is ∙ ap (λ (z : ℤ). z -ℤ pos (length x.fraction)) tail.number_is
           ∙ sym (rw (q.tail_is, q.fraction_is) refl);
       faultless = rw (all, q.tail_is, some, tail.no_dot, tail.begins_e) tail.faultless;
       some = filled body x.whole x.point x.fraction x.tail x.spelled x.has_digits;
@@ -185,8 +183,7 @@ no_nan Minus c rest l =
 no_special : (mark : Mark) (c : ℕ) (rest : List ℕ) → c ≤ 57 → special_meaning mark (c ∷ rest) ≡ None
 no_special mark c rest l =
     cond-false (is_infinity mark (c ∷ rest)) (Some (infinity (is_minus mark))) (nan_meaning mark (c ∷ rest))
-    (no_infinity mark c rest l)
-    ∙ no_nan mark c rest l
+    (no_infinity mark c rest l) ∙ no_nan mark c rest l
 
 -- a decimal text is not special: it begins with a dot or a digit
 no_special_text : (mark : Mark) (body whole point fraction tail : List ℕ)
@@ -209,9 +206,8 @@ no_other_meaning [] digits exponent x = absurd (false≢true (sym (only_text [] 
 no_other_meaning (c ∷ text) digits exponent x =
     let body = after_mark (c ∷ text) in
     let only = only_text body digits exponent x in
-    let none : special_of (c ∷ text) ≡ None =
-    no_special_text (mark_of (c ∷ text)) body x.whole x.point x.fraction x.tail x.spelled x.is_point x.are_digits
-    x.has_digits in
+    let none : special_of (c ∷ text) ≡ None = no_special_text (mark_of (c ∷ text))
+    body x.whole x.point x.fraction x.tail x.spelled x.is_point x.are_digits x.has_digits in
     let special : is_some (special_of (c ∷ text)) ≡ false = ap is_some none in
     rw (only.some, special, no_literal body only.faultless) refl
 

@@ -24,8 +24,7 @@ text_once body digits other exponent place x y =
 
 -- a value that is read from a text is delivered for the number that the text spells
 pub reading_is : (format : Format) (mode : Round) (text : List ℕ) (negative : Bool) (digits : ℕ) (exponent : ℤ)
-    (value : Datum) (status : ℕ) → Spells text negative digits exponent
-    → IsDecimalReading format mode text value status
+    (value : Datum) (status : ℕ) → Spells text negative digits exponent → IsDecimalReading format mode text value status
     → IsDecimalDelivery format mode negative digits exponent value status
 reading_is format mode text negative digits exponent value status x (inl r) =
     let same = text_once (after_mark text) r.digits digits r.exponent exponent r.is_text x.is_text in

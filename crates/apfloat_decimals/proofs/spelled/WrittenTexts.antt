@@ -51,10 +51,8 @@ more_digits n digits l x =
       are_digits = append-every is_decimal digits ((48 + n % 10) ∷ []) x.are_digits
           (single_digit (n % 10) d).are_digits;
       some = let e = length_more digits (48 + n % 10) in omega arith;
-      number_is = number_joined digits ((48 + n % 10) ∷ []) 0
-          ∙ digit_number (number_from 0 digits) (n % 10) d
-          ∙ ap (λ (x : ℕ). x * 10 + n % 10) x.number_is
-          ∙ omega arith;
+      number_is = number_joined digits ((48 + n % 10) ∷ []) 0 ∙ digit_number (number_from 0 digits) (n % 10) d
+          ∙ ap (λ (x : ℕ). x * 10 + n % 10) x.number_is ∙ omega arith;
     }
 
 -- the written digits of a number are digits of it
@@ -67,10 +65,8 @@ after n [] = omega arith
 after n (c ∷ digits) =
     let e : 10 ^ (length digits + 1) ≡ 10 ^ length digits * 10 = pow-add 10 (length digits) 1 in
     let e' : 10 ^ length (c ∷ digits) ≡ 10 ^ length digits * 10 = rw add-one at e in
-    after (n * 10 + digit_value c) digits
-    ∙ rw e' (grown n (digit_value c) (10 ^ length digits) (number_from 0 digits)
-    (number_from (0 * 10 + digit_value c) digits)
-    (after (0 * 10 + digit_value c) digits))
+    after (n * 10 + digit_value c) digits ∙ rw e' (grown n (digit_value c) (10 ^ length digits) (number_from 0 digits)
+    (number_from (0 * 10 + digit_value c) digits) (after (0 * 10 + digit_value c) digits))
   where
     grown : (n d p r s : ℕ) → s ≡ (0 * 10 + d) * p + r → (n * 10 + d) * p + r ≡ n * (p * 10) + s
     grown n d p r s e = omega arith
@@ -98,8 +94,7 @@ padded_number places n some below few =
     let zeros = places - length (decimal n) in
     let short : length (decimal n) ≤ places = length-decimal-le_wide places n some below few in
     let long = zeros_length zeros in
-    let all : length {A = ℕ} (padded places n)
-    ≡ length {A = ℕ} (replicate zeros 48) + length {A = ℕ} (decimal n) =
+    let all : length {A = ℕ} (padded places n) ≡ length {A = ℕ} (replicate zeros 48) + length {A = ℕ} (decimal n) =
     length-append {A = ℕ} (replicate zeros 48) (decimal n) in
     record {
       are_digits = append-every is_decimal (replicate zeros 48) (decimal n) (zeros_digits zeros) x.are_digits;
@@ -149,8 +144,7 @@ dotted n places tail written few some exponent =
     let fraction = padded_number places (n % 10 ^ places) some (omega arith) (omega arith) in
     let digits = padded places (n % 10 ^ places) in
     let spelled : number 10 (decimal (n / 10 ^ places) ++ digits) ≡ n =
-    number_joined (decimal (n / 10 ^ places)) digits 0
-    ∙ after (number_from 0 (decimal (n / 10 ^ places))) digits
+    number_joined (decimal (n / 10 ^ places)) digits 0 ∙ after (number_from 0 (decimal (n / 10 ^ places))) digits
     ∙ rw (whole.number_is, fraction.length_is, fraction.number_is) (omega arith) in
     record {
       whole = decimal (n / 10 ^ places);
@@ -211,8 +205,7 @@ begun_dotted n places tail written e few some exponent same =
     let unit : 0 < 10 ^ places = power_pos 10 places (lit< tt) in
     let front : n / 10 ^ places ≤ n = omega arith in
     begun (n / 10 ^ places) n e (46 ∷ padded places (n % 10 ^ places) ++ tail) (pointed n places ++ tail)
-    (omega arith)
-    (append_assoc (decimal (n / 10 ^ places)) (46 ∷ padded places (n % 10 ^ places)) tail)
+    (omega arith) (append_assoc (decimal (n / 10 ^ places)) (46 ∷ padded places (n % 10 ^ places)) tail)
     (rw (sym same) (dotted n places tail written few some exponent))
 
 zero_text : IsMagnitude (codes "0.0") 0 (neg_ℤ (pos 1))

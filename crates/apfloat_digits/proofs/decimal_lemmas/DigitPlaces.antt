@@ -72,8 +72,7 @@ last_below f q d first place between number last =
     (λ (l : up first + down place < up place + down first).
     absurd (not_above q d (up first) (down first) (up place) (down place) f.scale
     (up place + down first - (up first + down place) - 1) (places_of f q d first place between number last)
-    (omega arith)))
-    (λ (l : up place + down first ≤ up first + down place). l)
+    (omega arith))) (λ (l : up place + down first ≤ up first + down place). l)
     (cases_lt (up first + down place) (up place + down first))
 
 pub counted : (f : Format) (q d count : ℕ) (first place : ℤ) → IsBetween f q 1 10 first → IsNumberOf f q d place

@@ -71,9 +71,8 @@ shortest f q digits fraction places short first wide is few fits same last =
     let z = last_place f 31 first in
     let w = last_place f places first in
     let k = 4 * (31 - places) in
-    let power : 16 ^ places * 2 ^ k ≡ 2 ^ 124 =
-    ap (λ (n : ℕ). n * 2 ^ k) (sixteens places) ∙ sym (pow-add 2 (4 * places) k)
-    ∙ ap (λ (n : ℕ). 2 ^ n) (let e : 4 * places + k ≡ 124 = omega (arith, few) in e) in
+    let power : 16 ^ places * 2 ^ k ≡ 2 ^ 124 = ap (λ (n : ℕ). n * 2 ^ k) (sixteens places)
+    ∙ sym (pow-add 2 (4 * places) k) ∙ ap (λ (n : ℕ). 2 ^ n) (let e : 4 * places + k ≡ 124 = omega (arith, few) in e) in
     let zeros : 16 ^ (31 - places) ≡ 2 ^ k = sixteens (31 - places) in
     let whole : digits ≡ (16 ^ places + short) * 2 ^ k =
     parts digits fraction (2 ^ 124) short (16 ^ (31 - places)) (2 ^ k) (16 ^ places) wide.low is same zeros power in

@@ -39,8 +39,7 @@ great_digit d l h =
 pub digit_of : (d : ℕ) → d < 16 → IsDigit (character d) d
 digit_of d l =
     ⊎_elim (λ (low : d < 10). rw (lt-ltb d 10 low) (small_digit d low))
-    (λ (high : 10 ≤ d). rw (le-ltb d 10 high) (great_digit d high l))
-    (cases_lt d 10)
+    (λ (high : 10 ≤ d). rw (le-ltb d 10 high) (great_digit d high l)) (cases_lt d 10)
 
 joined : (n : ℕ) (xs ys : List ℕ) → number_from n (xs ++ ys) ≡ number_from (number_from n xs) ys
 joined n [] ys = refl

@@ -43,9 +43,8 @@ IsTrailing t (nan b s) = s ≡ t
 implied_trailing : (f : Format) (layout : Layout) (x : Fields)
     → IsTrailing x.trailing (implied_datum IEEE754 f layout x)
 implied_trailing f layout x =
-    cond_both (has_all_ones layout x)
-    (cond (eqb x.trailing 0) (infinite x.negative) (nan x.negative x.trailing)) (implied_number f x)
-    (IsTrailing x.trailing)
+    cond_both (has_all_ones layout x) (cond (eqb x.trailing 0) (infinite x.negative) (nan x.negative x.trailing))
+    (implied_number f x) (IsTrailing x.trailing)
     (λ ones. cond_both (eqb x.trailing 0) (infinite x.negative) (nan x.negative x.trailing) (IsTrailing x.trailing)
     (λ none. tt) (λ some. refl))
     (λ not_ones. cond_both (eqb x.biased_exponent 0) (finite x.negative x.trailing)
@@ -330,11 +329,9 @@ read_is : (f : Format) (s : ℕ) → 3 ≤ f.precision → f.nonfinite ≡ IEEE7
 read_is f s wide kind implied some l =
     let k = f.precision - 2 in
     let e : f.precision - 1 ≡ k + 1 = omega (arith, wide) in
-    let same : read_significand f.nonfinite f.explicit_integer_bit f.precision s
-    (payload_in f.nonfinite f.precision s) ≡ s =
-    ap (λ (n : NonfiniteBehavior). read_significand n f.explicit_integer_bit f.precision s
-    (payload_in n f.precision s)) kind
-    ∙ ap (λ (b : Bool). read_significand IEEE754 b f.precision s (s % 2 ^ k)) implied
+    let same : read_significand f.nonfinite f.explicit_integer_bit f.precision s (payload_in f.nonfinite f.precision s)
+    ≡ s = ap (λ (n : NonfiniteBehavior). read_significand n f.explicit_integer_bit f.precision s
+    (payload_in n f.precision s)) kind ∙ ap (λ (b : Bool). read_significand IEEE754 b f.precision s (s % 2 ^ k)) implied
     ∙ ap (λ (n : ℕ). made s (2 ^ k) (2 ^ n - 1)) e ∙ made_is s k some (subst (λ (n : ℕ). s < 2 ^ n) e l) in
     same
 

@@ -75,16 +75,14 @@ body_means first places fraction e one fits low high =
       are_exponent_digits = exponent.are_digits;
       has_exponent_digits = exponent.some;
       h_is = sym (ap (λ (d : ℕ). number_from (0 * 16 + d) dot.digits) digit.value
-          ∙ ap (λ (n : ℕ). number_from n dot.digits) none
-          ∙ ap (λ (t : List ℕ). number_from first t) dot.digits_are
+          ∙ ap (λ (n : ℕ). number_from n dot.digits) none ∙ ap (λ (t : List ℕ). number_from first t) dot.digits_are
           ∙ digits_number places first fraction fits);
       f_is = rw dot.digits_are (sym (digits_length places fraction));
       e_is = exponent.is;
     }
 
 number_means : (negative : Bool) (first places fraction : ℕ) (e : ℤ) → first < 16 → fraction < 16 ^ places
-    → neg_ℤ (pos (2 ^ 32)) ≤ℤ e → e ≤ℤ pos (2 ^ 32)
-    → Means (number_text negative first places fraction e)
+    → neg_ℤ (pos (2 ^ 32)) ≤ℤ e → e ≤ℤ pos (2 ^ 32) → Means (number_text negative first places fraction e)
     (hexadecimal negative (first * 16 ^ places + fraction) places e)
 number_means true first places fraction e one fits low high =
     (refl, body_means first places fraction e one fits low high)

@@ -26,10 +26,8 @@ pub record IsHexCut (f : Format) (q places s : ℕ) (loss : Loss) (first : ℤ) 
   pub stands : StandsFor s loss (units f q places first) (unit f places first)
 
 pub cut_of : (f : Format) (q places digits s k : ℕ) (loss : Loss) (first : ℤ) → places ≤ 31 → k ≡ 4 * (31 - places)
-    → IsWide f q digits first
-    → ((amount parts : ℕ) → 0 < parts → StandsFor digits ExactlyZero amount parts
-    → StandsFor s loss amount (2 ^ k * parts))
-    → IsHexCut f q places s loss first
+    → IsWide f q digits first → ((amount parts : ℕ) → 0 < parts → StandsFor digits ExactlyZero amount parts
+    → StandsFor s loss amount (2 ^ k * parts)) → IsHexCut f q places s loss first
 cut_of f q places digits s k loss first few is wide step =
     let z = last_place f 31 first in
     let w = last_place f places first in
@@ -37,9 +35,8 @@ cut_of f q places digits s k loss first few is wide step =
     let high = wide.high in
     let there = step (q * 2 ^ down z) (2 ^ up z) (pow_pos (up z)) wide.number in
     let joined : 2 ^ k * 2 ^ up z ≡ 1 * 2 ^ (k + up z) = once (pow-add 2 k (up z)) in
-    let here : StandsFor s loss (q * 2 ^ down w) (1 * 2 ^ up w) =
-    stands_moved s loss q 1 (down z) (k + up z) (down w) (up w) (omega (arith, ints, few, is))
-    (subst (λ (n : ℕ). StandsFor s loss (q * 2 ^ down z) n) joined there) in
+    let here : StandsFor s loss (q * 2 ^ down w) (1 * 2 ^ up w) = stands_moved s loss q 1 (down z) (k + up z) (down w)
+    (up w) (omega (arith, ints, few, is)) (subst (λ (n : ℕ). StandsFor s loss (q * 2 ^ down z) n) joined there) in
     let one : 1 * 2 ^ up w ≡ 2 ^ up w = omega arith in
     -- in units of 1
     let plain : StandsFor s loss digits (2 ^ k * 1) = step digits 1 (omega arith) (omega arith) in
@@ -117,10 +114,9 @@ record AreSame (fraction other : ℕ) (exponent place : ℤ) (exact lost : Bool)
   exponents : exponent ≡ place
   exactly : exact ≡ lost
 
-one_rounded : (f : Format) (mode : Round) (negative : Bool) (q places fraction other : ℕ) (exponent place : ℤ)
-    (exact lost : Bool) → IsHexRoundedNumber f mode negative q places fraction exponent exact
-    → IsHexRoundedNumber f mode negative q places other place lost
-    → AreSame fraction other exponent place exact lost
+one_rounded : (f : Format) (mode : Round) (negative : Bool) (q places fraction other : ℕ)
+    (exponent place : ℤ) (exact lost : Bool) → IsHexRoundedNumber f mode negative q places fraction exponent exact
+    → IsHexRoundedNumber f mode negative q places other place lost → AreSame fraction other exponent place exact lost
 one_rounded f mode negative q places fraction other exponent place exact lost x y =
     let same : y.first ≡ x.first = logarithm_once f q y.first x.first y.is_first x.is_first in
     let picked = subst (λ (z : ℤ).

@@ -61,8 +61,7 @@ make_decimal negative digits exponent = record { negative = negative; digits = d
 
 same_decimal : (x y : Decimal) → x.negative ≡ y.negative → x.digits ≡ y.digits → x.exponent ≡ y.exponent → x ≡ y
 same_decimal x y n d e =
-    ap (λ (i : Bool). make_decimal i x.digits x.exponent) n
-    ∙ ap (λ (i : ℕ). make_decimal y.negative i x.exponent) d
+    ap (λ (i : Bool). make_decimal i x.digits x.exponent) n ∙ ap (λ (i : ℕ). make_decimal y.negative i x.exponent) d
     ∙ ap (λ (i : ℤ). make_decimal y.negative y.digits i) e
 
 -- a finite value has at most one shortest decimal
@@ -150,9 +149,8 @@ text_read_back x d text digits exponent (Ok answer) g spells same read =
     let chosen = has_decimal (same_pair g.back x) (GivesShortest wide g.joined (Some d)) d g.is_answer in
     let delivered = reading_is wide NearestTiesToEven text d.negative digits exponent read.value
     (bits_of answer.status) spells read.is_value in
-    let value : read.value ≡ g.joined =
-    read_back wide g.joined d digits exponent read.value (bits_of answer.status) (lit< tt)
-    (member_of wide g.joined d refl chosen.1) chosen.1 same delivered in
+    let value : read.value ≡ g.joined = read_back wide g.joined d digits exponent read.value (bits_of answer.status)
+    (lit< tt) (member_of wide g.joined d refl chosen.1) chosen.1 same delivered in
     split_once g.joined answer.value g.back (subst (λ (v : Datum). IsSplit v answer.value) value read.is_split)
     g.is_split ∙ pair_same g.back x chosen.0
 text_read_back x d text digits exponent (Err error) g spells same read =

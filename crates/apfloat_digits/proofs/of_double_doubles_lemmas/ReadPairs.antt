@@ -52,8 +52,7 @@ delivered_member : (mode : Round) (negative : Bool) (amount parts : ℕ) (value 
 delivered_member mode b amount parts value status x f =
     subst (λ (d : Datum). IsMember wide d) (sym x.value_is)
     (value_member b (ltb (largest wide) x.pick) (leads_out mode b) x.pick
-    (pick_on_grid wide.precision mode b amount parts x.pick x.is_pick)
-    (λ e. ltb-false (largest wide) x.pick e)
+    (pick_on_grid wide.precision mode b amount parts x.pick x.is_pick) (λ e. ltb-false (largest wide) x.pick e)
     (sym (ap is_finite x.value_is) ∙ f))
 
 meant_member : (mode : Round) (meaning : TextMeaning) (value : Datum) (status : ℕ)
@@ -78,9 +77,8 @@ zero_joined : (negative : Bool) (x : Pair) (joined : Datum) → IsSplit (finite 
     → joined ≡ finite negative 0
 zero_joined b x joined s j =
     let h : x.high ≡ finite b 0 = s.high_is.value_is in
-    let w : IsWidened x.high joined =
-    alone (is_finite_non_zero x.high) (IsSumOfParts x joined) (IsWidened x.high joined)
-    (ap (λ (d : Datum). is_finite_non_zero d) h) j in
+    let w : IsWidened x.high joined = alone (is_finite_non_zero x.high) (IsSumOfParts x joined)
+    (IsWidened x.high joined) (ap (λ (d : Datum). is_finite_non_zero d) h) j in
     let v : IsWidened (finite b 0) joined = subst (λ (d : Datum). IsWidened d joined) h w in
     v.is_conversion.value_is
 

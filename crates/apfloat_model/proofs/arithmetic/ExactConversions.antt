@@ -18,11 +18,9 @@ number_exactly from into mode b m n value status loses_info l e t h =
     let d = exact_delivered into mode b n (m * 2 ^ into.scale) (2 ^ from.scale)
     (pow_pos from.scale) t.on_grid t.within (sym e) in
     let o = delivered_once into mode b (m * 2 ^ into.scale)
-    (2 ^ from.scale) value (signed_quanta into.nonfinite b n) status
-    ok_bits h.is_delivered d in
-    let p : 0 < n = both_above_zero m n from.scale into.scale e l in
+    (2 ^ from.scale) value (signed_quanta into.nonfinite b n) status ok_bits h.is_delivered d in
     record {
-      value_is = o.0 ∙ signed_some into.nonfinite b n p;
+      value_is = o.0 ∙ signed_some into.nonfinite b n (both_above_zero m n from.scale into.scale e l);
       status_is = o.1;
       loses_is = h.loses_is ∙ ap (λ (s : ℕ). not (eqb s ok_bits)) o.1;
     }
@@ -38,8 +36,7 @@ zero_exactly format b value status loses_info z h =
     record {
       value_is = r.value_is ∙ ap (λ (s : Bool). finite s 0) (sym z);
       status_is = r.status_is;
-      loses_is =
-          r.loses_is;
+      loses_is = r.loses_is;
     }
 
 -- the conversion of a finite datum that both formats have returns it unchanged, with no flag

@@ -37,7 +37,6 @@ pub record IsExponentWithin (format : Format) (exponent : ℤ) : Type 0 where
 pub exponent_within : (format : Format) (negative : Bool) (n : ℕ) (value : Datum) (exponent : ℤ) → 0 < n
     → n ≤ largest format → IsFraction format negative n value exponent → IsExponentWithin format exponent
 exponent_within format negative n value exponent p h x =
-    let past : largest format < 2 ^ (format.precision + format.span) = largest_below format in
     ⊎_elim
     (λ (z : up exponent ≡ 0).
     let l : down exponent ≤ format.scale =
@@ -46,6 +45,6 @@ exponent_within format negative n value exponent p h x =
     (λ (z : down exponent ≡ 0).
     let l : up exponent ≤ format.precision + format.span =
     few_steps n x.fraction format.scale (format.precision + format.span) (down exponent) (up exponent)
-    (omega (arith, h, past)) x.low z x.same in
+    (omega (arith, h, largest_below format)) x.low z x.same in
     record { low = omega (arith, ints, l, z); high = omega (arith, ints, l, z) })
     (one_side exponent)

@@ -28,18 +28,15 @@ product_stands sx sy a b ui uj di dj scale u d hx hy e =
 -- numbers of quanta
 pub quotient_carries : (Says : ℕ → ℕ → Type 0) (sx sy a b places ui uj di dj scale u d : ℕ)
     → ((amount unit w : ℕ) → 0 < w → Says amount unit → Says (amount * w) (unit * w))
-    → ((amount unit w : ℕ) → 0 < w → Says (amount * w) (unit * w) → Says amount unit)
-    → a * 2 ^ di ≡ sx * 2 ^ ui → b * 2 ^ dj ≡ sy * 2 ^ uj
-    → di + places + uj + u ≡ scale + d + (dj + ui)
-    → Says (sx * 2 ^ places) sy → Says (a * 2 ^ scale * 2 ^ d) (b * 2 ^ u)
+    → ((amount unit w : ℕ) → 0 < w → Says (amount * w) (unit * w) → Says amount unit) → a * 2 ^ di ≡ sx * 2 ^ ui
+    → b * 2 ^ dj ≡ sy * 2 ^ uj → di + places + uj + u ≡ scale + d + (dj + ui) → Says (sx * 2 ^ places) sy
+    → Says (a * 2 ^ scale * 2 ^ d) (b * 2 ^ u)
 quotient_carries Says sx sy a b places ui uj di dj scale u d times cancel hx hy e h =
     let p : 2 ^ di * 2 ^ places * 2 ^ uj * 2 ^ u ≡ 2 ^ scale * 2 ^ d * (2 ^ dj * 2 ^ ui) =
     sym (pow4 di places uj u) ∙ ap (λ (x : ℕ). 2 ^ x) e ∙ pow22 scale d dj ui in
     let s : Says (sx * 2 ^ places * (2 ^ ui * 2 ^ uj * 2 ^ u)) (sy * (2 ^ ui * 2 ^ uj * 2 ^ u)) =
-    times (sx * 2 ^ places) sy (2 ^ ui * 2 ^ uj * 2 ^ u)
-    (mul-pos (mul-pos (pow_pos ui) (pow_pos uj)) (pow_pos u)) h in
-    let l₁ : sx * 2 ^ places * (2 ^ ui * 2 ^ uj * 2 ^ u) ≡ sx * 2 ^ ui * (2 ^ places * 2 ^ uj * 2 ^ u) =
-    omega arith in
+    times (sx * 2 ^ places) sy (2 ^ ui * 2 ^ uj * 2 ^ u) (mul-pos (mul-pos (pow_pos ui) (pow_pos uj)) (pow_pos u)) h in
+    let l₁ : sx * 2 ^ places * (2 ^ ui * 2 ^ uj * 2 ^ u) ≡ sx * 2 ^ ui * (2 ^ places * 2 ^ uj * 2 ^ u) = omega arith in
     let l₂ : sx * 2 ^ ui * (2 ^ places * 2 ^ uj * 2 ^ u) ≡ a * 2 ^ di * (2 ^ places * 2 ^ uj * 2 ^ u) =
     ap (λ (x : ℕ). x * (2 ^ places * 2 ^ uj * 2 ^ u)) (sym hx) in
     let l₃ : a * 2 ^ di * (2 ^ places * 2 ^ uj * 2 ^ u) ≡ a * (2 ^ di * 2 ^ places * 2 ^ uj * 2 ^ u) = omega arith in
@@ -63,5 +60,4 @@ quotient_full q n d precision places p f l s g e =
     let b : 2 ^ precision ≤ 2 ^ places = pow-le-pow_right two_pos g in
     let l' : d ≤ 2 ^ places = omega arith in
     let k : 2 ^ (precision - 1) * d ≤ 2 ^ (precision - 1) * 2 ^ places = mul-le-mul_left (2 ^ (precision - 1)) l' in
-    let m : 2 ^ (precision - 1) * d ≤ n * 2 ^ places = omega arith in
-    subst (λ (x : ℕ). 2 ^ (precision - 1) ≤ x) (sym e) ((le-div_iff_mul-le p).1 m)
+    subst (λ (x : ℕ). 2 ^ (precision - 1) ≤ x) (sym e) ((le-div_iff_mul-le p).1 (omega arith))

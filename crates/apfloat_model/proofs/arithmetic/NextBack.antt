@@ -30,10 +30,9 @@ below_above precision n next g a =
 above_below : (precision n next : ℕ) → 0 < n → IsOnGrid precision n → IsBelow precision next (n - 1) 1
     → IsAbove precision n (next + 1) 1
 above_below precision n next p g b =
-    let l = b.not_above in
     record {
       on_grid = g;
-      not_below = omega (arith, l, p);
+      not_below = omega (arith, b.not_above, p);
       least = λ other o h.
           ⊎_elim (λ (k : other < n). let m : other ≤ next = b.greatest other o (omega (arith, k)) in
           absurd (omega (arith, m, h))) (λ (k : n ≤ other). k) (cases_lt other n);
@@ -63,11 +62,9 @@ next_down_infinite format n v p e w =
 
 -- the value next below the next greater number is the number itself
 next_down_greater : (format : Format) (n next : ℕ) (value : Datum) → 0 < n → IsOnGrid format.precision n
-    → IsAbove format.precision next (n + 1) 1 → value ≡ finite false next
-    → IsNextDown format value (finite false n) 0
+    → IsAbove format.precision next (n + 1) 1 → value ≡ finite false next → IsNextDown format value (finite false n) 0
 next_down_greater format n next v p g a w =
-    let l = a.not_below in
-    let q : 0 < next = omega (arith, l) in
+    let q : 0 < next = omega (arith, a.not_below) in
     let less : IsNextLess format next (finite true n) 0 =
     record {
       next = n;
@@ -90,12 +87,11 @@ zero_negated kind e = rw e refl
 next_down_zero : (format : Format) (n : ℕ) (value : Datum) → format.nonfinite ≡ IEEE754 → n ≡ 1
     → value ≡ signed_quanta format.nonfinite true 0 → IsNextDown format value (finite true n) 0
 next_down_zero format n v k e w =
-    let p : 0 < n = omega (arith, e) in
     let up : IsNextUp format (finite false 0) (finite false n) 0 =
     record { value_is = ap (λ (j : ℕ). finite false j) e; status_is = refl } in
     next_down_by format v (signed_quanta format.nonfinite true 0) (finite false n) (finite true n) w
     (subst (λ (z : Datum). IsNextUp format z (finite false n) 0) (sym (zero_negated format.nonfinite k)) up)
-    (number_swapped format.nonfinite false n p)
+    (number_swapped format.nonfinite false n (omega (arith, e)))
 
 -- the value next below the next negative number of lesser magnitude is the number itself
 next_down_less : (format : Format) (n next : ℕ) (value : Datum) → 0 < n → 0 < next → n ≤ largest format
@@ -111,8 +107,7 @@ next_down_less format n next v p q m g b w =
       is =
           record { value_is = refl; status_is = refl };
     } in
-    let number : IsNextOfNumber format false next (finite false n) 0 = rw z greater in
-    let up : IsNextUp format (finite false next) (finite false n) 0 = rw (not_zero next q) number in
+    let up : IsNextUp format (finite false next) (finite false n) 0 = rw (not_zero next q) (rw z greater) in
     next_down_by format v (finite true next) (finite false n) (finite true n) w
     (subst (λ (z : Datum). IsNextUp format z (finite false n) 0) (number_swapped format.nonfinite true next q) up)
     (number_swapped format.nonfinite false n p)
@@ -149,9 +144,8 @@ positive_back format n v st k p m u =
     (cases_eq n (largest format))
 
 -- in a format with infinities, the value next below the value next above a nonzero number is the number itself
-pub next_back : (format : Format) (x value : Datum) (status : ℕ) → format.nonfinite ≡ IEEE754
-    → 1 < 2 ^ format.precision → IsMember format x → is_finite_non_zero x ≡ true → IsNextUp format x value status
-    → IsNextDown format value x 0
+pub next_back : (format : Format) (x value : Datum) (status : ℕ) → format.nonfinite ≡ IEEE754 → 1 < 2 ^ format.precision
+    → IsMember format x → is_finite_non_zero x ≡ true → IsNextUp format x value status → IsNextDown format value x 0
 next_back format (finite true n) v st k s m z u =
     let p = ltb-true 0 n z in
     negative_back format n v st k s p m (rw (not_zero n p) at u)

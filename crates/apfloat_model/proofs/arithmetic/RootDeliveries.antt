@@ -122,8 +122,7 @@ module _ (square parts amount units : ℕ) (halves : AgreesWithRoot square 2 amo
     above = p.above;
     is_below = below_root precision p.below p.is_below;
     is_above = above_root precision p.above p.is_above;
-    is = p.is ∙
-        ap (λ (b : Bool). cond b p.above p.below)
+    is = p.is ∙ ap (λ (b : Bool). cond b p.above p.below)
         (takes_same mode p.below p.above (eqb (p.below / (p.above - p.below) % 2) 1) p.is_below.not_above
         p.is_above.not_below);
   }
@@ -153,8 +152,7 @@ module _ (square parts amount units : ℕ) (agrees : AgreesWithRoot square 4 amo
   twice : AgreesWithRoot (4 * square) 2 (2 * amount) units
   twice = doubled square amount units agrees
 
-  below_normal_same : (precision : ℕ) (mode : Round)
-      → rounds_below_normal precision mode false amount (units * parts)
+  below_normal_same : (precision : ℕ) (mode : Round) → rounds_below_normal precision mode false amount (units * parts)
       ≡ root_rounds_below_normal precision mode square parts
   below_normal_same precision mode =
       let last : ℕ = 2 ^ precision - 1 in
@@ -165,9 +163,8 @@ module _ (square parts amount units : ℕ) (agrees : AgreesWithRoot square 4 amo
       where_open (leb (2 * amount) (last * (units * parts))) (ltb (2 * amount) (next * (units * parts))) t u
       (λ x y.
       let a : last * (units * parts) < 2 * amount = leb-false (2 * amount) (last * (units * parts)) x in
-      let b : 2 * amount < next * (units * parts) = ltb-true (2 * amount) (next * (units * parts)) y in
       takes_same (4 * square) parts (2 * amount) units twice mode last next true (omega (arith, a))
-      (omega (arith, b))) ∙
+      (omega (arith, ltb-true (2 * amount) (next * (units * parts)) y))) ∙
       ap (λ (x : Bool). x || (ltb (2 * amount) (next * (units * parts)) && not u))
       (same_order (4 * square) parts (2 * amount) units twice last).2 ∙
       ap (λ (y : Bool). leb (4 * square) (square_of last parts) || (y && not u))
@@ -178,29 +175,24 @@ module _ (square parts amount units : ℕ) (agrees : AgreesWithRoot square 4 amo
   tiny_same f mode pick =
       ap (λ (b : Bool). if f.tiny_before_rounding then b
       else (if f.ieee_flags then rounds_below_normal f.precision mode false amount (units * parts)
-      else ltb pick (smallest_normalized f)))
-      (same_order square parts amount units halves_of (smallest_normalized f)).1 ∙
-      ap (λ (b : Bool). if f.tiny_before_rounding then ltb square (square_of (smallest_normalized f) parts)
-      else (if f.ieee_flags then b else ltb pick (smallest_normalized f)))
-      (below_normal_same f.precision mode)
+      else ltb pick (smallest_normalized f))) (same_order square parts amount units halves_of (smallest_normalized f)).1
+      ∙ ap (λ (b : Bool). if f.tiny_before_rounding then ltb square (square_of (smallest_normalized f) parts)
+      else (if f.ieee_flags then b else ltb pick (smallest_normalized f))) (below_normal_same f.precision mode)
 
   pub status_same : (f : Format) (mode : Round) (pick : ℕ)
       → delivered_status f mode false amount (units * parts) pick ≡ root_status f mode square parts pick
   status_same f mode pick =
       ap (λ (b : Bool). if ltb (largest f) pick
-      then (if raises_overflow f mode false then overflow_bit + inexact_bit else inexact_bit)
-      else (if b then ok_bits
+      then (if raises_overflow f mode false then overflow_bit + inexact_bit else inexact_bit) else (if b then ok_bits
       else (if is_tiny f mode false amount (units * parts) pick then underflow_bit + inexact_bit else inexact_bit)))
-      (same_order square parts amount units halves_of pick).0 ∙
-      ap (λ (b : Bool). if ltb (largest f) pick
+      (same_order square parts amount units halves_of pick).0 ∙ ap (λ (b : Bool). if ltb (largest f) pick
       then (if raises_overflow f mode false then overflow_bit + inexact_bit else inexact_bit)
       else (if eqb (square_of pick parts) square then ok_bits
       else (if b then underflow_bit + inexact_bit else inexact_bit))) (tiny_same f mode pick)
 
   -- what is delivered for the fraction is delivered for the root
   pub root_delivered : (f : Format) (mode : Round) (value : Datum) (status : ℕ)
-      → IsDelivered f mode false amount (units * parts) value status
-      → IsDeliveredRoot f mode square parts value status
+      → IsDelivered f mode false amount (units * parts) value status → IsDeliveredRoot f mode square parts value status
   root_delivered f mode value status d = record {
     pick = d.pick;
     is_pick = root_pick square parts amount units halves_of f.precision mode d.pick d.is_pick;

@@ -54,9 +54,8 @@ neighbours precision half square e =
           (above_is_next precision half m c g.amount (g.parts * 1) i q)))
           (λ (q : g.amount ≤ m * 2 ^ c * (g.parts * 1)).
           let f : m * 2 ^ c * (g.parts * 1) ≤ g.amount = i.from in
-          let d : g.amount ≡ m * 2 ^ c * (g.parts * 1) = omega arith in
           inl (above_root square 1 g.amount g.parts g.agrees precision (m * 2 ^ c)
-          (above_is_same precision half m c g.amount (g.parts * 1) pieces i d)))
+          (above_is_same precision half m c g.amount (g.parts * 1) pieces i (omega arith))))
           (cases_lt (m * 2 ^ c * (g.parts * 1)) g.amount);
     }
 
@@ -64,8 +63,7 @@ neighbours precision half square e =
 odd_square : (m s c k : ℕ) → (2 * m + 1) * (2 * m + 1) * 2 ^ c ≡ s * 2 ^ k → c < k → ⊥
 odd_square m s c k e l =
     let w : c + (k - (c + 1) + 1) ≡ k = omega arith in
-    let p : 2 ^ k ≡ 2 ^ c * 2 ^ (k - (c + 1) + 1) = ap (λ (x : ℕ). 2 ^ x) (sym w) ∙
-    pow-add 2 c (k - (c + 1) + 1) in
+    let p : 2 ^ k ≡ 2 ^ c * 2 ^ (k - (c + 1) + 1) = ap (λ (x : ℕ). 2 ^ x) (sym w) ∙ pow-add 2 c (k - (c + 1) + 1) in
     let t : 2 ^ (k - (c + 1) + 1) ≡ 2 * 2 ^ (k - (c + 1)) = twice_power (k - (c + 1)) in
     let d : s * 2 ^ k ≡ s * (2 ^ c * (2 * 2 ^ (k - (c + 1)))) = ap (λ (x : ℕ). s * x) p ∙
     ap (λ (x : ℕ). s * (2 ^ c * x)) t in
@@ -113,14 +111,12 @@ both_nearest x y odd n =
     (cases_lt x y)
 
 -- if the root is not halfway between its neighbours, both modes to nearest pick the same
-same_between : (below above square : ℕ)
-    → (below ≡ above) ⊎ (square_of (below + above) 1 ≡ 4 * square → ⊥)
+same_between : (below above square : ℕ) → (below ≡ above) ⊎ (square_of (below + above) 1 ≡ 4 * square → ⊥)
     → root_between NearestTiesToEven below above square 1 ≡ root_between NearestTiesToAway below above square 1
 same_between below above square (inl e) = either _ above below (sym e) ∙ sym (either _ above below (sym e))
 same_between below above square (inr n) =
     ap (λ (t : Bool). cond t above below)
-    (both_nearest (4 * square) (square_of (below + above) 1) (eqb (below / (above - below) % 2) 1)
-    (λ e. n (sym e)))
+    (both_nearest (4 * square) (square_of (below + above) 1) (eqb (below / (above - below) % 2) 1) (λ e. n (sym e)))
 
 -- the root of a number on the grid is not halfway between its neighbours
 apart : (precision half s k : ℕ) → 2 ^ precision ≡ 2 * half → s < 2 ^ precision
@@ -150,14 +146,12 @@ no_tie precision s k pick p l x = record {
   above = x.above;
   is_below = x.is_below;
   is_above = x.is_above;
-  is = x.is ∙
-      same_between x.below x.above (s * 2 ^ k)
+  is = x.is ∙ same_between x.below x.above (s * 2 ^ k)
       (apart precision (2 ^ (precision - 1)) s k (sym (twice_half precision p)) l pick x);
 }
 
 -- sixteen times a number is not the square of an odd one
-odd_apart : (w half square : ℕ) → 0 < half → w ≡ 2 * half → 4 * (4 * square) ≡ square_of (w - 1 + w) 1
-    → ⊥
+odd_apart : (w half square : ℕ) → 0 < half → w ≡ 2 * half → 4 * (4 * square) ≡ square_of (w - 1 + w) 1 → ⊥
 odd_apart w half square p d e =
     let v : ℕ = w - 1 + w in
     let a : v + 1 ≡ 4 * half = omega arith in
@@ -172,9 +166,8 @@ below_normal_agree : (precision square : ℕ) → 0 < precision
     ≡ root_rounds_below_normal precision NearestTiesToAway square 1
 below_normal_agree precision square p =
     let w : ℕ = 2 ^ precision in
-    let n : ℕ = square_of (w - 1 + w) 1 in
     ap (λ (b : Bool). leb (4 * square) (square_of (w - 1) 1) || (ltb (4 * square) (square_of w 1) && not b))
-    (both_nearest (4 * (4 * square)) n true
+    (both_nearest (4 * (4 * square)) (square_of (w - 1 + w) 1) true
     (odd_apart w (2 ^ (precision - 1)) square (pow_pos (precision - 1)) (sym (twice_half precision p))))
 
 -- both modes to nearest deliver the same value and status for the root
@@ -196,8 +189,7 @@ nearest_agree format quanta value status p g d =
       is_pick = subst (λ (z : ℕ). IsRootPick format.precision NearestTiesToAway z 1 d.pick) e
           (no_tie format.precision g.significand (g.place + format.scale) d.pick p g.fits x);
       value_is = d.value_is;
-      status_is = d.status_is ∙
-          ap (λ (b : Bool). if ltb (largest format) d.pick
+      status_is = d.status_is ∙ ap (λ (b : Bool). if ltb (largest format) d.pick
           then (if raises_overflow format NearestTiesToEven false then overflow_bit + inexact_bit else inexact_bit)
           else (if eqb (square_of d.pick 1) (quanta * 2 ^ format.scale) then ok_bits
           else (if (if format.tiny_before_rounding

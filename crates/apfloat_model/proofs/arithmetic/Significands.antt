@@ -15,18 +15,16 @@ exponent_fits (pos n) w = let high = w.high in record { sfits = omega (arith, in
 exponent_fits (negsuc n) w = let low = w.low in record { sfits = omega (arith, ints, low) }
 
 -- the exponent of the first digit of a significand that has all of them
-pub significand_logarithm : (f : Format) (q s p : ℕ) (exponent first : ℤ) → 0 < p → 0 < q → s < 2 ^ p
-    → 2 ^ (p - 1) ≤ s
-    → q * 2 ^ down (exponent +ℤ pos f.scale) ≡ s * 2 ^ up (exponent +ℤ pos f.scale)
-    → first ≡ exponent +ℤ pos (p - 1) → IsLogarithm f q first
+pub significand_logarithm : (f : Format) (q s p : ℕ) (exponent first : ℤ) → 0 < p → 0 < q → s < 2 ^ p → 2 ^ (p - 1) ≤ s
+    → q * 2 ^ down (exponent +ℤ pos f.scale) ≡ s * 2 ^ up (exponent +ℤ pos f.scale) → first ≡ exponent +ℤ pos (p - 1)
+    → IsLogarithm f q first
 significand_logarithm f q s p exponent first digits some fits full number is =
     let z : ℤ = exponent +ℤ pos f.scale in
     let u = up z in
     let d = down z in
     let least : 1 * 2 ^ d ≤ q * 2 ^ d = mul-le-mul_right (2 ^ d) some in
     let most : s * 2 ^ u < 2 ^ p * 2 ^ u = mul-lt-mul_of_pos_right fits (pow_pos u) in
-    let top : 2 ^ (p + u) ≡ 2 ^ p * 2 ^ u = pow-add 2 p u in
-    let room : d < p + u = exponent_below d (p + u) (between (2 ^ d) _ _ _ _ least number most top) in
+    let room : d < p + u = exponent_below d (p + u) (between (2 ^ d) _ _ _ _ least number most (pow-add 2 p u)) in
     let place = p - 1 + u - d in
     let at : place + d ≡ p - 1 + u = omega (arith, room, digits) in
     let next : place + 1 + d ≡ p + u = omega (arith, room, digits) in
@@ -34,10 +32,9 @@ significand_logarithm f q s p exponent first digits some fits full number is =
     sym (pow-add 2 place d) ∙ ap (λ (n : ℕ). 2 ^ n) at ∙ pow-add 2 (p - 1) u in
     let above : 2 ^ (place + 1) * 2 ^ d ≡ 2 ^ p * 2 ^ u =
     sym (pow-add 2 (place + 1) d) ∙ ap (λ (n : ℕ). 2 ^ n) next ∙ pow-add 2 p u in
-    let from : 2 ^ (p - 1) * 2 ^ u ≤ s * 2 ^ u = mul-le-mul_right (2 ^ u) full in
     record {
       place = place;
-      low = le_of_mul-le-mul_right (low_side _ _ _ _ below from number) (pow_pos d);
+      low = le_of_mul-le-mul_right (low_side _ _ _ _ below (mul-le-mul_right (2 ^ u) full) number) (pow_pos d);
       high = lt_of_mul-lt-mul_right (2 ^ d) (high_side _ _ _ _ above most number);
       is = omega (arith, ints, is, at, digits);
     }
@@ -72,12 +69,8 @@ pub lengthened_full : (p s n : ℕ) → 0 < p → p ≤ n → 2 ^ (p - 1) ≤ s 
 lengthened_full p s n some l h = full_shifted s p (n - p) n some (λ _. h) (omega (arith, l))
 
 -- no digit leaves the word
-pub lengthened_whole : (p s n : ℕ) → n ≤ 128 → p ≤ n → s < 2 ^ p
-    → s * 2 ^ (n - p) % 2 ^ 128 ≡ s * 2 ^ (n - p)
-lengthened_whole p s n k l h =
-    let fits = lengthened_fits p s n l h in
-    let room : 2 ^ n ≤ 2 ^ 128 = pow-le-pow_right two_pos k in
-    mod-eq_of_lt (omega (arith, fits, room))
+pub lengthened_whole : (p s n : ℕ) → n ≤ 128 → p ≤ n → s < 2 ^ p → s * 2 ^ (n - p) % 2 ^ 128 ≡ s * 2 ^ (n - p)
+lengthened_whole p s n k l h = mod-eq_of_lt (omega (arith, lengthened_fits p s n l h, pow-le-pow_right two_pos k))
 
 -- the same number
 pub significand_lengthened : (q s zeros : ℕ) (z last : ℤ) → q * 2 ^ down z ≡ s * 2 ^ up z → z ≡ last +ℤ pos zeros

@@ -32,8 +32,7 @@ balanced_scaling digits scale min_exp x j r k e = omega (arith, ints)
 
 -- a number times a power of two, in quanta, from its significand and the exponent of its last digit
 pub scaled_is : (digits scale : ℕ) (min_exp x j r : ℤ) (s a : ℕ) → pos scale ≡ pos digits -ℤ min_exp
-    → r ≡ ((x +ℤ j) -ℤ pos digits)
-    → a * 2 ^ down (x -ℤ min_exp) ≡ s * 2 ^ up (x -ℤ min_exp)
+    → r ≡ ((x +ℤ j) -ℤ pos digits) → a * 2 ^ down (x -ℤ min_exp) ≡ s * 2 ^ up (x -ℤ min_exp)
     → a * 2 ^ up j * 2 ^ down (r +ℤ pos scale) ≡ s * (2 ^ down j * 2 ^ up (r +ℤ pos scale))
 scaled_is digits scale min_exp x j r s a k e h =
     scaled_stands s a (down (x -ℤ min_exp)) (up (x -ℤ min_exp)) (up j) (down j) (up (r +ℤ pos scale))
@@ -49,8 +48,7 @@ balanced_conversion digits scale digits' scale' min min' x r k k' e = omega (ari
 
 -- a number in quanta of another format, from its significand and the exponent of its last digit
 pub converted_is : (digits scale digits' scale' : ℕ) (min min' x r : ℤ) (s a : ℕ) → pos scale ≡ pos digits -ℤ min
-    → pos scale' ≡ pos digits' -ℤ min' → r ≡ (x -ℤ pos digits)
-    → a * 2 ^ down (x -ℤ min) ≡ s * 2 ^ up (x -ℤ min)
+    → pos scale' ≡ pos digits' -ℤ min' → r ≡ (x -ℤ pos digits) → a * 2 ^ down (x -ℤ min) ≡ s * 2 ^ up (x -ℤ min)
     → a * 2 ^ scale' * 2 ^ down (r +ℤ pos scale') ≡ s * (2 ^ scale * 2 ^ up (r +ℤ pos scale'))
 converted_is digits scale digits' scale' min min' x r s a k k' e h =
     scaled_stands s a (down (x -ℤ min)) (up (x -ℤ min)) scale' scale (up (r +ℤ pos scale')) (down (r +ℤ pos scale'))
@@ -69,13 +67,9 @@ pub record IsClamped (bound : ℕ) (j near : ℤ) : Type 0 where
 pub quanta_below : (precision : ℕ) (min_exp x : ℤ) (s a : ℕ) → s < 2 ^ precision
     → a * 2 ^ down (x -ℤ min_exp) ≡ s * 2 ^ up (x -ℤ min_exp) → a < 2 ^ (precision + up (x -ℤ min_exp))
 quanta_below precision min_exp x s a f h =
-    let e : 2 ^ (precision + up (x -ℤ min_exp)) ≡ 2 ^ precision * 2 ^ up (x -ℤ min_exp) =
-    pow-add 2 precision (up (x -ℤ min_exp)) in
     let b : s * 2 ^ up (x -ℤ min_exp) < 2 ^ precision * 2 ^ up (x -ℤ min_exp) =
     mul-lt-mul_of_pos_right f (pow_pos (up (x -ℤ min_exp))) in
-    let w : 1 ≤ 2 ^ down (x -ℤ min_exp) = pow_pos (down (x -ℤ min_exp)) in
-    let c : a * 1 ≤ a * 2 ^ down (x -ℤ min_exp) = mul-le-mul_left a w in
-    omega (arith, e, b, c, h)
+    omega (arith, pow-add 2 precision (up (x -ℤ min_exp)), b, mul-le-mul_left a (pow_pos (down (x -ℤ min_exp))), h)
 
 -- a number moved up by the bound is far above the format
 far_up : (format : Format) (a bound u d : ℕ) → 0 < a → format.precision + format.span ≤ bound → bound ≤ u → d ≡ 0
@@ -84,23 +78,18 @@ far_up format a bound u d h l k z = record {
   some = pow_pos d;
   from =
       let g : format.precision + format.span ≤ u = omega arith in
-      let p : 2 ^ (format.precision + format.span) ≤ 2 ^ u = pow-le-pow_right two_pos g in
-      let q : 1 * 2 ^ u ≤ a * 2 ^ u = mul-le-mul_right (2 ^ u) h in
       let e : 2 ^ d ≡ 1 = ap (λ (x : ℕ). 2 ^ x) z in
-      rw e (omega (arith, p, q));
+      rw e (omega (arith, pow-le-pow_right two_pos g, mul-le-mul_right (2 ^ u) h));
 }
 
 -- a number moved down by the bound is far below it
-far_down : (a k bound u d : ℕ) → 0 < a → a < 2 ^ k → k + 1 ≤ bound → bound ≤ d → u ≡ 0
-    → IsFarBelow (a * 2 ^ u) (2 ^ d)
+far_down : (a k bound u d : ℕ) → 0 < a → a < 2 ^ k → k + 1 ≤ bound → bound ≤ d → u ≡ 0 → IsFarBelow (a * 2 ^ u) (2 ^ d)
 far_down a k bound u d h b l m z = record {
   some = mul-pos h (pow_pos u);
   to =
       let g : k + 1 ≤ d = omega arith in
-      let p : 2 ^ (k + 1) ≤ 2 ^ d = pow-le-pow_right two_pos g in
-      let q : 2 ^ (k + 1) ≡ 2 ^ k * 2 = pow-add 2 k 1 in
       let e : 2 ^ u ≡ 1 = ap (λ (x : ℕ). 2 ^ x) z in
-      rw e (omega (arith, p, q, b));
+      rw e (omega (arith, pow-le-pow_right two_pos g, pow-add 2 k 1, b));
 }
 
 -- the positive part of an exponent is within its bound
@@ -132,16 +121,12 @@ clamp_kept format mode negative a k bound j near v s p h b l m c d =
     (λ r.
     ⊎_elim
     (λ (e : (near ≡ pos bound) × (pos bound ≤ℤ j)).
-    let e₀ = e.0 in
-    let l₀ : pos bound ≤ℤ near = omega (arith, ints, e₀) in
-    let u = up_far near bound l₀ in
+    let u = up_far near bound (omega (arith, ints, e.0)) in
     let w = up_far j bound e.1 in
     far_above format mode negative (a * 2 ^ up near) (2 ^ down near) (a * 2 ^ up j) (2 ^ down j) v s p
     (far_up format a bound (up near) (down near) h l u.0 u.1) (far_up format a bound (up j) (down j) h l w.0 w.1) d)
     (λ (e : (near ≡ neg_ℤ (pos bound)) × (j ≤ℤ neg_ℤ (pos bound))).
-    let e₀ = e.0 in
-    let l₀ : near ≤ℤ neg_ℤ (pos bound) = omega (arith, ints, e₀) in
-    let u = down_far near bound l₀ in
+    let u = down_far near bound (omega (arith, ints, e.0)) in
     let w = down_far j bound e.1 in
     far_below format mode negative (a * 2 ^ up near) (2 ^ down near) (a * 2 ^ up j) (2 ^ down j) v s p
     (far_down a k bound (up near) (down near) h b m u.0 u.1) (far_down a k bound (up j) (down j) h b m w.0 w.1)

@@ -48,12 +48,10 @@ close_low : (precision s p t j d : ℕ) → s < 2 ^ precision → p ≤ j
     → (t * 2 ^ j ≡ s * 2 ^ p + d) ⊎ (s * 2 ^ p ≡ t * 2 ^ j + d) → d ≤ s * 2 ^ p → IsOnGrid precision d
 close_low precision s p t j d h l (inl e) q =
     let r : t * 2 ^ j ≡ t * 2 ^ (j - p) * 2 ^ p = raised_place t p j l in
-    close_at precision d s p (t * 2 ^ (j - p) - s) h
-    (left_over (t * 2 ^ (j - p)) s (2 ^ p) d (pow_pos p) (sym r ∙ e)) q
+    close_at precision d s p (t * 2 ^ (j - p) - s) h (left_over (t * 2 ^ (j - p)) s (2 ^ p) d (pow_pos p) (sym r ∙ e)) q
 close_low precision s p t j d h l (inr e) q =
-    let r : t * 2 ^ j ≡ t * 2 ^ (j - p) * 2 ^ p = raised_place t p j l in
     close_at precision d s p (s - t * 2 ^ (j - p)) h
-    (left_over s (t * 2 ^ (j - p)) (2 ^ p) d (pow_pos p) (e ∙ ap (λ (x : ℕ). x + d) r)) q
+    (left_over s (t * 2 ^ (j - p)) (2 ^ p) d (pow_pos p) (e ∙ ap (λ (x : ℕ). x + d) (raised_place t p j l))) q
 
 -- Sterbenz's lemma on the grid: the difference of two grid numbers within a factor of two is on the grid
 pub sterbenz_on_grid : (precision m n d : ℕ) → IsOnGrid precision m → IsOnGrid precision n
@@ -77,10 +75,8 @@ sterbenz_on_grid precision m n d x y e a b =
 -- the distance of two numbers is the magnitude of their difference
 far_apart : (m n : ℕ) → (m ≡ n + magnitude (pos m -ℤ pos n)) ⊎ (n ≡ m + magnitude (pos m -ℤ pos n))
 far_apart m n =
-    ⊎_elim
-    (λ (z : up (pos m -ℤ pos n) ≡ 0). inr (omega (arith, ints)))
-    (λ (z : down (pos m -ℤ pos n) ≡ 0). inl (omega (arith, ints)))
-    (one_side (pos m -ℤ pos n))
+    ⊎_elim (λ (z : up (pos m -ℤ pos n) ≡ 0). inr (omega (arith, ints)))
+    (λ (z : down (pos m -ℤ pos n) ≡ 0). inl (omega (arith, ints))) (one_side (pos m -ℤ pos n))
 
 -- the distance of two numbers is at most the greater of them
 far_below : (m n d top : ℕ) → (m ≡ n + d) ⊎ (n ≡ m + d) → m ≤ top → n ≤ top → d ≤ top
@@ -108,8 +104,7 @@ exactly kind of_zero (pos zero) v s h e =
       negative = zero_sign kind of_zero;
       quanta = 0;
       value_is = h;
-      number_is =
-          no_sign (zero_sign kind of_zero);
+      number_is = no_sign (zero_sign kind of_zero);
       status_is = e;
     }
 exactly kind of_zero (pos (suc n)) v s h e = exactly_some kind false (suc n) v s (omega arith) h e
@@ -134,16 +129,13 @@ minus_is : (m n : ℕ) → (signed false m +ℤ signed true n) ≡ (pos m -ℤ p
 minus_is m n = omega (arith, ints)
 
 -- Sterbenz's lemma: the difference of two data within a factor of two is exact
-pub sterbenz : (format : Format) (mode : Round) (x y value : Datum) (status : ℕ)
-    → IsMember format x → IsMember format y
+pub sterbenz : (format : Format) (mode : Round) (x y value : Datum) (status : ℕ) → IsMember format x → IsMember format y
     → IsDifference format mode x y value status → IsNearby x y value status
 sterbenz format mode x y v s hx hy h = λ m n p q sm sn a b.
     let d : IsDifference format mode (finite false m) (finite false n) v s = rw (p, q) at h in
     let k : IsSum format mode (finite false m) (finite true n) v s = rw (not_zero n sn) at d in
     let r = rw (minus_is m n) at k in
-    let xm : IsFiniteOf format false m = rw p at hx in
-    let yn : IsFiniteOf format false n = rw q at hy in
-    sterbenz_numbers format mode (zero_sum_sign mode false true) m n v s xm yn a b r
+    sterbenz_numbers format mode (zero_sum_sign mode false true) m n v s (rw p at hx) (rw q at hy) a b r
 
 -- ---- sums are monotone
 
@@ -163,8 +155,7 @@ value_is : (format : Format) (mode : Round) (negative : Bool) (p : ℕ) → form
 value_is format mode negative p e =
     ap (λ (k : NonfiniteBehavior). cond (ltb (largest format) p)
     (cond (leads_out mode negative) (past_largest k (nan_base format) negative) (finite negative (largest format)))
-    (signed_quanta k negative p)) e
-    ∙ ap (λ (v : Datum). cond (ltb (largest format) p)
+    (signed_quanta k negative p)) e ∙ ap (λ (v : Datum). cond (ltb (largest format) p)
     (cond (leads_out mode negative) (infinite negative) (finite negative (largest format))) v)
     (signed_quanta_is negative p)
 
@@ -254,8 +245,7 @@ grows_at format mode s t x y v w i j e (both_up a b l) d g =
     (largest format) d.pick g.pick refl refl k in
     subst (λ (z : Datum). AtMost z w) (sym (d.value_is ∙ value_is format mode false d.pick e))
     (subst (λ (z : Datum). AtMost (at (ltb (largest format) d.pick)
-    (leads_out mode false) false (largest format) d.pick)
-    z) (sym (g.value_is ∙ value_is format mode false g.pick e)) h)
+    (leads_out mode false) false (largest format) d.pick) z) (sym (g.value_is ∙ value_is format mode false g.pick e)) h)
 grows_at format mode s t x y v w i j e (both_down a b l) d g =
     let k : g.pick ≤ d.pick =
     pick_grows format.precision mode true b a 1 g.pick d.pick (lit< tt) l g.is_pick d.is_pick in
@@ -273,9 +263,7 @@ grows_at format mode s t x y v w i j e (apart a b) d g =
     (λ (z : Datum). AtMost (at (ltb (largest format) d.pick) (leads_out mode true) true (largest format) d.pick) z)
     (sym (g.value_is ∙ value_is format mode false g.pick e)) h)
 grows_at format mode s t x y v w i j e (zeros b c) d g =
-    let p = zero_is format mode b v i e d in
-    let q = zero_is format mode c w j e g in
-    rw (p, q) (zeros_ordered b c)
+    rw (zero_is format mode b v i e d, zero_is format mode c w j e g) (zeros_ordered b c)
 
 -- a greater sum does not round to a lesser value
 pub sum_grows : (format : Format) (mode : Round) (of_zero of_other : Bool) (a b : ℤ) (value greater : Datum) (i j : ℕ)

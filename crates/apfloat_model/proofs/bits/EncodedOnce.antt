@@ -9,7 +9,7 @@ use Rattle.apfloat_model.specs.declared.kinds.NonfiniteBehavior.{NonfiniteBehavi
 use Rattle.apfloat_model.specs.declared.kinds.NonfiniteBehavior.TheVariants.{IEEE754, NanOnly, NanNegativeZero}
 use Rattle.apfloat_model.specs.formats.{Format.Format, Format.smallest_normalized, Datum.Datum, Datum.finite}
 use Rattle.apfloat_model.specs.formats.{Datum.infinite, Datum.nan, Lawful.MayBeExplicit, Log.log2}
-use Rattle.apfloat_model.specs.bits.Layout.{Layout, Fields, all_ones, trailing_bits, fields_of, implied_number}
+use Rattle.apfloat_model.specs.bits.Layout.{Layout, Fields, all_ones, trailing_bits, implied_number}
 use Rattle.apfloat_model.specs.bits.Layout.{implied_datum, written_number, written_datum, datum_of_fields, is_canonical}
 use Rattle.apfloat_model.specs.bits.Layout.{is_canonical_written, IsEncodedBy}
 use Rattle.apfloat_model.specs.bits.Interchange.{IsInterchange, AreWithin, bits_of_fields}
@@ -34,8 +34,7 @@ fields_of_nan NanNegativeZero layout b s = fields_with true 0 0
 abbrev fields_by : Format → Layout → Datum → Fields
 fields_by f layout (finite b n) =
     cond (leb (smallest_normalized f) n)
-    (fields_with b (log2 n + 2 - f.precision) (n / 2 ^ (log2 n + 1 - f.precision) - hidden f))
-    (fields_with b 0 n)
+    (fields_with b (log2 n + 2 - f.precision) (n / 2 ^ (log2 n + 1 - f.precision) - hidden f)) (fields_with b 0 n)
 fields_by f layout (infinite b) =
     fields_with b (all_ones layout.exponent_bits) (cond f.explicit_integer_bit (smallest_normalized f) 0)
 fields_by f layout (nan b s) = fields_of_nan f.nonfinite layout b s
@@ -167,9 +166,7 @@ module _ (format : Format) (layout : Layout) (precise : 3 ≤ format.precision) 
         (cases_eq t (smallest_normalized format)))
         (λ (n : e ≡ all_ones layout.exponent_bits → ⊥).
         let q : eqb e (all_ones layout.exponent_bits) ≡ false = ne_eqb e (all_ones layout.exponent_bits) n in
-        let c : IsTrue (cond (eqb e 0) (ltb t (smallest_normalized format)) (leb (smallest_normalized format) t)) =
-        rw q at canonical in
-        rw q (number_by b e t high c))
+        rw q (number_by b e t high (rw q at canonical)))
         (cases_eq e (all_ones layout.exponent_bits))
       where
         -- a number that is read from canonical fields below the greatest exponent has those fields
@@ -218,7 +215,5 @@ encoded_once format layout datum a b law x y =
     x.canonical in
     let q = by_layout format.explicit_integer_bit format layout _ _ _ refl law (fields_within format layout law b)
     y.canonical in
-    let e : fields_of format layout a ≡ fields_of format layout b = sym p ∙
-    ap (fields_by format layout) (x.is ∙ sym y.is) ∙ q in
-    sym (bits_back format layout law a x.below) ∙ ap (bits_of_fields format layout) e ∙
-    bits_back format layout law b y.below
+    sym (bits_back format layout law a x.below) ∙ ap (bits_of_fields format layout)
+    (sym p ∙ ap (fields_by format layout) (x.is ∙ sym y.is) ∙ q) ∙ bits_back format layout law b y.below

@@ -64,8 +64,7 @@ lawful_interchange constants law wide =
         ≡ pos (2 ^ constants.exp_bits + more_exponents constants.nonfinite - 3) =
         omega (arith, ints, h.ieee_min_exp, h.ieee_max_exp, h.max_exp, t) in
         let a : unsigned_abs (constants.max_exp -ℤ constants.min_exp)
-        ≡ 2 ^ constants.exp_bits + more_exponents constants.nonfinite - 3 =
-        ap unsigned_abs e in
+        ≡ 2 ^ constants.exp_bits + more_exponents constants.nonfinite - 3 = ap unsigned_abs e in
         omega arith
 
 -- ---- fields read from bits, and bits written from fields
@@ -127,8 +126,7 @@ module _ (format : Format) (layout : Layout) (law : IsInterchange format layout)
       let k : 2 ^ layout.bits ≡ 2 * 2 ^ (w + layout.exponent_bits) =
       rw e (omega (arith, two-pow-succ (w + layout.exponent_bits))) in
       let d : bits / 2 ^ (w + layout.exponent_bits) < 2 =
-      div_below bits (2 ^ (w + layout.exponent_bits)) 2 (pow_pos (w + layout.exponent_bits))
-      (omega (arith, k)) in
+      div_below bits (2 ^ (w + layout.exponent_bits)) 2 (pow_pos (w + layout.exponent_bits)) (omega (arith, k)) in
       let s : cond (eqb (bits / 2 ^ (layout.bits - 1) % 2) 1) 1 0 ≡ bits / 2 ^ w / 2 ^ layout.exponent_bits =
       rw (top, shr-shr bits w layout.exponent_bits) (odd_digit (bits / 2 ^ (w + layout.exponent_bits)) d) in
       rw s (rw (shr_split (bits / 2 ^ w) layout.exponent_bits) (shr_split bits w))
@@ -137,7 +135,5 @@ module _ (format : Format) (layout : Layout) (law : IsInterchange format layout)
 pub joined_bits : (negative : Bool) (e t place n bits top : ℕ) → 2 ^ t ≤ n → top ≡ t + e
     → bits ≡ cond negative (2 ^ top) 0 + place * 2 ^ t + n
     → (cond negative 1 0 * 2 ^ e + (place + 1)) * 2 ^ t + (n - 2 ^ t) ≡ bits
-joined_bits true e t place n bits top low at is =
-    let both : 2 ^ top ≡ 2 ^ t * 2 ^ e = ap (λ (x : ℕ). 2 ^ x) at ∙ pow-add 2 t e in
-    omega (arith, both, is, low)
+joined_bits true e t place n bits top low at is = omega (arith, ap (λ (x : ℕ). 2 ^ x) at ∙ pow-add 2 t e, is, low)
 joined_bits false e t place n bits top low at is = omega (arith, is, low)

@@ -58,10 +58,9 @@ MayHaveSign kind b n = n ≡ 0 → b ≡ zero_sign kind b
 
 -- the fields of a number below the smallest normalized one are read as that number
 low_is : (explicit : Bool) (kind : NonfiniteBehavior) (format : Format) (layout : Layout) (negative : Bool) (n : ℕ)
-    → eqb 0 (all_ones layout.exponent_bits) ≡ false → MayHaveSign kind negative n
-    → cond explicit (written_datum format layout (fields_with negative 0 n))
-    (implied_datum kind format layout (fields_with negative 0 n))
-    ≡ finite negative n
+    → eqb 0 (all_ones layout.exponent_bits) ≡ false
+    → MayHaveSign kind negative n → cond explicit (written_datum format layout (fields_with negative 0 n))
+    (implied_datum kind format layout (fields_with negative 0 n)) ≡ finite negative n
 low_is true kind format layout b n e h = rw e refl
 low_is false IEEE754 format layout b n e h = rw e refl
 low_is false NanOnly format layout b n e h = rw e refl
@@ -81,14 +80,12 @@ pub low_fields_of : (format : Format) (layout : Layout) (negative : Bool) (n : �
     → n < smallest_normalized format → MayHaveSign format.nonfinite negative n
     → AreFieldsOf format layout (fields_with negative 0 n) (finite negative n)
 low_fields_of format layout b n law h s =
-    let o = ones_some layout.exponent_bits law.some in
     let e : eqb 0 (all_ones layout.exponent_bits) ≡ false =
-    ne_eqb 0 (all_ones layout.exponent_bits) (λ z. omega (arith, z, o)) in
+    ne_eqb 0 (all_ones layout.exponent_bits) (λ z. omega (arith, z, ones_some layout.exponent_bits law.some)) in
     record {
       within = record {
         biased_exponent = pow_pos layout.exponent_bits;
-        trailing =
-            width_low format.explicit_integer_bit format.precision n h;
+        trailing = width_low format.explicit_integer_bit format.precision n h;
       };
       canonical = low_canonical format.explicit_integer_bit format layout b n e h;
       is = low_is format.explicit_integer_bit format.nonfinite format layout b n e s;
@@ -184,29 +181,25 @@ module _ (format : Format) (layout : Layout) (law : IsInterchange format layout)
       (λ (q : j + 1 ≡ all_ones layout.exponent_bits).
       let r : j ≡ format.span = omega (arith, q, s) in
       let t : m * 2 ^ format.span ≤ (2 ^ format.precision - 2) * 2 ^ format.span = rw (k, r) at top in
-      let u : m ≤ 2 ^ format.precision - 2 = le_of_mul-le-mul_right t (pow_pos format.span) in
       let w = twice_half format.precision (omega (arith, law.precise)) in
-      let p = pow_pos (format.precision - 1) in
       and_right _ _ (ne_eqb (m - smallest_normalized format) (all_ones (format.precision - 1))
-      (λ v. omega (arith, v, u, w, p))))
+      (λ v. omega (arith, v, le_of_mul-le-mul_right t (pow_pos format.span), w, pow_pos (format.precision - 1)))))
       (λ (q : j + 1 ≡ all_ones layout.exponent_bits → ⊥).
       and_left _ _ (ne_eqb (j + 1) (all_ones layout.exponent_bits) q))
       (cases_eq (j + 1) (all_ones layout.exponent_bits))
   no_special NanNegativeZero j m k low top high = ne_eqb (j + 1) 0 (λ q. omega (arith, q))
 
   -- the fields of normalized numbers
-  pub high_fields_of : (negative : Bool) (j m : ℕ) → smallest_normalized format ≤ m → m < 2 ^ format.precision
-      → m * 2 ^ j ≤ largest format → AreFieldsOf format layout (fields_with negative (j + 1)
-      (m - cond format.explicit_integer_bit 0 (smallest_normalized format)))
-      (finite negative (m * 2 ^ j))
+  pub high_fields_of : (negative : Bool) (j m : ℕ) → smallest_normalized format ≤ m
+      → m < 2 ^ format.precision → m * 2 ^ j ≤ largest format → AreFieldsOf format layout (fields_with negative (j + 1)
+      (m - cond format.explicit_integer_bit 0 (smallest_normalized format))) (finite negative (m * 2 ^ j))
   high_fields_of b j m low high top =
       let h = place_within j m low top in
       let n = no_special format.nonfinite j m refl low top h in
       record {
         within = record {
           biased_exponent = exponent_fits format.nonfinite j refl h;
-          trailing =
-              width_high format.explicit_integer_bit format.precision m (omega (arith, law.precise)) high;
+          trailing = width_high format.explicit_integer_bit format.precision m (omega (arith, law.precise)) high;
         };
         canonical = high_canonical format.explicit_integer_bit format.nonfinite format layout b j m law.explicit low n;
         is = high_is format.explicit_integer_bit format.nonfinite format layout b j m law.explicit low n;
@@ -248,8 +241,7 @@ pub infinity_fields_of : (format : Format) (layout : Layout) (negative : Bool) �
 infinity_fields_of format layout b law k = record {
   within = record {
     biased_exponent = ones_fit layout.exponent_bits;
-    trailing =
-        width_of_infinity format.explicit_integer_bit format.precision (omega (arith, law.precise));
+    trailing = width_of_infinity format.explicit_integer_bit format.precision (omega (arith, law.precise));
   };
   canonical = ones_canonical format.explicit_integer_bit format layout b _;
   is = infinity_is format.explicit_integer_bit format.nonfinite format layout b k;
@@ -287,8 +279,7 @@ pub nan_fields_of : (format : Format) (layout : Layout) (negative : Bool) (s : �
 nan_fields_of format layout b s law n h = record {
   within = record {
     biased_exponent = ones_fit layout.exponent_bits;
-    trailing =
-        width_of_nan format.explicit_integer_bit format.nonfinite format.precision s n law.explicit h;
+    trailing = width_of_nan format.explicit_integer_bit format.nonfinite format.precision s n law.explicit h;
   };
   canonical = ones_canonical format.explicit_integer_bit format layout b s;
   is = nan_is format.explicit_integer_bit format.nonfinite format layout b s refl n law.explicit h;
@@ -306,8 +297,7 @@ one_nan_is false NanNegativeZero format layout k e may = rw k refl
 
 -- the fields of the only NaN are canonical
 one_canonical : (explicit : Bool) (kind : NonfiniteBehavior) (format : Format) (layout : Layout)
-    → kind ≡ NanNegativeZero
-    → MayBeExplicit kind explicit
+    → kind ≡ NanNegativeZero → MayBeExplicit kind explicit
     → cond explicit (is_canonical_written format layout (fields_with true 0 0)) true ≡ true
 one_canonical explicit IEEE754 format layout e may = cc
 one_canonical explicit NanOnly format layout e may = cc

@@ -25,20 +25,16 @@ implied : (kind : NonfiniteBehavior) (f : Format) (layout : Layout) (x : Fields)
     → IsOfNan x.trailing (implied_datum kind f layout x)
 implied IEEE754 f layout x k =
     if_case (IsOfNan x.trailing) (has_all_ones layout x)
-    (λ e. if_case (IsOfNan x.trailing) (eqb x.trailing 0) (λ d h. cc) (λ d h. refl))
-    (λ e. implied_number_not f x)
+    (λ e. if_case (IsOfNan x.trailing) (eqb x.trailing 0) (λ d h. cc) (λ d h. refl)) (λ e. implied_number_not f x)
 implied NanOnly f layout x k =
     if_case (IsOfNan x.trailing) (has_all_ones layout x && eqb x.trailing (all_ones (f.precision - 1)))
     (λ e h. eqb-true x.trailing (all_ones (f.precision - 1))
     (second_holds (has_all_ones layout x) (eqb x.trailing (all_ones (f.precision - 1))) e)
-    ∙ sym (ap (λ kind. nan_base_of kind f.precision) k))
-    (λ e. implied_number_not f x)
+    ∙ sym (ap (λ kind. nan_base_of kind f.precision) k)) (λ e. implied_number_not f x)
 implied NanNegativeZero f layout x k =
     if_case (IsOfNan x.trailing) (x.negative && eqb x.biased_exponent 0 && eqb x.trailing 0)
-    (λ e h. eqb-true x.trailing 0
-    (second_holds (x.negative && eqb x.biased_exponent 0) (eqb x.trailing 0) e)
-    ∙ sym (ap (λ kind. nan_base_of kind f.precision) k))
-    (λ e. implied_number_not f x)
+    (λ e h. eqb-true x.trailing 0 (second_holds (x.negative && eqb x.biased_exponent 0) (eqb x.trailing 0) e)
+    ∙ sym (ap (λ kind. nan_base_of kind f.precision) k)) (λ e. implied_number_not f x)
 
 written : (f : Format) (layout : Layout) (x : Fields) → IsOfNan x.trailing (written_datum f layout x)
 written f layout x =

@@ -13,8 +13,7 @@ greatest_fits NanOnly precision = let p : 0 < 2 ^ precision = pow_pos precision 
 greatest_fits NanNegativeZero precision = let p : 0 < 2 ^ precision = pow_pos precision in omega arith
 
 -- the greatest significand is all ones, or all ones except the last
-pub greatest_low : (kind : NonfiniteBehavior) (precision : ℕ)
-    → 2 ^ precision - 2 ≤ greatest_significand kind precision
+pub greatest_low : (kind : NonfiniteBehavior) (precision : ℕ) → 2 ^ precision - 2 ≤ greatest_significand kind precision
 greatest_low IEEE754 precision = omega arith
 greatest_low NanOnly precision = omega arith
 greatest_low NanNegativeZero precision = omega arith
@@ -22,23 +21,15 @@ greatest_low NanNegativeZero precision = omega arith
 -- the greatest significand is at least half of the power of two past it
 pub greatest_half : (kind : NonfiniteBehavior) (precision : ℕ) → 3 ≤ precision
     → 2 ^ precision ≤ 2 * greatest_significand kind precision
-greatest_half kind precision h =
-    let a : 2 ^ 3 ≤ 2 ^ precision = pow-le-pow_right two_pos h in
-    let l = greatest_low kind precision in
-    omega (arith, a, l)
+greatest_half kind precision h = omega (arith, pow-le-pow_right two_pos h, greatest_low kind precision)
 
 -- the greatest significand has all the digits of the precision
 pub greatest_full : (kind : NonfiniteBehavior) (precision : ℕ) → 3 ≤ precision
     → 2 ^ (precision - 1) ≤ greatest_significand kind precision
 greatest_full kind precision h =
     let t : 2 * 2 ^ (precision - 1) ≡ 2 ^ precision = twice_half precision (omega (arith, h)) in
-    let a = greatest_half kind precision h in
-    omega (arith, t, a)
+    omega (arith, t, greatest_half kind precision h)
 
 -- the greatest significand is not 0
-pub greatest_some : (kind : NonfiniteBehavior) (precision : ℕ) → 3 ≤ precision
-    → 0 < greatest_significand kind precision
-greatest_some kind precision h =
-    let p : 0 < 2 ^ (precision - 1) = pow_pos (precision - 1) in
-    let a = greatest_full kind precision h in
-    omega (arith, p, a)
+pub greatest_some : (kind : NonfiniteBehavior) (precision : ℕ) → 3 ≤ precision → 0 < greatest_significand kind precision
+greatest_some kind precision h = omega (arith, pow_pos (precision - 1), greatest_full kind precision h)

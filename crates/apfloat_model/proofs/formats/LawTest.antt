@@ -21,10 +21,8 @@ no_bits_test c =
 abbrev pub bits_test : Constants → Bool
 bits_test c =
     leb 1 c.exp_bits
-    && (eqb c.bits (c.exp_bits + c.precision + (if c.explicit_integer_bit then 1 else 0))
-    && (leb c.bits 128
-    && (int_eq c.ieee_min_exp (pos 2 -ℤ pos (2 ^ (c.exp_bits - 1)))
-    && (int_eq c.ieee_max_exp (pos 1 -ℤ c.ieee_min_exp)
+    && (eqb c.bits (c.exp_bits + c.precision + (if c.explicit_integer_bit then 1 else 0)) && (leb c.bits 128
+    && (int_eq c.ieee_min_exp (pos 2 -ℤ pos (2 ^ (c.exp_bits - 1))) && (int_eq c.ieee_max_exp (pos 1 -ℤ c.ieee_min_exp)
     && int_eq c.max_exp ((c.ieee_max_exp +ℤ (c.min_exp -ℤ c.ieee_min_exp)) +ℤ pos (more_exponents c.nonfinite))))))
 
 abbrev pub may_be_explicit : NonfiniteBehavior → Bool → Bool
@@ -40,15 +38,9 @@ nans_test c =
 
 abbrev pub lawful_test : Constants → Bool
 lawful_test c =
-    leb 3 c.precision
-    && (leb c.precision 125
-    && (le_z (neg_ℤ (pos format_bound)) c.min_exp
-    && (le_z c.min_exp (neg_ℤ (pos 1))
-    && (le_z (pos c.precision) c.max_exp
-    && (le_z c.max_exp (pos format_bound)
-    && ((no_bits_test c || bits_test c)
-    && (may_be_explicit c.nonfinite c.explicit_integer_bit
-    && nans_test c)))))))
+    leb 3 c.precision && (leb c.precision 125 && (le_z (neg_ℤ (pos format_bound)) c.min_exp
+    && (le_z c.min_exp (neg_ℤ (pos 1)) && (le_z (pos c.precision) c.max_exp && (le_z c.max_exp (pos format_bound)
+    && ((no_bits_test c || bits_test c) && (may_be_explicit c.nonfinite c.explicit_integer_bit && nans_test c)))))))
 
 -- ---- what follows from a test that passes
 

@@ -17,8 +17,7 @@ ranges_of constants law =
     let scale : pos (constants.precision - 1) -ℤ constants.min_exp
     ≡ pos (unsigned_abs (pos (constants.precision - 1) -ℤ constants.min_exp)) =
     omega (arith, ints, p.precision_low, p.min_exp_high) in
-    let span : constants.max_exp -ℤ constants.min_exp
-    ≡ pos (unsigned_abs (constants.max_exp -ℤ constants.min_exp)) =
+    let span : constants.max_exp -ℤ constants.min_exp ≡ pos (unsigned_abs (constants.max_exp -ℤ constants.min_exp)) =
     omega (arith, ints, p.precision_low, p.max_exp_low, p.min_exp_high) in
     record {
       precision_low = p.precision_low;

@@ -14,8 +14,7 @@ use Rattle.apfloat_model.proofs.general.Choices.{if_case}
 
 -- 2 ^ (p - 1), 2 ^ p and 2 ^ (p - 2) as multiples of lower powers
 twice : (p : ℕ) → 3 ≤ p
-    → (2 ^ (p - 1) ≡ 2 * 2 ^ (p - 2)) × (2 ^ p ≡ 4 * 2 ^ (p - 2)) × (2 ^ (p - 2) ≡ 2 * 2 ^ (p - 3))
-    × (0 < 2 ^ (p - 3))
+    → (2 ^ (p - 1) ≡ 2 * 2 ^ (p - 2)) × (2 ^ p ≡ 4 * 2 ^ (p - 2)) × (2 ^ (p - 2) ≡ 2 * 2 ^ (p - 3)) × (0 < 2 ^ (p - 3))
 twice p h =
     let a : 2 ^ (p - 1) ≡ 2 ^ (1 + (p - 2)) = ap (λ (x : ℕ). 2 ^ x) (omega arith) in
     let b : 2 ^ p ≡ 2 ^ (2 + (p - 2)) = ap (λ (x : ℕ). 2 ^ x) (omega arith) in
@@ -25,9 +24,7 @@ twice p h =
 -- a number with the bit 2 ^ j set is not 2 ^ i for another i
 or_no_power : (s i j : ℕ) → i ≢ j → bit_or s (2 ^ j) ≢ 2 ^ i
 or_no_power s i j apart e =
-    let a : bit_and (2 ^ i) (2 ^ j) ≡ 2 ^ j = ap (λ (x : ℕ). bit_and x (2 ^ j)) (sym e) ∙ and_or_self (2 ^ j) s in
-    let z : 0 < 2 ^ j = pow_pos j in
-    omega (arith, a, pow_apart i j apart, z)
+    omega (arith, ap (λ (x : ℕ). bit_and x (2 ^ j)) (sym e) ∙ and_or_self (2 ^ j) s, pow_apart i j apart, pow_pos j)
 
 -- a NaN made quiet has the significand of a NaN
 pub or_member : (kind : NonfiniteBehavior) (explicit : Bool) (p s : ℕ) → 3 ≤ p → IsNanSignificand kind explicit p s
@@ -50,19 +47,17 @@ quiet_kinds : (kind : NonfiniteBehavior) (explicit : Bool) (p payload : ℕ) →
 quiet_kinds IEEE754 false p payload h =
     let t = twice p h in
     let q : bit_or 0 (2 ^ (p - 2)) ≡ 2 ^ (p - 2) = or_zero_l (2 ^ (p - 2)) in
-    let m = and_le_r payload (2 ^ (p - 1) - 1) in
     let g = le_or_l (bit_or 0 (2 ^ (p - 2))) (bit_and payload (2 ^ (p - 1) - 1)) in
     let l : bit_or 0 (2 ^ (p - 2)) < 2 ^ (p - 1) = omega (arith, t, q) in
-    let r : bit_and payload (2 ^ (p - 1) - 1) < 2 ^ (p - 1) = omega (arith, t, m) in
+    let r : bit_and payload (2 ^ (p - 1) - 1) < 2 ^ (p - 1) = omega (arith, t, and_le_r payload (2 ^ (p - 1) - 1)) in
     (omega (arith, t, q, g), or_lt (p - 1) (bit_or 0 (2 ^ (p - 2))) (bit_and payload (2 ^ (p - 1) - 1)) l r)
 quiet_kinds IEEE754 true p payload h =
     let t = twice p h in
     let q : bit_or 0 (3 * 2 ^ (p - 2)) ≡ 3 * 2 ^ (p - 2) = or_zero_l (3 * 2 ^ (p - 2)) in
-    let m = and_le_r payload (2 ^ (p - 1) - 1) in
     let g = le_or_l (bit_or 0 (3 * 2 ^ (p - 2))) (bit_and payload (2 ^ (p - 1) - 1)) in
     let z : 0 < 2 ^ (p - 2) = pow_pos (p - 2) in
     let l : bit_or 0 (3 * 2 ^ (p - 2)) < 2 ^ p = omega (arith, t, q, z) in
-    let r : bit_and payload (2 ^ (p - 1) - 1) < 2 ^ p = omega (arith, t, m, z) in
+    let r : bit_and payload (2 ^ (p - 1) - 1) < 2 ^ p = omega (arith, t, and_le_r payload (2 ^ (p - 1) - 1), z) in
     (or_lt p (bit_or 0 (3 * 2 ^ (p - 2))) (bit_and payload (2 ^ (p - 1) - 1)) l r, λ e. omega (arith, t, q, g, e, z))
 quiet_kinds NanOnly e p payload h = let b = nan_base_of NanOnly p in
     rw (and_zero_r payload) rw (or_zero_r (bit_or b 0)) rw (or_zero_r b) refl
@@ -84,17 +79,15 @@ or_nothing q = ap (λ (x : ℕ). bit_or x 0) (less_nothing q) ∙ or_zero_r q
 -- a payload without the quiet bit, with the bit below it set if no other is left, forms the significand of a NaN too
 signaling_kinds : (kind : NonfiniteBehavior) (explicit : Bool) (p q : ℕ) → 3 ≤ p → IsNanSignificand kind explicit p q
     → IsNanSignificand kind explicit p (let c = q - bit_and q (quiet_bit_of kind p) in
-    if eqb (bit_and c (payload_mask_of kind p)) 0
-    then bit_or c (quiet_bit_of kind p / 2) else c)
+    if eqb (bit_and c (payload_mask_of kind p)) 0 then bit_or c (quiet_bit_of kind p / 2) else c)
 signaling_kinds IEEE754 false p q h (some, below) =
     let t = twice p h in
     let c = q - bit_and q (2 ^ (p - 2)) in
     let l : c < 2 ^ (p - 1) = omega arith in
     let half : 2 ^ (p - 2) / 2 ≡ 2 ^ (p - 3) = omega (arith, t) in
     let m : 2 ^ (p - 2) / 2 < 2 ^ (p - 1) = omega (arith, t, half) in
-    let g = le_or_r c (2 ^ (p - 2) / 2) in
     if_case (IsNanSignificand IEEE754 false p) (eqb (bit_and c (2 ^ (p - 1) - 1)) 0)
-    (λ _. (omega (arith, t, half, g), or_lt (p - 1) c (2 ^ (p - 2) / 2) l m))
+    (λ _. (omega (arith, t, half, le_or_r c (2 ^ (p - 2) / 2)), or_lt (p - 1) c (2 ^ (p - 2) / 2) l m))
     (λ n. (
       pos_of_ne-zero {n = c}
           (λ z. eqb-false (bit_and c (2 ^ (p - 1) - 1)) 0 n

@@ -44,9 +44,7 @@ low_within format m precise h =
 
 -- the smallest number is within the largest value
 pub one_within : (format : Format) → 3 ≤ format.precision → 1 * 1 ≤ largest format
-one_within format precise =
-    let p = four format.precision precise in
-    low_within format 1 precise (omega (arith, p))
+one_within format precise = low_within format 1 precise (omega (arith, four format.precision precise))
 
 -- the smallest normalized number is within the largest value
 pub half_within : (format : Format) → 3 ≤ format.precision → 2 ^ (format.precision - 1) * 1 ≤ largest format
@@ -57,10 +55,9 @@ half_within format precise =
     at_top format (2 ^ (format.precision - 1)) 0 (omega (arith, l, p, t)) (omega arith)
 
 -- in a format with infinities: any significand at any exponent but the greatest is within the largest value
-pub ieee_within : (format : Format) (layout : Layout) (m e : ℕ) → IsInterchange format layout
-    → format.nonfinite ≡ IEEE754
-    → m < 2 ^ format.precision → e < 2 ^ layout.exponent_bits → (e ≡ all_ones layout.exponent_bits → ⊥)
-    → m * 2 ^ (e - 1) ≤ largest format
+pub ieee_within : (format : Format) (layout : Layout) (m e : ℕ)
+    → IsInterchange format layout → format.nonfinite ≡ IEEE754 → m < 2 ^ format.precision → e < 2 ^ layout.exponent_bits
+    → (e ≡ all_ones layout.exponent_bits → ⊥) → m * 2 ^ (e - 1) ≤ largest format
 ieee_within format layout m e law k a b n =
     let s : format.span + 3 ≡ 2 ^ layout.exponent_bits + 0 = rw k at law.span in
     let t : m ≤ greatest_significand format.nonfinite format.precision = rw k (omega arith) in

@@ -177,8 +177,7 @@ passed true other x h = refl
 passed false other x h = cc
 
 -- a test that fails chooses none
-pub refused : (test other : Bool) (option : Option ℕ) → test ≡ false
-    → (if test && other then option else None) ≡ None
+pub refused : (test other : Bool) (option : Option ℕ) → test ≡ false → (if test && other then option else None) ≡ None
 refused true other x h = cc
 refused false other x h = refl
 
@@ -221,26 +220,21 @@ above_zero (suc n) e = omega arith
 -- a factor above 0 does not change whether two numbers are equal
 pub eqb_times : (a b factor : ℕ) → 0 < factor → eqb a b ≡ eqb (a * factor) (b * factor)
 eqb_times a b u p =
-    ⊎_elim
-    (λ (e : a ≡ b). eq-eqb a b e ∙ sym (eq-eqb (a * u) (b * u) (ap (λ (x : ℕ). x * u) e)))
+    ⊎_elim (λ (e : a ≡ b). eq-eqb a b e ∙ sym (eq-eqb (a * u) (b * u) (ap (λ (x : ℕ). x * u) e)))
     (λ (e : a ≡ b → ⊥). ne_eqb a b e ∙ sym (ne_eqb (a * u) (b * u) (λ h. e (eq_of_mul-eq-mul_right u p a b h))))
     (cases_eq a b)
 
 -- a factor above 0 does not change the order of two numbers
 pub ltb_times : (a b factor : ℕ) → 0 < factor → ltb a b ≡ ltb (a * factor) (b * factor)
 ltb_times a b u p =
-    ⊎_elim
-    (λ (h : a < b). lt-ltb a b h ∙ sym (lt-ltb (a * u) (b * u) (mul-lt-mul_of_pos_right h p)))
-    (λ (h : b ≤ a). le-ltb a b h ∙ sym (le-ltb (a * u) (b * u) (mul-le-mul_right u h)))
-    (cases_lt a b)
+    ⊎_elim (λ (h : a < b). lt-ltb a b h ∙ sym (lt-ltb (a * u) (b * u) (mul-lt-mul_of_pos_right h p)))
+    (λ (h : b ≤ a). le-ltb a b h ∙ sym (le-ltb (a * u) (b * u) (mul-le-mul_right u h))) (cases_lt a b)
 
 -- a number that is neither 0 nor below a positive bound is at least that bound
 pub at_least : (n m : ℕ) → 0 < m → (ltb 0 n && not (ltb 0 n && ltb n m)) ≡ leb m n
 at_least n m h =
-    ⊎_elim
-    (λ (l : n < m). rw (lt-ltb n m l, lt-leb m n l) (not_itself (ltb 0 n)))
-    (λ (l : m ≤ n). rw (lt-ltb 0 n (omega (arith, h, l)), le-ltb n m l, le-leb m n l) refl)
-    (cases_lt n m)
+    ⊎_elim (λ (l : n < m). rw (lt-ltb n m l, lt-leb m n l) (not_itself (ltb 0 n)))
+    (λ (l : m ≤ n). rw (lt-ltb 0 n (omega (arith, h, l)), le-ltb n m l, le-leb m n l) refl) (cases_lt n m)
 
 -- what holds in each of the three orders of two numbers holds
 pub by_order : (P : Type 0) (m n : ℕ) → (m < n → P) → (m ≡ n → P) → (n < m → P) → P
@@ -274,8 +268,7 @@ needless_last true true true x y h = sym (h refl refl refl)
 
 -- after two tests, the last value is chosen only if both fail
 pub where_both_fail : {A : Type 0} (first second : Bool) (left right one other : A)
-    → (first ≡ false → second ≡ false → one ≡ other)
-    → (if first then left else (if second then right else one))
+    → (first ≡ false → second ≡ false → one ≡ other) → (if first then left else (if second then right else one))
     ≡ (if first then left else (if second then right else other))
 where_both_fail true second x y p q h = refl
 where_both_fail false true x y p q h = refl

@@ -88,8 +88,7 @@ run_stops test (c ∷ xs) = go (cases_Bool (test c)) (run_stops test xs)
 pub after_passes : (test other : ℕ → Bool) (xs : List ℕ) → every other xs ≡ true
     → every other (after_run test xs) ≡ true
 after_passes test other [] h = refl
-after_passes test other (c ∷ xs) h =
-    go (test c) (after_passes test other xs (and_parts (other c) (every other xs) h).1)
+after_passes test other (c ∷ xs) h = go (test c) (after_passes test other xs (and_parts (other c) (every other xs) h).1)
   where
     go : (passes : Bool) → every other (after_run test xs) ≡ true
         → every other (cond passes (after_run test xs) (c ∷ xs)) ≡ true
@@ -148,8 +147,7 @@ pub parted : (P : List ℕ → Type 0) (xs : List ℕ) → 1 ≤ length xs → P
 parted P [] h p = absurd (omega (arith, h))
 parted P (x ∷ xs) h p =
     let e : length (x ∷ xs) - 1 ≡ length xs = omega arith in
-    let t : take (length (x ∷ xs) - 1) xs ≡ xs = ap (λ (n : ℕ). take n xs) e ∙
-    take_all (length xs) xs (omega arith) in
+    let t : take (length (x ∷ xs) - 1) xs ≡ xs = ap (λ (n : ℕ). take n xs) e ∙ take_all (length xs) xs (omega arith) in
     subst (λ (l : List ℕ). P (x ∷ l)) (sym t) p
 
 -- ---- lists with items

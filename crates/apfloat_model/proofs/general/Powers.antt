@@ -34,10 +34,7 @@ half_at_most a b h =
 -- a power that is no greater has no greater exponent
 pub exponent_at_most : (a b : ℕ) → 2 ^ a ≤ 2 ^ b → a ≤ b
 exponent_at_most a b h =
-    ⊎_elim
-    (λ (c : b < a). absurd (omega (arith, h, half_at_most b a c, pow_pos b)))
-    (λ (c : a ≤ b). c)
-    (cases_lt b a)
+    ⊎_elim (λ (c : b < a). absurd (omega (arith, h, half_at_most b a c, pow_pos b))) (λ (c : a ≤ b). c) (cases_lt b a)
 
 -- a lesser power has a lesser exponent
 pub exponent_below : (a b : ℕ) → 2 ^ a < 2 ^ b → a < b
@@ -74,8 +71,7 @@ twice_half places h =
 pub four : (precision : ℕ) → 3 ≤ precision → 4 ≤ 2 ^ (precision - 1)
 four precision h =
     let l : 2 ≤ precision - 1 = omega arith in
-    let k : 2 ^ 2 ≤ 2 ^ (precision - 1) = pow-le-pow_right two_pos l in
-    k
+    pow-le-pow_right two_pos l
 
 -- if a number is at least 2 ^ a and below 2 ^ (b + 1), a is at most b
 pub exponent_between : (n a b : ℕ) → 2 ^ a ≤ n → n < 2 ^ (b + 1) → a ≤ b
@@ -86,12 +82,9 @@ pub product_full : (precision m n : ℕ) → 0 < precision → 2 ^ (precision - 
     → 2 ^ (2 * precision - 1) ≤ 2 * (m * n)
 product_full precision m n some left right =
     let digits : 2 * precision - 1 ≡ 1 + (precision - 1) + (precision - 1) = omega (arith, some) in
-    let power : 2 ^ (2 * precision - 1) ≡ 2 ^ 1 * 2 ^ (precision - 1) * 2 ^ (precision - 1) =
-    ap (λ (x : ℕ). 2 ^ x) digits ∙ pow3 1 (precision - 1) (precision - 1) in
     let low : 2 ^ (precision - 1) * 2 ^ (precision - 1) ≤ 2 ^ (precision - 1) * n =
     mul-le-mul_left (2 ^ (precision - 1)) right in
-    let high : 2 ^ (precision - 1) * n ≤ m * n = mul-le-mul_right n left in
-    omega (arith, power, low, high)
+    omega (arith, ap (λ (x : ℕ). 2 ^ x) digits ∙ pow3 1 (precision - 1) (precision - 1), low, mul-le-mul_right n left)
 
 -- the left factor of a product above 0 is above 0
 pub left_factor : (n k : ℕ) → 0 < n * k → 0 < n

@@ -39,10 +39,8 @@ always_finite true = refl
 always_finite false = refl
 
 -- a predicate on categories and one on data that agree on numbers, infinities and NaNs agree on data
-agree : (P : Category → Bool) (Q : Datum → Bool)
-    → ((b : Bool) (n : ℕ) → P (category_of (finite b n)) ≡ Q (finite b n))
-    → ((b : Bool) → P Infinity ≡ Q (infinite b)) → ((b : Bool) (s : ℕ) → P NaN ≡ Q (nan b s))
-    → (x : Datum)
+agree : (P : Category → Bool) (Q : Datum → Bool) → ((b : Bool) (n : ℕ) → P (category_of (finite b n)) ≡ Q (finite b n))
+    → ((b : Bool) → P Infinity ≡ Q (infinite b)) → ((b : Bool) (s : ℕ) → P NaN ≡ Q (nan b s)) → (x : Datum)
     → P (category_of x) ≡ Q x
 agree P Q of_number of_infinity of_nan (finite b n) = of_number b n
 agree P Q of_number of_infinity of_nan (infinite b) = of_infinity b
@@ -68,8 +66,7 @@ number_or_not (suc n) = rw (not_zero (suc n) (omega arith), lt-ltb 0 (suc n) (om
 
 -- by category, a datum is finite and nonzero exactly if it is so in the model
 pub number_agrees : (x : Datum) → is_finite_non_zero_category (category_of x) ≡ is_finite_non_zero x
-number_agrees =
-    agree is_finite_non_zero_category is_finite_non_zero (λ b n. number_or_not n) (λ b. refl) (λ b s. refl)
+number_agrees = agree is_finite_non_zero_category is_finite_non_zero (λ b n. number_or_not n) (λ b. refl) (λ b s. refl)
 
 -- by category, a datum is normal exactly if it is so in the model
 pub normal_agrees : (format : Format) (x : Datum)
@@ -142,14 +139,12 @@ sign_alone kind m x y e = rw e refl
 
 -- a datum is m quanta with its own sign exactly if it is finite and has m quanta
 pub magnitude_agrees : (kind : NonfiniteBehavior) (m : ℕ) (x : Datum) → 0 < m
-    → same_datum x (signed_like is_negative (negated kind) (finite false m) x)
-    ≡ (is_finite x && eqb (quanta_of x) m)
+    → same_datum x (signed_like is_negative (negated kind) (finite false m) x) ≡ (is_finite x && eqb (quanta_of x) m)
 magnitude_agrees kind m (finite b n) h =
     rw (sign_alone kind m (finite b n) (finite b m) refl, turned_number kind b m h, same_sign_self b) refl
 magnitude_agrees kind m (infinite b) h =
     rw (sign_alone kind m (infinite b) (finite b m) refl, turned_number kind b m h) refl
-magnitude_agrees kind m (nan b s) h =
-    rw (sign_alone kind m (nan b s) (finite b m) refl, turned_number kind b m h) refl
+magnitude_agrees kind m (nan b s) h = rw (sign_alone kind m (nan b s) (finite b m) refl, turned_number kind b m h) refl
 
 -- the smallest number, the smallest normalized one and the largest are those of the model
 pub smallest_agrees : (format : Format) (x : Datum)

@@ -54,20 +54,18 @@ delivered_past format mode negative amount parts p v s i a e d =
     record { pick = p; is_pick = i; value_is = rw a e; status_is = rw a d }
 
 -- what is delivered for a pick within the format that is the magnitude
-pub delivered_exactly : (format : Format) (mode : Round) (negative : Bool) (amount parts p : ℕ) (value : Datum)
-    (status : ℕ) → IsPick format.precision mode negative amount parts p → ltb (largest format) p ≡ false
-    → p * parts ≡ amount
-    → value ≡ signed_quanta format.nonfinite negative p → status ≡ 0
+pub delivered_exactly : (format : Format) (mode : Round) (negative : Bool) (amount parts p : ℕ)
+    (value : Datum) (status : ℕ) → IsPick format.precision mode negative amount parts p → ltb (largest format) p ≡ false
+    → p * parts ≡ amount → value ≡ signed_quanta format.nonfinite negative p → status ≡ 0
     → IsDelivered format mode negative amount parts value status
 delivered_exactly format mode negative amount parts p v s i a e w d =
     let b : eqb (p * parts) amount ≡ true = eq-eqb (p * parts) amount e in
     record { pick = p; is_pick = i; value_is = rw a w; status_is = rw (a, b) d }
 
 -- what is delivered for a pick within the format that is not the magnitude
-pub delivered_inexactly : (format : Format) (mode : Round) (negative : Bool) (amount parts p : ℕ) (value : Datum)
-    (status : ℕ) → IsPick format.precision mode negative amount parts p → ltb (largest format) p ≡ false
-    → (p * parts ≡ amount → ⊥)
-    → value ≡ signed_quanta format.nonfinite negative p
+pub delivered_inexactly : (format : Format) (mode : Round) (negative : Bool)
+    (amount parts p : ℕ) (value : Datum) (status : ℕ) → IsPick format.precision mode negative amount parts p
+    → ltb (largest format) p ≡ false → (p * parts ≡ amount → ⊥) → value ≡ signed_quanta format.nonfinite negative p
     → status ≡ cond (is_tiny format mode negative amount parts p) 24 16
     → IsDelivered format mode negative amount parts value status
 delivered_inexactly format mode negative amount parts p v s i a n w d =
@@ -83,25 +81,21 @@ pub exact_if : (precision : ℕ) (mode : Round) (negative : Bool) (half m c amou
 exact_if precision mode negative half m c amount parts p loss z l i h x =
     let h' : StandsFor m ExactlyZero amount (2 ^ c * parts) =
     subst (λ (y : Loss). StandsFor m y amount (2 ^ c * parts)) z h in
-    let e : p ≡ m * 2 ^ c =
-    pick_unique precision mode negative amount parts p (m * 2 ^ c) x
+    let e : p ≡ m * 2 ^ c = pick_unique precision mode negative amount parts p (m * 2 ^ c) x
     (pick_is precision mode negative half m c amount parts ExactlyZero l i h') in
     ap (λ (y : ℕ). y * parts) e ∙ omega (arith, h')
 
 -- if something was lost, the pick is not the magnitude
 pub inexact_if : (precision : ℕ) (mode : Round) (negative : Bool) (half m c amount parts p : ℕ) (loss : Loss)
     → (loss ≡ ExactlyZero → ⊥) → 0 < parts → IsEnclosed precision half m c amount parts
-    → StandsFor m loss amount (2 ^ c * parts) → IsPick precision mode negative amount parts p → p * parts ≡ amount
-    → ⊥
+    → StandsFor m loss amount (2 ^ c * parts) → IsPick precision mode negative amount parts p → p * parts ≡ amount → ⊥
 inexact_if precision mode negative half m c amount parts p loss n l i h x q =
     let u : 0 < 2 ^ c * parts = mul-pos (pow_pos c) l in
-    let e : p ≡ kept mode negative loss m * 2 ^ c =
-    pick_unique precision mode negative amount parts p (kept mode negative loss m * 2 ^ c) x
-    (pick_is precision mode negative half m c amount parts loss l i h) in
-    let s : kept mode negative loss m * 2 ^ c * parts ≡ amount = ap (λ (y : ℕ). y * parts) (sym e) ∙ q in
+    let e : p ≡ kept mode negative loss m * 2 ^ c = pick_unique precision mode negative amount parts p
+    (kept mode negative loss m * 2 ^ c) x (pick_is precision mode negative half m c amount parts loss l i h) in
     off_both (rounds_up mode negative loss (eqb (m % 2) 1)) m amount (2 ^ c * parts)
     (stands_past m loss amount (2 ^ c * parts) u n h) (stands_to m loss amount (2 ^ c * parts) u h)
-    (sym (mul_assoc (kept mode negative loss m) (2 ^ c) parts) ∙ s)
+    (sym (mul_assoc (kept mode negative loss m) (2 ^ c) parts) ∙ ap (λ (y : ℕ). y * parts) (sym e) ∙ q)
 
 -- ---- tiny
 
@@ -133,12 +127,10 @@ large_before precision half m c amount parts l i =
 pub tiny_before : (precision half m c amount parts : ℕ) → 0 < parts → IsEnclosed precision half m c amount parts
     → ltb m half ≡ ltb amount (half * parts)
 tiny_before precision half m c amount parts p i =
-    ⊎_elim
-    (λ (l : m < half). lt-ltb m half l ∙
+    ⊎_elim (λ (l : m < half). lt-ltb m half l ∙
     sym (lt-ltb amount (half * parts) (small_before precision half m c amount parts p l i)))
     (λ (l : half ≤ m). le-ltb m half l ∙
-    sym (le-ltb amount (half * parts) (large_before precision half m c amount parts l i)))
-    (cases_lt m half)
+    sym (le-ltb amount (half * parts) (large_before precision half m c amount parts l i))) (cases_lt m half)
 
 -- a significand below the half, at the lowest place, leaves the pick below it
 small_after : (half s place : ℕ) → s < half → (place ≡ 0) ⊎ (half ≤ s) → s * 2 ^ place < half
@@ -155,7 +147,6 @@ large_after half s place l =
 -- a pick is tiny after rounding exactly if its significand is below the half
 pub tiny_after : (half s place : ℕ) → (place ≡ 0) ⊎ (half ≤ s) → ltb s half ≡ ltb (s * 2 ^ place) half
 tiny_after half s place f =
-    ⊎_elim
-    (λ (l : s < half). lt-ltb s half l ∙ sym (lt-ltb (s * 2 ^ place) half (small_after half s place l f)))
+    ⊎_elim (λ (l : s < half). lt-ltb s half l ∙ sym (lt-ltb (s * 2 ^ place) half (small_after half s place l f)))
     (λ (l : half ≤ s). le-ltb s half l ∙ sym (le-ltb (s * 2 ^ place) half (large_after half s place l)))
     (cases_lt s half)

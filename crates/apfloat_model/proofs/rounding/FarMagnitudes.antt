@@ -28,12 +28,11 @@ pub record IsFarBelow (amount parts : ℕ) : Type 0 where
 -- the largest value is below the power of two that is past all numbers
 pub largest_below : (format : Format) → largest format < 2 ^ (format.precision + format.span)
 largest_below format =
-    let e : 2 ^ (format.precision + format.span) ≡ 2 ^ format.precision * 2 ^ format.span =
-    pow-add 2 format.precision format.span in
     let a : greatest_significand format.nonfinite format.precision * 2 ^ format.span
     < 2 ^ format.precision * 2 ^ format.span =
     mul-lt-mul_of_pos_right (greatest_fits format.nonfinite format.precision) (pow_pos format.span) in
-    subst (λ (x : ℕ). greatest_significand format.nonfinite format.precision * 2 ^ format.span < x) (sym e) a
+    subst (λ (x : ℕ). greatest_significand format.nonfinite format.precision * 2 ^ format.span < x)
+    (sym (pow-add 2 format.precision format.span)) a
 
 -- each power of two is on the grid
 pub power_on_grid : (precision k : ℕ) → 0 < precision → IsOnGrid precision (2 ^ k)
@@ -53,14 +52,10 @@ pub picks_past : (format : Format) (mode : Round) (negative : Bool) (amount part
     → IsFarAbove format amount parts → IsPick format.precision mode negative amount parts p
     → ltb (largest format) p ≡ true
 picks_past format mode negative amount parts p h x i =
-    let a : largest format < 2 ^ (format.precision + format.span) = largest_below format in
-    let b : 2 ^ (format.precision + format.span) ≤ i.below =
-    i.is_below.greatest (2 ^ (format.precision + format.span))
-    (power_on_grid format.precision (format.precision + format.span) h)
-    x.from in
-    let c = pick_within format.precision mode negative amount parts p x.some i in
-    let d : i.below ≤ p = c.1 in
-    lt-ltb (largest format) p (omega (arith, a, b, d))
+    let b : 2 ^ (format.precision + format.span) ≤ i.below = i.is_below.greatest (2 ^ (format.precision + format.span))
+    (power_on_grid format.precision (format.precision + format.span) h) x.from in
+    let d : i.below ≤ p = (pick_within format.precision mode negative amount parts p x.some i).1 in
+    lt-ltb (largest format) p (omega (arith, largest_below format, b, d))
 
 -- all picks past the largest value deliver one value
 value_past : (format : Format) (mode : Round) (negative : Bool) (p q : ℕ) → ltb (largest format) p ≡ true
@@ -114,8 +109,7 @@ pub picks_little : (precision : ℕ) (mode : Round) (negative : Bool) (amount pa
 unfolding little_pick
 picks_little precision mode negative amount parts h x =
     let l = x.to in let k = x.some in
-    let p : 0 < parts = omega (arith, l) in
-    pick_is precision mode negative (2 ^ (precision - 1)) 0 0 amount parts LessThanHalf p
+    pick_is precision mode negative (2 ^ (precision - 1)) 0 0 amount parts LessThanHalf (omega (arith, l))
     (little_enclosed precision amount parts h x) (omega (arith, k), omega (arith, l))
 
 -- that pick is at most one quantum
@@ -139,10 +133,8 @@ inexact_little amount parts p x h = ne_eqb (p * parts) amount (off_little p amou
 before_little : (format : Format) (amount parts : ℕ) → IsFarBelow amount parts
     → ltb amount (smallest_normalized format * parts) ≡ true
 before_little format amount parts x =
-    let l = x.to in
-    let w : 1 ≤ 2 ^ (format.precision - 1) = pow_pos (format.precision - 1) in
-    let a : 1 * parts ≤ 2 ^ (format.precision - 1) * parts = mul-le-mul_right parts w in
-    lt-ltb amount (smallest_normalized format * parts) (omega (arith, l, a))
+    let a : 1 * parts ≤ 2 ^ (format.precision - 1) * parts = mul-le-mul_right parts (pow_pos (format.precision - 1)) in
+    lt-ltb amount (smallest_normalized format * parts) (omega (arith, x.to, a))
 
 -- a magnitude below half a quantum, rounded with an unbounded exponent, is below the smallest normalized number
 below_little : (precision : ℕ) (mode : Round) (negative : Bool) (amount parts : ℕ) → 0 < precision
@@ -152,9 +144,8 @@ below_little precision mode negative amount parts h x =
     let d : 2 * 2 ^ (precision - 1) ≡ 2 ^ precision = twice_half precision h in
     let v : 0 < 2 ^ (precision - 1) = pow_pos (precision - 1) in
     let w : 1 ≤ 2 ^ precision - 1 = omega arith in
-    let a : 1 * parts ≤ (2 ^ precision - 1) * parts = mul-le-mul_right parts w in
     let b : leb (2 * amount) ((2 ^ precision - 1) * parts) ≡ true =
-    le-leb (2 * amount) ((2 ^ precision - 1) * parts) (omega (arith, l, a)) in
+    le-leb (2 * amount) ((2 ^ precision - 1) * parts) (omega (arith, l, mul-le-mul_right parts w)) in
     rw b refl
 
 -- all magnitudes below half a quantum are tiny, or none are
@@ -162,13 +153,12 @@ tiny_little : (format : Format) (mode : Round) (negative : Bool) (amount parts a
     → 0 < format.precision → IsFarBelow amount parts → IsFarBelow amount' parts'
     → is_tiny format mode negative amount parts p ≡ is_tiny format mode negative amount' parts' p
 tiny_little format mode negative amount parts amount' parts' p h x y =
-    let a = before_little format amount parts x in
     let b = before_little format amount' parts' y in
     let c = below_little format.precision mode negative amount parts h x in
     let d = below_little format.precision mode negative amount' parts' h y in
     ap (λ (z : Bool). cond format.tiny_before_rounding z
     (cond format.ieee_flags (rounds_below_normal format.precision mode negative amount parts)
-    (ltb p (smallest_normalized format)))) (a ∙ sym b)
+    (ltb p (smallest_normalized format)))) (before_little format amount parts x ∙ sym b)
     ∙ ap (λ (z : Bool). cond format.tiny_before_rounding (ltb amount' (smallest_normalized format * parts'))
     (cond format.ieee_flags z (ltb p (smallest_normalized format)))) (c ∙ sym d)
 
@@ -177,10 +167,8 @@ status_little : (format : Format) (mode : Round) (negative : Bool) (amount parts
     → 0 < format.precision → IsFarBelow amount parts → IsFarBelow amount' parts'
     → delivered_status format mode negative amount parts p ≡ delivered_status format mode negative amount' parts' p
 status_little format mode negative amount parts amount' parts' p h q x y =
-    let a = inexact_little amount parts p x h in
-    let b = inexact_little amount' parts' p y h in
     let t = tiny_little format mode negative amount parts amount' parts' p q x y in
-    rw (a, b, t) refl
+    rw (inexact_little amount parts p x h, inexact_little amount' parts' p y h, t) refl
 
 -- all magnitudes far below have one result
 pub far_below : (format : Format) (mode : Round) (negative : Bool) (amount parts amount' parts' : ℕ) (value : Datum)
@@ -189,9 +177,8 @@ pub far_below : (format : Format) (mode : Round) (negative : Bool) (amount parts
     → IsDelivered format mode negative amount' parts' value status
 far_below format mode negative amount parts amount' parts' v s h x y d =
     let p : ℕ = little_pick mode negative in
-    let e : d.pick ≡ little_pick mode negative =
-    pick_unique format.precision mode negative amount parts d.pick (little_pick mode negative) d.is_pick
-    (picks_little format.precision mode negative amount parts h x) in
+    let e : d.pick ≡ little_pick mode negative = pick_unique format.precision mode negative amount parts d.pick
+    (little_pick mode negative) d.is_pick (picks_little format.precision mode negative amount parts h x) in
     record {
       pick = little_pick mode negative;
       is_pick = picks_little format.precision mode negative amount' parts' h y;

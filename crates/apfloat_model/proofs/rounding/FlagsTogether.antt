@@ -111,8 +111,7 @@ pub from_unsigned_together : (format : Format) (mode : Round) (number : ℕ)
 from_unsigned_together format mode number =
     yields_together format mode (from_unsigned format number) (from_unsigned_sound format number)
 
-pub from_signed_together : (format : Format) (mode : Round) (number : ℤ)
-    → Together (IsFromSigned format mode number)
+pub from_signed_together : (format : Format) (mode : Round) (number : ℤ) → Together (IsFromSigned format mode number)
 from_signed_together format mode number =
     yields_together format mode (from_signed format number) (from_signed_sound format number)
 
@@ -146,8 +145,7 @@ pub negated_whole_together : (is_zero : Bool) (width number flags : ℕ) (exact 
     (is_exact : Bool) → FlagsGoTogether flags
     → IsNegatedWhole is_zero width number flags exact value status is_exact → FlagsGoTogether status
 negated_whole_together is_zero width number flags exact value status is_exact f h =
-    ⊎_elim
-    (λ (past : 2 ^ (width - 1) < number). subst FlagsGoTogether (sym (h.past past).0) invalid_together)
+    ⊎_elim (λ (past : 2 ^ (width - 1) < number). subst FlagsGoTogether (sym (h.past past).0) invalid_together)
     (λ (within : number ≤ 2 ^ (width - 1)). subst FlagsGoTogether (sym (h.within within).0) f)
     (cases_lt (2 ^ (width - 1)) number)
 

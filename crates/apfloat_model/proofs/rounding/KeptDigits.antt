@@ -17,8 +17,7 @@ use lib.Count.{count_leading_zeros}
 pub digits_below : (n : ℕ) → n < 2 ^ 128 → n < 2 ^ (128 - count_leading_zeros 128 n)
 digits_below n h =
     let r = leading_length 128 n h in
-    let e₀ = r.1 in
-    let e : r.0 ≡ 128 - count_leading_zeros 128 n = omega (arith, e₀) in
+    let e : r.0 ≡ 128 - count_leading_zeros 128 n = omega (arith, r.1) in
     subst (λ (x : ℕ). n < 2 ^ x) e r.2
 
 -- a number is at least the power of two below its number of digits
@@ -105,8 +104,7 @@ pub fits_cut : (s digits k precision : ℕ) → s < 2 ^ digits → digits ≤ k 
 fits_cut s digits k precision h l =
     let a : 2 ^ digits ≤ 2 ^ (precision + k) = pow-le-pow_right two_pos (omega arith) in
     let b : 2 ^ (precision + k) ≡ 2 ^ precision * 2 ^ k = pow-add 2 precision k in
-    let d : s < 2 ^ precision * 2 ^ k = omega arith in
-    (div-lt_iff_lt-mul (pow_pos k)).1 d
+    (div-lt_iff_lt-mul (pow_pos k)).1 (omega arith)
 
 -- with just the digits past the precision cut off, a significand has all the digits of the format
 pub full_cut : (s digits k precision : ℕ) → 0 < precision → (0 < digits → 2 ^ (digits - 1) ≤ s)
@@ -133,24 +131,21 @@ full_shifted s digits j precision p h e =
     let a : 2 ^ (digits - 1) ≤ s = h p in
     let k : 2 ^ (digits - 1) * 2 ^ j ≤ s * 2 ^ j = mul-le-mul_right (2 ^ j) a in
     let w : (digits - 1) + j ≡ precision - 1 = omega arith in
-    let b : 2 ^ (digits - 1) * 2 ^ j ≡ 2 ^ (precision - 1) = sym (pow-add 2 (digits - 1) j) ∙
-    ap (λ (x : ℕ). 2 ^ x) w in
+    let b : 2 ^ (digits - 1) * 2 ^ j ≡ 2 ^ (precision - 1) = sym (pow-add 2 (digits - 1) j) ∙ ap (λ (x : ℕ). 2 ^ x) w in
     omega arith
 
 -- cut at the target place, a significand fits the format
 pub cut_fits : (precision s q digits k place up down : ℕ) → s < 2 ^ digits → digits + up ≤ place + precision + down
     → k + up ≡ place + down → q ≡ s / 2 ^ k → q < 2 ^ precision
 cut_fits precision s q digits k place up down b c e w =
-    let l₀ : digits ≤ k + precision = omega arith in
-    subst (λ (x : ℕ). x < 2 ^ precision) (sym w) (fits_cut s digits k precision b l₀)
+    subst (λ (x : ℕ). x < 2 ^ precision) (sym w) (fits_cut s digits k precision b (omega arith))
 
 -- cut at the target place above the lowest one, a significand has all the digits of the format
 pub cut_full : (precision s q digits k place up down : ℕ) → 0 < precision → (0 < digits → 2 ^ (digits - 1) ≤ s)
     → (place ≡ 0) ⊎ (digits + up ≡ place + precision + down) → k + up ≡ place + down → q ≡ s / 2 ^ k
     → (place ≡ 0) ⊎ (2 ^ (precision - 1) ≤ q)
 cut_full precision s q digits k place up down p f r e w =
-    ⊎_elim (λ z. inl z)
-    (λ z. inr (subst (λ (x : ℕ). 2 ^ (precision - 1) ≤ x) (sym w)
+    ⊎_elim (λ z. inl z) (λ z. inr (subst (λ (x : ℕ). 2 ^ (precision - 1) ≤ x) (sym w)
     (full_cut s digits k precision p f (omega (arith, z))))) r
 
 -- a significand shifted up stays within the machine word
@@ -172,9 +167,8 @@ some_digits s (suc d) h n = omega arith
 pub shift_fits : (precision s digits j place up down : ℕ) → precision ≤ 125 → s < 2 ^ digits
     → digits + up ≤ place + precision + down → place + down + j ≡ up → s * 2 ^ j % 2 ^ 128 < 2 ^ precision
 shift_fits precision s digits j place up down p' b c e =
-    let l₀ : digits + j ≤ precision = omega arith in
     subst (λ (x : ℕ). x < 2 ^ precision) (shift_whole precision s digits j place up down p' b c e)
-    (fits_shifted s digits j precision b l₀)
+    (fits_shifted s digits j precision b (omega arith))
 
 -- shifted up to the target place above the lowest one, a significand has all the digits of the format
 pub shift_full : (precision s digits j place up down : ℕ) → precision ≤ 125 → s < 2 ^ digits
@@ -200,10 +194,9 @@ enclosed_from precision q c loss amount parts p u l f h =
 
 -- the digits that a cut keeps enclose the magnitude
 pub cut_kept : (precision s q digits k place up down : ℕ) (loss : Loss) (amount parts : ℕ) → 0 < precision
-    → 0 < parts → s < 2 ^ digits → (0 < digits → 2 ^ (digits - 1) ≤ s)
-    → digits + up ≤ place + precision + down → (place ≡ 0) ⊎ (digits + up ≡ place + precision + down)
-    → k + up ≡ place + down → q ≡ s / 2 ^ k
-    → StandsFor q loss (amount * 2 ^ down) (2 ^ k * (parts * 2 ^ up))
+    → 0 < parts → s < 2 ^ digits → (0 < digits → 2 ^ (digits - 1) ≤ s) → digits + up ≤ place + precision + down
+    → (place ≡ 0) ⊎ (digits + up ≡ place + precision + down) → k + up ≡ place + down
+    → q ≡ s / 2 ^ k → StandsFor q loss (amount * 2 ^ down) (2 ^ k * (parts * 2 ^ up))
     → IsEnclosed precision (2 ^ (precision - 1)) q place amount parts × StandsFor q loss amount (2 ^ place * parts)
 cut_kept precision s q digits k place up down loss amount parts p u b f c r e w h =
     let g : StandsFor q loss amount (2 ^ place * parts) = kept_stands q loss amount parts k up down place e h in (
@@ -216,8 +209,7 @@ cut_kept precision s q digits k place up down loss amount parts p u b f c r e w 
 pub shift_kept : (precision s digits j place up down : ℕ) (loss : Loss) (amount parts : ℕ) → 0 < precision
     → precision ≤ 125 → 0 < parts → s < 2 ^ digits → (0 < digits → 2 ^ (digits - 1) ≤ s) → (s ≡ 0 → ⊥)
     → digits + up ≤ place + precision + down → (place ≡ 0) ⊎ (digits + up ≡ place + precision + down)
-    → place + down + j ≡ up → loss ≡ ExactlyZero
-    → StandsFor s loss (amount * 2 ^ down) (parts * 2 ^ up)
+    → place + down + j ≡ up → loss ≡ ExactlyZero → StandsFor s loss (amount * 2 ^ down) (parts * 2 ^ up)
     → IsEnclosed precision (2 ^ (precision - 1)) (s * 2 ^ j % 2 ^ 128) place amount parts
     × StandsFor (s * 2 ^ j % 2 ^ 128) loss amount (2 ^ place * parts)
 shift_kept precision s digits j place up down loss amount parts p p' u b f n c r e z h =
@@ -240,9 +232,8 @@ too_full s digits j precision b p l h =
     omega arith
 
 -- a significand of 0 with nothing lost is unchanged
-pub zero_kept : (precision s up down : ℕ) (loss : Loss) (amount parts : ℕ) → 0 < precision → 0 < parts → s ≡ 0
-    → loss ≡ ExactlyZero
-    → StandsFor s loss (amount * 2 ^ down) (parts * 2 ^ up)
+pub zero_kept : (precision s up down : ℕ) (loss : Loss) (amount parts : ℕ)
+    → 0 < precision → 0 < parts → s ≡ 0 → loss ≡ ExactlyZero → StandsFor s loss (amount * 2 ^ down) (parts * 2 ^ up)
     → IsEnclosed precision (2 ^ (precision - 1)) 0 0 amount parts × StandsFor 0 loss amount (2 ^ 0 * parts)
 zero_kept precision s up down loss amount parts p u z e h =
     let h' : StandsFor 0 ExactlyZero (amount * 2 ^ down) (parts * 2 ^ up) =
@@ -256,8 +247,7 @@ zero_kept precision s up down loss amount parts p u z e h =
     (enclosed_from precision 0 0 loss amount parts p u (pow_pos precision) (inl refl) g', g')
 
 -- nothing was lost if the two other cases are excluded
-nothing_lost : (loss : Loss) (P Q : Type 0) → (loss ≡ ExactlyZero) ⊎ (P ⊎ Q) → (P → ⊥) → (Q → ⊥)
-    → loss ≡ ExactlyZero
+nothing_lost : (loss : Loss) (P Q : Type 0) → (loss ≡ ExactlyZero) ⊎ (P ⊎ Q) → (P → ⊥) → (Q → ⊥) → loss ≡ ExactlyZero
 nothing_lost loss P Q h n m = ⊎_elim (λ z. z) (λ o. absurd (⊎_elim n m o)) h
 
 -- nothing was lost if the unit is above the place that is kept
@@ -276,14 +266,12 @@ exact_shift s digits j place up down precision loss P b p c e h n =
 -- ---- all digits
 
 -- a significand that fits has no more digits than the precision
-pub digits_le : (s digits precision : ℕ) → s < 2 ^ precision → (0 < digits → 2 ^ (digits - 1) ≤ s)
-    → digits ≤ precision
+pub digits_le : (s digits precision : ℕ) → s < 2 ^ precision → (0 < digits → 2 ^ (digits - 1) ≤ s) → digits ≤ precision
 digits_le s digits precision h f =
     ⊎_elim
     (λ (l : precision < digits).
     let a : 2 ^ (digits - 1) ≤ s = f (omega arith) in
-    let e = exponent_below (digits - 1) precision (omega arith) in
-    absurd (omega (arith, e)))
+    absurd (omega (arith, exponent_below (digits - 1) precision (omega arith))))
     (λ (l : digits ≤ precision). l)
     (cases_lt precision digits)
 

@@ -19,10 +19,9 @@ use Rattle.apfloat_model.proofs.general.{Powers.twice_half, Choices.cond_same, C
 -- ---- one result
 
 -- one rounding has at most one value and one status
-pub delivered_once : (format : Format) (mode : Round) (negative : Bool) (amount parts : ℕ) (value other : Datum)
-    (status other_status : ℕ) → IsDelivered format mode negative amount parts value status
-    → IsDelivered format mode negative amount parts other other_status
-    → (value ≡ other) × (status ≡ other_status)
+pub delivered_once : (format : Format) (mode : Round) (negative : Bool) (amount parts : ℕ)
+    (value other : Datum) (status other_status : ℕ) → IsDelivered format mode negative amount parts value status
+    → IsDelivered format mode negative amount parts other other_status → (value ≡ other) × (status ≡ other_status)
 delivered_once format mode negative amount parts v w s t x y =
     let e : x.pick ≡ y.pick = pick_unique format.precision mode negative amount parts x.pick y.pick x.is_pick y.is_pick
     in (
@@ -126,8 +125,7 @@ below_swapped precision mode negative amount parts =
 -- the status, from whether the mode leads out and whether it rounds to a number below the smallest normalized one
 abbrev status_with : Format → ℕ → ℕ → ℕ → Bool → Bool → ℕ
 status_with format amount parts pick out below =
-    cond (ltb (largest format) pick) (cond (format.ieee_flags || out) 20 16)
-    (cond (eqb (pick * parts) amount) 0
+    cond (ltb (largest format) pick) (cond (format.ieee_flags || out) 20 16) (cond (eqb (pick * parts) amount) 0
     (cond (cond format.tiny_before_rounding (ltb amount (smallest_normalized format * parts))
     (cond format.ieee_flags below (ltb pick (smallest_normalized format)))) 24 16))
 
@@ -136,10 +134,9 @@ status_swapped : (format : Format) (mode : Round) (negative : Bool) (amount part
     → delivered_status format mode negative amount parts pick
     ≡ delivered_status format (swapped mode) (not negative) amount parts pick
 status_swapped format mode negative amount parts pick =
-    let l = sym (leads_swapped mode negative) in
     let b = sym (below_swapped format.precision mode negative amount parts) in
     ap (λ (x : Bool). status_with format amount parts pick x
-    (rounds_below_normal format.precision mode negative amount parts)) l
+    (rounds_below_normal format.precision mode negative amount parts)) (sym (leads_swapped mode negative))
     ∙ ap (λ (x : Bool). status_with format amount parts pick (leads_out (swapped mode) (not negative)) x) b
 
 -- the swapped mode picks the same magnitude on the other side of zero
@@ -202,8 +199,7 @@ grown precision mode negative a b parts p q h l low_pick high_pick e d =
     ≤ pick_between mode negative low_pick.below low_pick.above b parts =
     between_grows mode negative low_pick.below low_pick.above a b parts l
     (below_le_above precision low_pick.below low_pick.above a parts h low_pick.is_below low_pick.is_above) in
-    let v : p ≡ pick_between mode negative low_pick.below low_pick.above a parts = low_pick.is in
-    subst (λ (z : ℕ). z ≤ q) (sym v)
+    subst (λ (z : ℕ). z ≤ q) (sym low_pick.is)
     (subst (λ (z : ℕ). pick_between mode negative low_pick.below low_pick.above a parts ≤ z) (sym w) k)
 
 -- the neighbour below does not decrease as the amount increases
@@ -274,11 +270,9 @@ nonzero_swapped kind negative p n = let e : eqb p 0 ≡ false = ne_eqb p 0 n in 
 signed_swapped : (kind : NonfiniteBehavior) (negative : Bool) (p : ℕ)
     → signed_quanta kind (not negative) p ≡ negated kind (signed_quanta kind negative p)
 signed_swapped kind negative p =
-    ⊎_elim
-    (λ (z : p ≡ 0). subst (λ (x : ℕ). signed_quanta kind (not negative) x
+    ⊎_elim (λ (z : p ≡ 0). subst (λ (x : ℕ). signed_quanta kind (not negative) x
     ≡ negated kind (signed_quanta kind negative x)) (sym z) (zero_swapped kind negative))
-    (λ (n : p ≡ 0 → ⊥). nonzero_swapped kind negative p n)
-    (cases_eq p 0)
+    (λ (n : p ≡ 0 → ⊥). nonzero_swapped kind negative p n) (cases_eq p 0)
 
 -- the negation of a nonzero number has the other sign, in each kind of format
 pub number_swapped : (kind : NonfiniteBehavior) (negative : Bool) (p : ℕ) → 0 < p
@@ -304,14 +298,12 @@ delivered_swapped format mode negative amount parts v s h x = record {
   pick = x.pick;
   is_pick = pick_swapped format.precision mode negative amount parts x.pick x.is_pick;
   value_is =
-      let l = leads_swapped mode negative in
       ap (λ (y : Datum). negated format.nonfinite y) x.value_is
       ∙ sym (value_at format negative x.pick (ltb (largest format) x.pick) (leads_out mode negative) h)
       ∙ ap (λ (b : Bool). cond (ltb (largest format) x.pick)
       (cond b (past_largest format.nonfinite (nan_base format) (not negative)) (finite (not negative) (largest format)))
-      (signed_quanta format.nonfinite (not negative) x.pick)) (sym l);
-  status_is =
-      x.status_is ∙ status_swapped format mode negative amount parts x.pick;
+      (signed_quanta format.nonfinite (not negative) x.pick)) (sym (leads_swapped mode negative));
+  status_is = x.status_is ∙ status_swapped format mode negative amount parts x.pick;
 }
 
 -- each magnitude has a delivered value and status

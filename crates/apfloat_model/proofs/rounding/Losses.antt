@@ -57,8 +57,7 @@ pub cut_less : (q half rest : ℕ) (loss : Loss) (amount unit : ℕ) → 0 < uni
     → (0 < rest) ⊎ (loss ≡ ExactlyZero → ⊥) → StandsFor (q * (2 * half) + rest) loss amount unit
     → StandsFor q LessThanHalf amount (2 * half * unit)
 cut_less q half rest loss amount unit u l n h =
-    let a : q * (2 * half) * unit < amount =
-    stands_above (q * (2 * half)) _ loss amount unit u
+    let a : q * (2 * half) * unit < amount = stands_above (q * (2 * half)) _ loss amount unit u
     (⊎_elim (λ r. inl (omega (arith, r))) (λ z. inr (z, omega arith)) n) h in
     let b : amount < (q * (2 * half) + half) * unit =
     stands_below (q * (2 * half) + half) _ loss amount unit u (omega arith) h in
@@ -78,19 +77,16 @@ cut_more q half rest loss amount unit u l n h =
 
 -- a cut of `places` digits, from what is stated of the rest
 pub cut_at : (s places half rest : ℕ) (loss answer : Loss) → 0 < places → half ≡ 2 ^ (places - 1)
-    → rest ≡ s % 2 ^ places
-    → ((q amount unit : ℕ) → 0 < unit → StandsFor (q * (2 * half) + rest) loss amount unit
-    → StandsFor q answer amount (2 * half * unit))
-    → (amount unit : ℕ) → 0 < unit → StandsFor s loss amount unit
+    → rest ≡ s % 2 ^ places → ((q amount unit : ℕ) → 0 < unit → StandsFor (q * (2 * half) + rest) loss amount unit
+    → StandsFor q answer amount (2 * half * unit)) → (amount unit : ℕ) → 0 < unit → StandsFor s loss amount unit
     → StandsFor (s / 2 ^ places) answer amount (2 ^ places * unit)
 cut_at s places half rest loss answer p hw rest_is f amount unit u h =
     let t : 2 * 2 ^ (places - 1) ≡ 2 ^ places = twice_half places p in
     let e : 2 * half ≡ 2 ^ places = omega arith in
-    let d : s / 2 ^ places * 2 ^ places + s % 2 ^ places ≡ s = div-add-mod' s (2 ^ places) in
     let v : s / 2 ^ places * (2 * half) + rest ≡ s / 2 ^ places * 2 ^ places + s % 2 ^ places =
     ap (λ (x : ℕ). s / 2 ^ places * x + rest) e ∙ ap (λ (x : ℕ). s / 2 ^ places * 2 ^ places + x) rest_is in
     let g : StandsFor (s / 2 ^ places * (2 * half) + rest) loss amount unit =
-    subst (λ (x : ℕ). StandsFor x loss amount unit) (sym (v ∙ d)) h in
+    subst (λ (x : ℕ). StandsFor x loss amount unit) (sym (v ∙ div-add-mod' s (2 ^ places))) h in
     subst (λ (x : ℕ). StandsFor (s / 2 ^ places) answer amount (x * unit)) e (f (s / 2 ^ places) amount unit u g)
 
 -- a cut of all digits leaves 0

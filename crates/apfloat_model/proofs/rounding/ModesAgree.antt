@@ -36,8 +36,7 @@ lost_not_ok : (tiny : Bool) → (if tiny then underflow_bit + inexact_bit else i
 lost_not_ok true e = omega (arith, e)
 lost_not_ok false e = omega (arith, e)
 
-ok_tests : (past exact out tiny : Bool)
-    → (if past then (if out then overflow_bit + inexact_bit else inexact_bit)
+ok_tests : (past exact out tiny : Bool) → (if past then (if out then overflow_bit + inexact_bit else inexact_bit)
     else (if exact then ok_bits else (if tiny then underflow_bit + inexact_bit else inexact_bit))) ≡ ok_bits
     → (past ≡ false) × (exact ≡ true)
 ok_tests true exact out tiny e = absurd (past_not_ok out e)
@@ -74,8 +73,7 @@ ok_in_each_mode format mode other negative amount parts value p x =
     let t = ok_is_exact format mode negative amount parts x.pick (sym x.status_is) in
     let g = pick_on_grid format.precision mode negative amount parts x.pick x.is_pick in
     let a : ltb (largest format) x.pick ≡ false = t.0 in
-    let v : delivered_value format mode negative x.pick ≡ signed_quanta format.nonfinite negative x.pick =
-    rw a refl in
+    let v : delivered_value format mode negative x.pick ≡ signed_quanta format.nonfinite negative x.pick = rw a refl in
     subst (λ (d : Datum). IsDelivered format other negative amount parts d ok_bits) (sym (x.value_is ∙ v))
     (exact_delivered format other negative x.pick amount parts p g (ltb-false (largest format) x.pick t.0) (sym t.1))
 
@@ -84,8 +82,7 @@ ok_in_each_mode format mode other negative amount parts value p x =
 -- if the status is OK in one mode, each mode gives the same value, with status OK
 abbrev pub AgreesWhereOk : (Round → Datum → ℕ → Type 0) → Type 0
 AgreesWhereOk R =
-    (mode other : Round) (value other_value : Datum) (status : ℕ)
-    → R mode value ok_bits → R other other_value status
+    (mode other : Round) (value other_value : Datum) (status : ℕ) → R mode value ok_bits → R other other_value status
     → (other_value ≡ value) × (status ≡ ok_bits)
 
 pub delivered_agrees : (format : Format) (negative : Bool) (amount parts : ℕ) → 0 < parts
@@ -100,8 +97,7 @@ answer_agrees datum flags mode other v w s x y = (y.value_is ∙ sym x.value_is,
 
 -- of two points whose squares are compared with a root, that of the smaller square is smaller
 point_le : (point other parts : ℕ) → 0 < parts → square_of point parts ≤ square_of other parts → point ≤ other
-point_le point other parts some h =
-    le_of_mul-le-mul_right (root_le (point * parts) (other * parts) h) some
+point_le point other parts some h = le_of_mul-le-mul_right (root_le (point * parts) (other * parts) h) some
 
 -- a root with status OK in one mode has the same value, with status OK, in each mode
 root_agrees : (format : Format) (square parts : ℕ) → 0 < parts
@@ -110,8 +106,7 @@ root_agrees format square parts some mode other v w s x y =
     let t = ok_tests (ltb (largest format) x.pick) (eqb (square_of x.pick parts) square)
     (raises_overflow format mode false) (is_tiny_root format mode square parts x.pick) (sym x.status_is) in
     let e : square_of x.pick parts ≡ square = eqb-true (square_of x.pick parts) square t.1 in
-    let g : IsOnGrid format.precision x.pick =
-    subst (λ (point : ℕ). IsOnGrid format.precision point) (sym x.is_pick.is)
+    let g : IsOnGrid format.precision x.pick = subst (λ (point : ℕ). IsOnGrid format.precision point) (sym x.is_pick.is)
     (if_case (λ (point : ℕ). IsOnGrid format.precision point)
     (takes_above mode false (4 * square) (square_of (x.is_pick.below + x.is_pick.above) parts)
     (eqb (x.is_pick.below / (x.is_pick.above - x.is_pick.below) % 2) 1))
@@ -151,8 +146,7 @@ product_agrees format x y = outcome_agrees format (product format x y) (product_
 pub quotient_agrees : (format : Format) (x y : Datum) → AgreesWhereOk (λ mode. IsQuotient format mode x y)
 quotient_agrees format x y = outcome_agrees format (quotient format x y) (quotient_fixed format x y)
 
-pub from_unsigned_agrees : (format : Format) (number : ℕ)
-    → AgreesWhereOk (λ mode. IsFromUnsigned format mode number)
+pub from_unsigned_agrees : (format : Format) (number : ℕ) → AgreesWhereOk (λ mode. IsFromUnsigned format mode number)
 from_unsigned_agrees format number = outcome_agrees format (from_unsigned format number) (lit< tt)
 
 pub from_signed_agrees : (format : Format) (number : ℤ) → AgreesWhereOk (λ mode. IsFromSigned format mode number)
@@ -188,10 +182,8 @@ reading_agrees format text mode other v w s h k =
 
 abbrev pub AgreesButForZeros : (Round → Datum → ℕ → Type 0) → Type 0
 AgreesButForZeros R =
-    (mode other : Round) (value other_value : Datum) (status : ℕ)
-    → R mode value ok_bits → R other other_value status
-    → ((other_value ≡ value) ⊎ ((is_zero value ≡ true) × (is_zero other_value ≡ true)))
-    × (status ≡ ok_bits)
+    (mode other : Round) (value other_value : Datum) (status : ℕ) → R mode value ok_bits → R other other_value status
+    → ((other_value ≡ value) ⊎ ((is_zero value ≡ true) × (is_zero other_value ≡ true))) × (status ≡ ok_bits)
 
 agrees_too : (R : Round → Datum → ℕ → Type 0) → AgreesWhereOk R → AgreesButForZeros R
 agrees_too R h mode other v w s x y = let e = h mode other v w s x y in (inl e.0, e.1)
@@ -206,9 +198,8 @@ zero_is format mode negative parts v s p x =
 pub rounded_agrees : (format : Format) (of_zero : Round → Bool) (exact : ℤ) (parts : ℕ) → 0 < parts
     → AgreesButForZeros (λ mode. IsRounded format mode (of_zero mode) exact parts)
 rounded_agrees format of_zero (pos zero) parts p = λ mode other v w s x y.
-    let a = zero_is format mode (of_zero mode) parts v ok_bits p x in
     let b = zero_is format other (of_zero other) parts w s p y in
-    (inr (a.0, b.0), b.1)
+    (inr ((zero_is format mode (of_zero mode) parts v ok_bits p x).0, b.0), b.1)
 rounded_agrees format of_zero (pos (suc n)) parts p =
     agrees_too _ (delivered_agrees format false (magnitude (pos (suc n))) parts p)
 rounded_agrees format of_zero (negsuc n) parts p =

@@ -33,8 +33,7 @@ pub fine_point : (half m j t d : ℕ) → t ≤ 2 * half → half ≤ m → t * 
 fine_point half m j t d h l =
     let e : 2 ^ (j + (d + 1)) ≡ 2 ^ j * (2 * 2 ^ d) = pow-add 2 j (d + 1) ∙
     ap (λ (x : ℕ). 2 ^ j * x) (pow-add 2 d 1 ∙ omega arith) in
-    let w : 1 ≤ 2 ^ d = pow_pos d in
-    rw e (finer_point t half m (2 ^ j) (2 ^ d) h l w)
+    rw e (finer_point t half m (2 ^ j) (2 ^ d) h l (pow_pos d))
 
 -- the same for units that are powers of two
 pub fine_point_at : (half m j c t : ℕ) → j < c → t ≤ 2 * half → half ≤ m → t * 2 ^ j ≤ m * 2 ^ c
@@ -47,8 +46,7 @@ coarse_point_at : (m c t j : ℕ) → c ≤ j → m * 2 ^ c < t * 2 ^ j → (m +
 coarse_point_at m c t j q h =
     let e : j ≡ c + (j - c) = omega arith in
     let h' : m * 2 ^ c < t * 2 ^ (c + (j - c)) = subst (λ (x : ℕ). m * 2 ^ c < t * 2 ^ x) e h in
-    let k : (m + 1) * 2 ^ c ≤ t * 2 ^ (c + (j - c)) = coarse_point m c t (j - c) h' in
-    subst (λ (x : ℕ). (m + 1) * 2 ^ c ≤ t * 2 ^ x) (sym e) k
+    subst (λ (x : ℕ). (m + 1) * 2 ^ c ≤ t * 2 ^ x) (sym e) (coarse_point m c t (j - c) h')
 
 -- a greater grid number is at least the next one, whatever its unit
 not_fine : (precision half m c t j : ℕ) → 2 ^ precision ≡ 2 * half → (c ≡ 0) ⊎ (half ≤ m) → t < 2 ^ precision
@@ -130,8 +128,7 @@ above_is_next precision half m c amount parts i h = record {
   not_below = omega arith;
   least = λ other g l.
       let l' : m * 2 ^ c * parts < other * parts = omega arith in
-      let l'' : m * 2 ^ c < other = lt_of_mul-lt-mul_right parts l' in
-      none_between precision half m c other i.double i.full g l'';
+      none_between precision half m c other i.double i.full g (lt_of_mul-lt-mul_right parts l');
 }
 
 -- a magnitude has at most one neighbour below

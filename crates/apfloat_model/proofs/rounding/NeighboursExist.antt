@@ -41,9 +41,8 @@ full_at precision half q k amount parts e z l low =
     omega arith
 
 -- an amount whose quotient has k digits is below the power of two past its kept digits
-bounded : (precision half q k amount parts : ℕ) → 0 < parts → 2 ^ precision ≡ 2 * half → q < 2 ^ k
-    → 2 ^ k ≤ 2 * q + 1 → q * parts ≤ amount → amount < q * parts + parts
-    → (amount < 2 ^ precision * (parts * 2 ^ (k - precision)))
+bounded : (precision half q k amount parts : ℕ) → 0 < parts → 2 ^ precision ≡ 2 * half → q < 2 ^ k → 2 ^ k ≤ 2 * q + 1
+    → q * parts ≤ amount → amount < q * parts + parts → (amount < 2 ^ precision * (parts * 2 ^ (k - precision)))
     × ((k - precision ≡ 0) ⊎ (half * (parts * 2 ^ (k - precision)) ≤ amount))
 bounded precision half q k amount parts p e h l low high =
     let g : k ≤ precision + (k - precision) = omega arith in
@@ -62,9 +61,8 @@ pub enclosed_at : (precision half amount parts : ℕ) → 0 < parts → 2 ^ prec
     → (c : ℕ) × IsEnclosed precision half (amount / (parts * 2 ^ c)) c amount parts
 enclosed_at precision half amount parts p e =
     let r = has_length (amount / parts) in
-    let low : amount / parts * parts ≤ amount = div-mul-le_self amount parts in
     let high : amount < amount / parts * parts + parts = lt-div-mul-add p in
-    let b = bounded precision half (amount / parts) r.0 amount parts p e r.1 r.2 low high in
+    let b = bounded precision half (amount / parts) r.0 amount parts p e r.1 r.2 (div-mul-le_self amount parts) high in
     (r.0 - precision, enclosed_by_quotient precision half (r.0 - precision) amount parts p e b.0 b.1)
 
 -- there is a greatest grid number that is not above the magnitude

@@ -44,10 +44,7 @@ long_to_odd least first s amount u l (inr b) =
 pub set_if_lost : (n places : ℕ) (lost : Bool) → (lost ≡ true → 0 < n % 2 ^ places)
     → (lost ≡ false → n % 2 ^ places ≡ 0)
     → IsRoundedToOdd 1 (cond lost (n / 2 ^ places + (1 - n / 2 ^ places % 2)) (n / 2 ^ places)) n (2 ^ places)
-set_if_lost n places false f g =
-    let z = g refl in
-    let d = div-add-mod' n (2 ^ places) in
-    inl (omega (arith, z, d))
+set_if_lost n places false f g = inl (omega (arith, g refl, div-add-mod' n (2 ^ places)))
 set_if_lost n places true f g =
     let q = n / 2 ^ places in
     let p = f refl in
@@ -83,8 +80,7 @@ pub to_odd_least : (least lower s amount u : ℕ) → lower ≤ least → IsRoun
     → IsRoundedToOdd lower s amount u
 to_odd_least least lower s amount u l (inl e) = inl e
 to_odd_least least lower s amount u l (inr b) =
-    let m = b.long in
-    inr (record { long = omega (arith, m, l); odd = b.odd; above = b.above; below = b.below })
+    inr (record { long = omega (arith, b.long, l); odd = b.odd; above = b.above; below = b.below })
 
 -- ---- a quotient
 
@@ -103,8 +99,7 @@ pub odd_at_most : (q rest : ℕ) → odd_for_rest q rest ≤ q + 1 - q % 2
 odd_at_most q rest = at_most (eqb rest 0) q
 
 -- an integer quotient with a rest is rounded to odd by moving up if it is even
-left_to_odd : (least n d q : ℕ) → least ≤ q → q * d < n → n < (q + 1) * d
-    → IsRoundedToOdd least (q + 1 - q % 2) n d
+left_to_odd : (least n d q : ℕ) → least ≤ q → q * d < n → n < (q + 1) * d → IsRoundedToOdd least (q + 1 - q % 2) n d
 left_to_odd least n d q l a b =
     ⊎_elim
     (λ (e : q % 2 < 1).

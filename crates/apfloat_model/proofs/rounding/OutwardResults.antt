@@ -100,8 +100,7 @@ exact_by_ok operand low high s t z b =
       );
     }
 
-pub quotient_encloses : (format : Format) (x y : Datum)
-    → Encloses (IsOkOrOfZero y) (λ mode. IsQuotient format mode x y)
+pub quotient_encloses : (format : Format) (x y : Datum) → Encloses (IsOkOrOfZero y) (λ mode. IsQuotient format mode x y)
 quotient_encloses format (nan b s) y = nan_encloses (IsOkOrOfZero y) b (quieted format s) _
 quotient_encloses format (finite b m) (nan c t) = nan_encloses (IsOkOrOfZero (nan c t)) c (quieted format t) _
 quotient_encloses format (infinite b) (nan c t) = nan_encloses (IsOkOrOfZero (nan c t)) c (quieted format t) _
@@ -117,23 +116,19 @@ quotient_encloses format (finite b m) (finite c n) =
     (if eqb m 0 then invalid format else settled (infinity_of format (product_sign b c)) div_by_zero_bit)
     (rounded (product_sign b c) (m * 2 ^ format.scale) n)
     (λ e. invalid_or_encloses (IsOkOrOfZero (finite c n)) format (eqb m 0) (infinity_of format (product_sign b c))
-    div_by_zero_bit (λ _ _. inr e))
-    (λ e low high s t d g k l. exact_by_ok (finite c n) low high s t e
+    div_by_zero_bit (λ _ _. inr e)) (λ e low high s t d g k l. exact_by_ok (finite c n) low high s t e
     (delivered_encloses format (product_sign b c) (m * 2 ^ format.scale) n (above_zero n e) low high s t d g k l))
 
-pub from_unsigned_encloses : (format : Format) (number : ℕ)
-    → Encloses IsOk (λ mode. IsFromUnsigned format mode number)
+pub from_unsigned_encloses : (format : Format) (number : ℕ) → Encloses IsOk (λ mode. IsFromUnsigned format mode number)
 from_unsigned_encloses format number = delivered_encloses format false (number * 2 ^ format.scale) 1 (lit< tt)
 
-pub from_signed_encloses : (format : Format) (number : ℤ)
-    → Encloses IsOk (λ mode. IsFromSigned format mode number)
+pub from_signed_encloses : (format : Format) (number : ℤ) → Encloses IsOk (λ mode. IsFromSigned format mode number)
 from_signed_encloses format number =
     delivered_encloses format (sign_of false number) (magnitude number * 2 ^ format.scale) 1 (lit< tt)
 
 -- a conversion keeps an infinity that the format has, with status OK
 kept_infinity : (kind : NonfiniteBehavior) (base : ℕ) (negative : Bool)
-    → is_nan (past_largest kind base negative) ≡ false
-    → cond (not (has_infinities kind)) inexact_bit ok_bits ≡ ok_bits
+    → is_nan (past_largest kind base negative) ≡ false → cond (not (has_infinities kind)) inexact_bit ok_bits ≡ ok_bits
 kept_infinity IEEE754 base negative n = refl
 kept_infinity NanOnly base negative n = absurd (true≢false n)
 kept_infinity NanNegativeZero base negative n = absurd (true≢false n)
@@ -149,8 +144,7 @@ converted_encloses IsExact datum flags losing e low high s t d g =
 
 -- a conversion, whether or not it loses information
 pub conversion_encloses : (from into : Format) (x : Datum)
-    → Encloses (IsOkOrOfZero x)
-    (λ mode value status. (loses : Bool) × IsConversion from into mode x value status loses)
+    → Encloses (IsOkOrOfZero x) (λ mode value status. (loses : Bool) × IsConversion from into mode x value status loses)
 conversion_encloses from into (nan b t) =
     converted_encloses (IsOkOrOfZero (nan b t)) (converted_nan from into b t) _ _ (λ n. absurd (true≢false n))
 conversion_encloses from into (infinite b) =
@@ -204,8 +198,7 @@ rounded_encloses format of_zero (pos zero) parts p = λ low high s t d g n m.
     rw (a.0, a.1, b.0, b.1) (zeros_are_bounds _ _)
 rounded_encloses format of_zero (pos (suc n)) parts p =
     delivered_encloses format false (magnitude (pos (suc n))) parts p
-rounded_encloses format of_zero (negsuc n) parts p =
-    delivered_encloses format true (magnitude (negsuc n)) parts p
+rounded_encloses format of_zero (negsuc n) parts p = delivered_encloses format true (magnitude (negsuc n)) parts p
 
 pub sum_encloses : (format : Format) (x y : Datum) → Encloses IsOk (λ mode. IsSum format mode x y)
 sum_encloses format (nan b s) y = nan_encloses IsOk b (quieted format s) _
@@ -285,7 +278,6 @@ fused_sum_encloses format (finite b l) (finite c m) (infinite d) = sum_encloses 
 fused_sum_encloses format (finite b l) (finite c m) (nan d t) = sum_encloses format (finite b l) (nan d t)
 fused_sum_encloses format (finite b l) (infinite c) z =
     sum_with_product_encloses format (finite b l) (infinite c) z refl
-fused_sum_encloses format (finite b l) (nan c t) z =
-    sum_with_product_encloses format (finite b l) (nan c t) z refl
+fused_sum_encloses format (finite b l) (nan c t) z = sum_with_product_encloses format (finite b l) (nan c t) z refl
 fused_sum_encloses format (infinite b) y z = sum_with_product_encloses format (infinite b) y z refl
 fused_sum_encloses format (nan b u) y z = sum_with_product_encloses format (nan b u) y z refl

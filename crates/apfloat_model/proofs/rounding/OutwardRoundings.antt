@@ -71,10 +71,8 @@ abbrev InOrder : Datum → Datum → Type 0 → Type 0
 InOrder low high Only = AtMost low high × (is_equal low high ≡ true → Only)
 
 -- two numbers are in order if their integers are
-numbers_in_order : (x y : ℤ) (low high : Datum) → IsNumber x low → IsNumber y high → x ≤ℤ y
-    → InOrder low high (x ≡ y)
-numbers_in_order x y low high a b l =
-    rw (a.value_is, b.value_is, a.number_is, b.number_is) (l, (equal_numbers x y).0)
+numbers_in_order : (x y : ℤ) (low high : Datum) → IsNumber x low → IsNumber y high → x ≤ℤ y → InOrder low high (x ≡ y)
+numbers_in_order x y low high a b l = rw (a.value_is, b.value_is, a.number_is, b.number_is) (l, (equal_numbers x y).0)
 
 -- in order, where the first is rounded toward zero and the second away from it
 abbrev InOrderOutward : Bool → Datum → Datum → Type 0 → Type 0
@@ -139,21 +137,18 @@ outward kind base negative first true top p q x y l h =
     before_past kind base negative (signed negative (cond first top p)) (inner kind first negative top p)
     (AreOne top p q) (inner_number kind first negative top p) h
 outward kind base negative true false top p q x y l h = absurd (grind arith)
-outward kind base negative false false top p q x y l h =
-    numbers_outward kind negative top p q l (ltb-false top q y)
+outward kind base negative false false top p q x y l h = numbers_outward kind negative top p q l (ltb-false top q y)
 
 -- a magnitude whose neighbours are equal and in range is delivered with status OK
 one_neighbour_ok : (format : Format) (mode : Round) (negative : Bool) (amount parts p q : ℕ) (value : Datum)
     (status : ℕ) → 0 < parts → IsBelow format.precision p amount parts → IsAbove format.precision q amount parts
-    → AreOne (largest format) p q → IsDelivered format mode negative amount parts value status
-    → status ≡ ok_bits
+    → AreOne (largest format) p q → IsDelivered format mode negative amount parts value status → status ≡ ok_bits
 one_neighbour_ok format mode negative amount parts p q v s h below above one d =
     let e : p * parts ≡ q * parts = ap (λ (x : ℕ). x * parts) one.0 in
     let l : p * parts ≤ amount = below.not_above in
     let m : amount ≤ q * parts = above.not_below in
-    let is : amount ≡ q * parts = omega arith in
     (delivered_once format mode negative amount parts v _ s ok_bits d
-    (exact_delivered format mode negative q amount parts h above.on_grid one.1 is)).1
+    (exact_delivered format mode negative q amount parts h above.on_grid one.1 (omega arith))).1
 
 -- the results of one rounding downward and upward are in order
 delivered_in_order : (format : Format) (negative : Bool) (amount parts : ℕ) (low high : Datum) (s t : ℕ)
@@ -206,16 +201,13 @@ Encloses IsExact R =
     → is_nan low ≡ false → is_nan high ≡ false → AreBounds IsExact low high s t
 
 -- if a status is OK, so is the other, and the values are equal
-equal_if_ok : (R : Round → Datum → ℕ → Type 0) (mode other : Round) (one two : Datum) (s t : ℕ)
-    → AgreesWhereOk R
+equal_if_ok : (R : Round → Datum → ℕ → Type 0) (mode other : Round) (one two : Datum) (s t : ℕ) → AgreesWhereOk R
     → R mode one s → R other two t → s ≡ ok_bits → (two ≡ one) × (t ≡ ok_bits)
-equal_if_ok R mode other one two s t agrees x y e =
-    agrees mode other one two t (subst (λ (z : ℕ). R mode one z) e x) y
+equal_if_ok R mode other one two s t agrees x y e = agrees mode other one two t (subst (λ (z : ℕ). R mode one z) e x) y
 
 -- where results with status OK are the same in each mode, it is enough that equal ones have status OK
-ok_bounds : (R : Round → Datum → ℕ → Type 0) (low high : Datum) (s t : ℕ) → AgreesWhereOk R
-    → R TowardNegative low s → R TowardPositive high t → is_nan low ≡ false → InOrder low high (s ≡ ok_bits)
-    → AreBounds IsOk low high s t
+ok_bounds : (R : Round → Datum → ℕ → Type 0) (low high : Datum) (s t : ℕ) → AgreesWhereOk R → R TowardNegative low s
+    → R TowardPositive high t → is_nan low ≡ false → InOrder low high (s ≡ ok_bits) → AreBounds IsOk low high s t
 ok_bounds R low high s t agrees d g n o =
     record {
       in_order = o.0;

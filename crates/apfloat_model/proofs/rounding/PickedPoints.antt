@@ -26,8 +26,7 @@ kept_stayed mode negative loss m moved e t = ap (λ (b : Bool). cond b (m + 1) m
 -- ---- past the largest
 
 -- at the last place, a point is past the largest value if its significand is past the greatest
-pub past_same : (s place greatest span : ℕ) → place ≡ span
-    → ltb greatest s ≡ ltb (greatest * 2 ^ span) (s * 2 ^ place)
+pub past_same : (s place greatest span : ℕ) → place ≡ span → ltb greatest s ≡ ltb (greatest * 2 ^ span) (s * 2 ^ place)
 past_same s place greatest span e =
     ltb_times greatest s (2 ^ span) (pow_pos span) ∙ ap (λ (x : ℕ). ltb (greatest * 2 ^ span) (s * 2 ^ x)) (sym e)
 
@@ -49,13 +48,7 @@ past_other precision s place greatest span p h f g k n =
     let t : 2 * 2 ^ (precision - 1) ≡ 2 ^ precision = twice_half precision p in
     let g' : greatest < 2 * 2 ^ (precision - 1) = omega arith in
     let h' : s ≤ 2 * 2 ^ (precision - 1) = omega arith in
-    ⊎_elim
-    (λ (l : span < place). lt-ltb span place l ∙
-    sym (lt-ltb (greatest * 2 ^ span) (s * 2 ^ place)
-    (past_above (2 ^ (precision - 1)) s place greatest span g' f l)))
-    (λ (l : place ≤ span).
-    let l' : place < span = omega arith in
-    le-ltb span place l ∙
-    sym (le-ltb (greatest * 2 ^ span) (s * 2 ^ place)
-    (fine_point_at (2 ^ (precision - 1)) greatest place span s l' h' k)))
-    (cases_lt span place)
+    ⊎_elim (λ (l : span < place). lt-ltb span place l ∙
+    sym (lt-ltb (greatest * 2 ^ span) (s * 2 ^ place) (past_above (2 ^ (precision - 1)) s place greatest span g' f l)))
+    (λ (l : place ≤ span). le-ltb span place l ∙ sym (le-ltb (greatest * 2 ^ span) (s * 2 ^ place)
+    (fine_point_at (2 ^ (precision - 1)) greatest place span s (omega arith) h' k))) (cases_lt span place)

@@ -28,12 +28,10 @@ above_root_unique precision a b square parts x y =
 root_pick_unique : (precision : ℕ) (mode : Round) (square parts p q : ℕ)
     → IsRootPick precision mode square parts p → IsRootPick precision mode square parts q → p ≡ q
 root_pick_unique precision mode square parts p q x y =
-    x.is ∙
-    ap (λ (b : ℕ). root_between mode b x.above square parts)
-    (below_root_unique precision x.below y.below square parts x.is_below y.is_below) ∙
-    ap (λ (a : ℕ). root_between mode y.below a square parts)
-    (above_root_unique precision x.above y.above square parts x.is_above y.is_above) ∙
-    sym y.is
+    x.is ∙ ap (λ (b : ℕ). root_between mode b x.above square parts)
+    (below_root_unique precision x.below y.below square parts x.is_below y.is_below)
+    ∙ ap (λ (a : ℕ). root_between mode y.below a square parts)
+    (above_root_unique precision x.above y.above square parts x.is_above y.is_above) ∙ sym y.is
 
 pub delivered_root_once : (format : Format) (mode : Round) (square parts : ℕ)
     → Once (IsDeliveredRoot format mode square parts)

@@ -1,5 +1,5 @@
 -- OVERFLOW and UNDERFLOW are raised only together with INEXACT, by each rounding.
-use Rattle.std.proofs.Common.{◌≡◌, ℕ, zero, suc, ◌+◌, ◌*◌, ◌^◌, ◌<◌, ◌≤◌, max, ◌⊎◌}
+use Rattle.std.proofs.Common.{◌≡◌, ℕ, zero, suc, ◌+◌, ◌*◌, ◌^◌, ◌<◌, max, ◌⊎◌}
 use Rattle.std.proofs.Common.{inl, inr, Bool, false, eqb, ltb, refl, sym, subst, ⊎_elim, lit<, arith}
 use Rattle.std.proofs.Math.Nat.{mul-pos, max-zero, le-max_left, le-max_right}
 use Rattle.std.proofs.lemmas.Nat.{pow_pos, Bits.bit_at_or, Bits.and_pow}
@@ -62,28 +62,20 @@ bit_raises : (status k : ℕ) → 0 < bit_at status k → 0 < bit_and status (2 
 bit_raises status k h = subst (λ (n : ℕ). 0 < n) (sym (and_pow status k)) (mul-pos h (pow_pos k))
 
 -- a flag of a union is a flag of one of the two
-raised_by_either : (k s t : ℕ) → 0 < bit_and (bit_or s t) (2 ^ k)
-    → (0 < bit_and s (2 ^ k)) ⊎ (0 < bit_and t (2 ^ k))
+raised_by_either : (k s t : ℕ) → 0 < bit_and (bit_or s t) (2 ^ k) → (0 < bit_and s (2 ^ k)) ⊎ (0 < bit_and t (2 ^ k))
 raised_by_either k s t h =
     ⊎_elim (λ (a : 0 < bit_at s k). inl (bit_raises s k a)) (λ (b : 0 < bit_at t k). inr (bit_raises t k b))
-    (either_bit (bit_at s k) (bit_at t k)
-    (subst (λ (n : ℕ). 0 < n) (bit_at_or s t k) (raises_bit (bit_or s t) k h)))
+    (either_bit (bit_at s k) (bit_at t k) (subst (λ (n : ℕ). 0 < n) (bit_at_or s t k) (raises_bit (bit_or s t) k h)))
 
 raised_left : (k s t : ℕ) → 0 < bit_and s (2 ^ k) → 0 < bit_and (bit_or s t) (2 ^ k)
 raised_left k s t h =
-    bit_raises (bit_or s t) k
-    (subst (λ (n : ℕ). 0 < n) (sym (bit_at_or s t k))
-    (let a : 0 < bit_at s k = raises_bit s k h in
-    let m : bit_at s k ≤ max (bit_at s k) (bit_at t k) = le-max_left (bit_at s k) (bit_at t k) in
-    omega (arith, a, m)))
+    bit_raises (bit_or s t) k (subst (λ (n : ℕ). 0 < n) (sym (bit_at_or s t k))
+    (let a : 0 < bit_at s k = raises_bit s k h in omega (arith, a, le-max_left (bit_at s k) (bit_at t k))))
 
 raised_right : (k s t : ℕ) → 0 < bit_and t (2 ^ k) → 0 < bit_and (bit_or s t) (2 ^ k)
 raised_right k s t h =
-    bit_raises (bit_or s t) k
-    (subst (λ (n : ℕ). 0 < n) (sym (bit_at_or s t k))
-    (let a : 0 < bit_at t k = raises_bit t k h in
-    let m : bit_at t k ≤ max (bit_at s k) (bit_at t k) = le-max_right (bit_at s k) (bit_at t k) in
-    omega (arith, a, m)))
+    bit_raises (bit_or s t) k (subst (λ (n : ℕ). 0 < n) (sym (bit_at_or s t k))
+    (let a : 0 < bit_at t k = raises_bit t k h in omega (arith, a, le-max_right (bit_at s k) (bit_at t k))))
 
 -- if in each of two statuses one flag is raised only together with another, the same holds for their union
 pub union_keeps : (j k s t : ℕ) → (0 < bit_and s (2 ^ j) → 0 < bit_and s (2 ^ k))

@@ -17,8 +17,7 @@ use Rattle.apfloat_model.proofs.rounding.{Picks.takes_more, Picks.inexact_pick, 
 -- whether the amount is rounded to at most `last`
 abbrev rounds_to_last : Round → Bool → ℕ → ℕ → ℕ → Bool
 rounds_to_last mode negative last amount parts =
-    leb amount (last * parts)
-    || (ltb amount ((last + 1) * parts)
+    leb amount (last * parts) || (ltb amount ((last + 1) * parts)
     && not (takes_above mode negative (amount - last * parts) ((last + 1) * parts - amount) true))
 
 up_to_last : (mode : Round) (negative : Bool) (last amount parts : ℕ) → amount ≤ last * parts
@@ -32,9 +31,8 @@ from_next mode negative last amount parts p h =
     let a : leb amount (last * parts) ≡ false = lt-leb amount (last * parts) (omega arith) in
     let b : ltb amount ((last + 1) * parts) ≡ false = le-ltb amount ((last + 1) * parts) h in rw (a, b) refl
 
-between_both : (mode : Round) (negative : Bool) (last amount parts : ℕ) → last * parts < amount
-    → amount < (last + 1) * parts
-    → rounds_to_last mode negative last amount parts
+between_both : (mode : Round) (negative : Bool) (last amount parts : ℕ)
+    → last * parts < amount → amount < (last + 1) * parts → rounds_to_last mode negative last amount parts
     ≡ not (takes_above mode negative (amount - last * parts) ((last + 1) * parts - amount) true)
 between_both mode negative last amount parts h l =
     let a : leb amount (last * parts) ≡ false = lt-leb amount (last * parts) h in
@@ -47,8 +45,7 @@ at_last : (precision : ℕ) (mode : Round) (negative : Bool) (amount parts : ℕ
 at_last precision mode negative amount parts =
     let w : 0 < 2 ^ precision = pow_pos precision in
     let e : 2 ^ precision ≡ 2 ^ precision - 1 + 1 = omega arith in
-    ap (λ (x : ℕ). leb (2 * amount) ((2 ^ precision - 1) * parts)
-    || (ltb (2 * amount) (x * parts)
+    ap (λ (x : ℕ). leb (2 * amount) ((2 ^ precision - 1) * parts) || (ltb (2 * amount) (x * parts)
     && not (takes_above mode negative (2 * amount - (2 ^ precision - 1) * parts) (x * parts - 2 * amount) true))) e
 
 -- ---- from a significand and its loss
@@ -66,8 +63,7 @@ taken mode negative last amount parts MoreThanHalf l h =
     let a = h.0 in let b = h.1 in takes_more mode negative true _ _ (omega (arith, a, b))
 
 -- if a kept significand below the half is not the last one, the amount is below the half by a quantum or more
-pub below_by_more : (precision half m c amount parts : ℕ) (mode : Round) (negative : Bool) → 0 < parts
-    → m + 1 < half
+pub below_by_more : (precision half m c amount parts : ℕ) (mode : Round) (negative : Bool) → 0 < parts → m + 1 < half
     → IsEnclosed precision half m c amount parts → rounds_below_normal precision mode negative amount parts ≡ true
 below_by_more precision half m c amount parts mode negative p l i =
     ⊎_elim
@@ -75,16 +71,14 @@ below_by_more precision half m c amount parts mode negative p l i =
     let t : amount < (m + 1) * 2 ^ 0 * parts = subst (λ (x : ℕ). amount < (m + 1) * 2 ^ x * parts) z i.to in
     let d : 2 ^ precision ≡ 2 * half = i.double in
     let l' : 2 * (m + 1) ≤ 2 ^ precision - 1 = omega arith in
-    let k : 2 * (m + 1) * parts ≤ (2 ^ precision - 1) * parts = mul-le-mul_right parts l' in
     at_last precision mode negative amount parts
-    ∙ up_to_last mode negative (2 ^ precision - 1) (2 * amount) parts (omega (arith, t, k)))
+    ∙ up_to_last mode negative (2 ^ precision - 1) (2 * amount) parts (omega (arith, t, mul-le-mul_right parts l')))
     (λ (f : half ≤ m). absurd (omega arith))
     i.full
 
 -- if a kept significand is at least the half, the amount is not below the smallest normalized number
 pub not_below : (precision half m c amount parts : ℕ) (mode : Round) (negative : Bool) → 0 < parts → half ≤ m
-    → IsEnclosed precision half m c amount parts
-    → rounds_below_normal precision mode negative amount parts ≡ false
+    → IsEnclosed precision half m c amount parts → rounds_below_normal precision mode negative amount parts ≡ false
 not_below precision half m c amount parts mode negative p l i =
     let w : 1 ≤ 2 ^ c = pow_pos c in
     let a : m * 1 ≤ m * 2 ^ c = mul-le-mul_left m w in
@@ -94,9 +88,8 @@ not_below precision half m c amount parts mode negative p l i =
     let d : 2 ^ precision ≡ 2 * half = i.double in
     let v : 0 < 2 ^ precision = pow_pos precision in
     let n : 2 ^ precision - 1 + 1 ≡ 2 * half = omega arith in
-    let e : (2 ^ precision - 1 + 1) * parts ≡ 2 * half * parts = ap (λ (x : ℕ). x * parts) n in
-    at_last precision mode negative amount parts
-    ∙ from_next mode negative (2 ^ precision - 1) (2 * amount) parts p (omega (arith, k, f, e))
+    at_last precision mode negative amount parts ∙ from_next mode negative (2 ^ precision - 1) (2 * amount) parts p
+    (omega (arith, k, f, ap (λ (x : ℕ). x * parts) n))
 
 -- an amount with a loss of at most half is at most half a unit above its significand
 at_most_half : (m : ℕ) (loss : Loss) (amount parts : ℕ) → 0 < parts → (loss ≡ MoreThanHalf → ⊥)
@@ -113,10 +106,8 @@ pub below_by_half : (precision half m amount parts : ℕ) (mode : Round) (negati
     → StandsFor m loss amount parts → rounds_below_normal precision mode negative amount parts ≡ true
 below_by_half precision half m amount parts mode negative loss p d e n h =
     let t : 2 * m + 1 ≡ 2 ^ precision - 1 = omega arith in
-    let k : (2 * m + 1) * parts ≡ (2 ^ precision - 1) * parts = ap (λ (x : ℕ). x * parts) t in
-    let l : 2 * amount ≤ (2 * m + 1) * parts = at_most_half m loss amount parts p n h in
-    at_last precision mode negative amount parts
-    ∙ up_to_last mode negative (2 ^ precision - 1) (2 * amount) parts (omega (arith, k, l))
+    at_last precision mode negative amount parts ∙ up_to_last mode negative (2 ^ precision - 1) (2 * amount) parts
+    (omega (arith, ap (λ (x : ℕ). x * parts) t, at_most_half m loss amount parts p n h))
 
 -- less than half a quantum below the smallest normalized number, what is lost below half a quantum decides
 pub just_below : (precision : ℕ) (mode : Round) (negative : Bool) (amount parts : ℕ) (loss : Loss)
@@ -127,9 +118,8 @@ just_below precision mode negative amount parts loss a b h =
     let w : 0 < 2 ^ precision = pow_pos precision in
     let e : 2 ^ precision ≡ 2 ^ precision - 1 + 1 = omega arith in
     let k : 2 ^ precision * parts ≡ (2 ^ precision - 1 + 1) * parts = ap (λ (x : ℕ). x * parts) e in
-    at_last precision mode negative amount parts
-    ∙ between_both mode negative (2 ^ precision - 1) (2 * amount) parts a (omega (arith, b, k))
-    ∙ ap not (taken mode negative (2 ^ precision - 1) (2 * amount) parts loss a h)
+    at_last precision mode negative amount parts ∙ between_both mode negative (2 ^ precision - 1) (2 * amount) parts a
+    (omega (arith, b, k)) ∙ ap not (taken mode negative (2 ^ precision - 1) (2 * amount) parts loss a h)
 
 -- ---- the rule by picks: the grid is the same at twice the magnitude
 
@@ -203,15 +193,13 @@ by_pick_of_twice precision mode negative amount parts p some q x =
     pick_between_both precision mode negative (2 * amount) parts p _ some l h x refl
     ∙ sym (between_both mode negative (2 ^ precision - 1) (2 * amount) parts l (omega (arith, h, k))))
     (λ (h : 2 ^ precision * parts ≤ 2 * amount).
-    let g : 2 ^ precision ≤ x.below = x.is_below.greatest (2 ^ precision) (next_on_grid precision some) h in
     let b : x.below ≤ p = within.1 in
-    le-ltb p (2 ^ precision) (omega (arith, g, b))
+    le-ltb p (2 ^ precision) (omega (arith, x.is_below.greatest (2 ^ precision) (next_on_grid precision some) h, b))
     ∙ sym (from_next mode negative (2 ^ precision - 1) (2 * amount) parts q (omega (arith, h, k))))
     (cases_lt (2 * amount) (2 ^ precision * parts)))
     (λ (l : 2 * amount ≤ (2 ^ precision - 1) * parts).
-    let g : x.above ≤ 2 ^ precision - 1 = x.is_above.least (2 ^ precision - 1) (last_on_grid precision) l in
     let b : p ≤ x.above = within.0 in
-    lt-ltb p (2 ^ precision) (omega (arith, g, b))
+    lt-ltb p (2 ^ precision) (omega (arith, x.is_above.least (2 ^ precision - 1) (last_on_grid precision) l, b))
     ∙ sym (up_to_last mode negative (2 ^ precision - 1) (2 * amount) parts l))
     (cases_lt ((2 ^ precision - 1) * parts) (2 * amount))
     ∙ sym (at_last precision mode negative amount parts)

@@ -64,8 +64,7 @@ zero_sign_lost = converted
 -- ---- division by zero, in each of the three kinds of formats
 
 -- 1 divided by -0 is the negative infinity
-one_by_minus_zero : IsQuotient half NearestTiesToEven (in_half 0x3c00) (in_half 0x8000) (in_half 0xfc00)
-    div_by_zero_bit
+one_by_minus_zero : IsQuotient half NearestTiesToEven (in_half 0x3c00) (in_half 0x8000) (in_half 0xfc00) div_by_zero_bit
 one_by_minus_zero = answer
 
 -- without infinities it is the NaN of that sign, or the only NaN

@@ -77,12 +77,8 @@ converted = record { value_is = refl; status_is = refl; loses_is = refl }
 -- whether the two are neighbours of the magnitude
 abbrev pub encloses : ℕ → ℕ → ℕ → ℕ → ℕ → Bool
 encloses precision m c amount parts =
-    eqb (2 ^ precision) (2 * 2 ^ (precision - 1))
-    && (ltb m (2 ^ precision)
-    && ((eqb c 0 || leb (2 ^ (precision - 1)) m)
-    && (leb (m * 2 ^ c * parts) amount
-    && (ltb amount ((m + 1) * 2 ^ c * parts)
-    && ltb 0 parts))))
+    eqb (2 ^ precision) (2 * 2 ^ (precision - 1)) && (ltb m (2 ^ precision) && ((eqb c 0 || leb (2 ^ (precision - 1)) m)
+    && (leb (m * 2 ^ c * parts) amount && (ltb amount ((m + 1) * 2 ^ c * parts) && ltb 0 parts))))
 
 -- the magnitude itself if it is the lower neighbour, otherwise the neighbour that the mode picks
 abbrev pub picked : Round → Bool → ℕ → ℕ → ℕ → ℕ → ℕ
@@ -93,8 +89,7 @@ picked mode negative m c amount parts =
 module _ (precision : ℕ) (mode : Round) (negative : Bool) (m c amount parts : ℕ)
     (i : IsEnclosed precision (2 ^ (precision - 1)) m c amount parts) (p : 0 < parts) where
   -- `picked` is the pick; `same` says whether the magnitude is the lower neighbour
-  is_picked : (same : Bool) → eqb amount (m * 2 ^ c * parts) ≡ same
-      → IsPick precision mode negative amount parts
+  is_picked : (same : Bool) → eqb amount (m * 2 ^ c * parts) ≡ same → IsPick precision mode negative amount parts
       (if same then m * 2 ^ c else pick_between mode negative (m * 2 ^ c) ((m + 1) * 2 ^ c) amount parts)
   is_picked true e = record {
     below = m * 2 ^ c;

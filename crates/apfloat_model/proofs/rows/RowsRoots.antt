@@ -20,17 +20,13 @@ use Rattle.apfloat_model.proofs.rows.RowsIn.{in_e4m3fn, in_e4m3fnuz, answer}
 
 abbrev encloses_root : ℕ → ℕ → ℕ → ℕ → Bool
 encloses_root precision m c square =
-    eqb (2 ^ precision) (2 * 2 ^ (precision - 1))
-    && (ltb m (2 ^ precision)
-    && ((eqb c 0 || leb (2 ^ (precision - 1)) m)
-    && (leb (m * 2 ^ c * (m * 2 ^ c)) square
-    && ltb square ((m + 1) * 2 ^ c * ((m + 1) * 2 ^ c)))))
+    eqb (2 ^ precision) (2 * 2 ^ (precision - 1)) && (ltb m (2 ^ precision) && ((eqb c 0 || leb (2 ^ (precision - 1)) m)
+    && (leb (m * 2 ^ c * (m * 2 ^ c)) square && ltb square ((m + 1) * 2 ^ c * ((m + 1) * 2 ^ c)))))
 
 -- the root itself if it is the lower neighbour, otherwise the neighbour that the mode picks
 abbrev picked_root : Round → ℕ → ℕ → ℕ → ℕ
 picked_root mode m c square =
-    if eqb square (m * 2 ^ c * (m * 2 ^ c)) then m * 2 ^ c
-    else root_between mode (m * 2 ^ c) ((m + 1) * 2 ^ c) square 1
+    if eqb square (m * 2 ^ c * (m * 2 ^ c)) then m * 2 ^ c else root_between mode (m * 2 ^ c) ((m + 1) * 2 ^ c) square 1
 
 module _ (precision m c square : ℕ) (double : 2 ^ precision ≡ 2 * 2 ^ (precision - 1)) (fits : m < 2 ^ precision)
     (full : (c ≡ 0) ⊎ (2 ^ (precision - 1) ≤ m)) (from : m * 2 ^ c * (m * 2 ^ c) ≤ square)
@@ -218,8 +214,7 @@ root_of_minus_infinity mode = answer
 root_of_minus_one_in_e4m3fn : (mode : Round) → IsRoot e4m3fn mode (in_e4m3fn 0xb8) (in_e4m3fn 0x7f) invalid_bit
 root_of_minus_one_in_e4m3fn mode = answer
 
-root_of_minus_one_in_e4m3fnuz : (mode : Round)
-    → IsRoot e4m3fnuz mode (in_e4m3fnuz 0xc0) (in_e4m3fnuz 0x80) invalid_bit
+root_of_minus_one_in_e4m3fnuz : (mode : Round) → IsRoot e4m3fnuz mode (in_e4m3fnuz 0xc0) (in_e4m3fnuz 0x80) invalid_bit
 root_of_minus_one_in_e4m3fnuz mode = answer
 
 -- a quiet NaN is kept with its sign, and a signaling one is made quiet

@@ -79,8 +79,7 @@ digits_without_dots (c ∷ xs) h n =
     go (inr e) d ih =
         ⊎_elim
         (λ (x : is_hexadecimal c ≡ true). and_from (is_hexadecimal c) (every is_hexadecimal xs) x (ih (rw e at n)))
-        (λ (x : is_dot c ≡ true). absurd (false≢true (sym e ∙ x)))
-        (or_cases (is_hexadecimal c) (is_dot c) d)
+        (λ (x : is_dot c ≡ true). absurd (false≢true (sym e ∙ x))) (or_cases (is_hexadecimal c) (is_dot c) d)
 
 record IsPointed (significand : List ℕ) : Type 0 where
   whole : List ℕ
@@ -116,9 +115,8 @@ pointed_by significand whole [] e w p b d =
     }
 pointed_by significand whole (c ∷ fraction) e w p b d =
     let q = and_parts (is_digit_or_dot c) (every is_digit_or_dot fraction) p in
-    let dot : is_dot c ≡ true =
-    ⊎_elim (λ (x : is_hexadecimal c ≡ true). absurd (false≢true (sym b ∙ x))) (λ (x : is_dot c ≡ true). x)
-    (or_cases (is_hexadecimal c) (is_dot c) q.0) in
+    let dot : is_dot c ≡ true = ⊎_elim (λ (x : is_hexadecimal c ≡ true). absurd (false≢true (sym b ∙ x)))
+    (λ (x : is_dot c ≡ true). x) (or_cases (is_hexadecimal c) (is_dot c) q.0) in
     record {
       whole = whole;
       point = codes ".";
@@ -137,9 +135,8 @@ pointed significand p d =
     let rest = after_run is_hexadecimal significand in
     let e = split_run is_hexadecimal significand in
     let w = run_passes is_hexadecimal significand in
-    let f : filter is_dot significand ≡ filter is_dot rest =
-    ap (filter is_dot) e ∙ filter-append is_dot whole rest ∙
-    ap (λ (t : List ℕ). t ++ filter is_dot rest) (filter_none is_hexadecimal is_dot digit_is_no_dot whole w) in
+    let f : filter is_dot significand ≡ filter is_dot rest = ap (filter is_dot) e ∙ filter-append is_dot whole rest
+    ∙ ap (λ (t : List ℕ). t ++ filter is_dot rest) (filter_none is_hexadecimal is_dot digit_is_no_dot whole w) in
     pointed_by significand whole rest e w (after_passes is_hexadecimal is_digit_or_dot significand p)
     (run_stops is_hexadecimal significand) (rw f at d)
 
@@ -158,8 +155,7 @@ letter_of : (tail : List ℕ) → (not (is_empty tail) && not (begins is_p tail)
     → IsLetter tail
 letter_of [] b d = absurd (none-some _ (sym d))
 letter_of (x ∷ exponent) b d =
-    let every_one =
-    left_none (not (every is_decimal (after_mark exponent))) WrongInExponent
+    let every_one = left_none (not (every is_decimal (after_mark exponent))) WrongInExponent
     (cond (is_empty (after_mark exponent)) (Some NoExponentDigits) None) d in
     let some_one = left_none (is_empty (after_mark exponent)) NoExponentDigits None every_one.1 in
     record {
@@ -167,8 +163,7 @@ letter_of (x ∷ exponent) b d =
       exponent = exponent;
       spelled = refl;
       is_letter =
-          ⊎_elim
-          (λ (p : eqb x 112 ≡ true). inl (ap (λ (c : ℕ). c ∷ []) (eqb-true x 112 p)))
+          ⊎_elim (λ (p : eqb x 112 ≡ true). inl (ap (λ (c : ℕ). c ∷ []) (eqb-true x 112 p)))
           (λ (p : eqb x 80 ≡ true). inr (ap (λ (c : ℕ). c ∷ []) (eqb-true x 80 p)))
           (or_cases (eqb x 112) (eqb x 80) (not-false (is_p x) b));
       digits = not-false (every is_decimal (after_mark exponent)) every_one.0;
@@ -240,8 +235,7 @@ pub begun_of : (body : List ℕ) → begins_literal body ≡ true
     → (body ≡ codes "0x" ++ drop 2 body) ⊎ (body ≡ codes "0X" ++ drop 2 body)
 begun_of [] h = absurd (false≢true h)
 begun_of (c ∷ []) h =
-    ⊎_elim
-    (λ (p : (eqb c 48 && false) ≡ true). absurd (false≢true (and_parts (eqb c 48) false p).1))
+    ⊎_elim (λ (p : (eqb c 48 && false) ≡ true). absurd (false≢true (and_parts (eqb c 48) false p).1))
     (λ (p : (eqb c 48 && false) ≡ true). absurd (false≢true (and_parts (eqb c 48) false p).1))
     (or_cases (eqb c 48 && false) (eqb c 48 && false) h)
 begun_of (c ∷ d ∷ rest) h =
@@ -284,8 +278,7 @@ text_means text n h =
     ⊎_elim
     (λ (s : is_some special ≡ true). means_special text special (special_not (mark_of text) body) refl s)
     (λ (s : is_some special ≡ false).
-    let c : last ≡ None = rw s at b.1 in
-    let d = left_none (not (begins_literal body)) NoLiteral (after_prefix_fault (drop 2 body)) c in
+    let d = left_none (not (begins_literal body)) NoLiteral (after_prefix_fault (drop 2 body)) (rw s at b.1) in
     body_means text body refl (not-false (begins_literal body) d.0) d.1)
     (cases_Bool (is_some special))
 

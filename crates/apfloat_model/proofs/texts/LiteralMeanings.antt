@@ -11,10 +11,8 @@ use Rattle.apfloat_model.proofs.texts.EachText.{literal_from, begun_of, IsAnyHex
 by_parts : (body rest : List ℕ) → drop 2 body ≡ rest → IsAnyHexadecimal body
     → IsHexadecimal body (digits_number rest) (places_after_dot rest) (exponent_number (exponent_text rest))
 by_parts body rest e x =
-    let l = literal_of_hexadecimal body x.h x.f x.e x.is in
-    let m : IsLiteral rest x.h x.f x.e = rw e at l in
-    let i : IsHexadecimal body x.h x.f x.e = x.is in
-    rw (← m.h_is, ← m.f_is, ← m.e_is) i
+    let m : IsLiteral rest x.h x.f x.e = rw e at (literal_of_hexadecimal body x.h x.f x.e x.is) in
+    rw (← m.h_is, ← m.f_is, ← m.e_is) x.is
 
 -- the meaning of a literal has the number that its digits spell, the places after its dot, and its exponent
 pub literal_meaning : (text : List ℕ) → begins_literal (after_mark text) ≡ true

@@ -161,11 +161,8 @@ body_of body h f e x =
 
 abbrev pub fault_by : Bool → Mark → List ℕ → Option Fault
 fault_by empty mark body =
-    cond empty (Some EmptyText)
-    (cond (is_empty body) (Some LoneMark)
-    (cond (is_some (special_meaning mark body)) None
-    (cond (not (begins_literal body)) (Some NoLiteral)
-    (after_prefix_fault (drop 2 body)))))
+    cond empty (Some EmptyText) (cond (is_empty body) (Some LoneMark) (cond (is_some (special_meaning mark body)) None
+    (cond (not (begins_literal body)) (Some NoLiteral) (after_prefix_fault (drop 2 body)))))
 
 -- the fault of a text, from its mark and what follows it
 fault_at : (text body : List ℕ) → after_mark text ≡ body → is_empty body ≡ false
@@ -248,8 +245,7 @@ pub literal_of_hexadecimal : (body : List ℕ) (h f : ℕ) (e : ℤ) → IsHexad
 literal_of_hexadecimal body h f e x = literal_of_body body h f e (body_of body h f e x)
 
 -- two readings of one literal have the same meaning
-same_hexadecimal : (negative negative2 : Bool) (h f h2 f2 : ℕ) (e e2 : ℤ) → negative ≡ negative2
-    → (rest : List ℕ)
+same_hexadecimal : (negative negative2 : Bool) (h f h2 f2 : ℕ) (e e2 : ℤ) → negative ≡ negative2 → (rest : List ℕ)
     → IsLiteral rest h f e → IsLiteral rest h2 f2 e2 → hexadecimal negative h f e ≡ hexadecimal negative2 h2 f2 e2
 same_hexadecimal negative negative2 h f h2 f2 e e2 n rest l m =
     rw (n, l.h_is, l.f_is, l.e_is, m.h_is, m.f_is, m.e_is) refl
@@ -264,8 +260,7 @@ hexadecimal_no_special text h f e x =
 pub one_meaning : (text : List ℕ) (first second : TextMeaning) → Means text first → Means text second → first ≡ second
 one_meaning text (hexadecimal b h f e) (hexadecimal b2 h2 f2 e2) x y =
     same_hexadecimal b b2 h f h2 f2 e e2 (x.0 ∙ sym y.0) (drop 2 (after_mark text))
-    (literal_of_hexadecimal (after_mark text) h f e x.1)
-    (literal_of_hexadecimal (after_mark text) h2 f2 e2 y.1)
+    (literal_of_hexadecimal (after_mark text) h f e x.1) (literal_of_hexadecimal (after_mark text) h2 f2 e2 y.1)
 one_meaning text (hexadecimal b h f e) (infinity c) x y =
     absurd (none-some _ (sym (hexadecimal_no_special text h f e x.1) ∙ y))
 one_meaning text (hexadecimal b h f e) (not_a_number c s p) x y =

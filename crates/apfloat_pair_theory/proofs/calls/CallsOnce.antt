@@ -42,8 +42,7 @@ pair_nearest_remainder_once x y =
     wide_answer_of_two_once (IsNearestRemainder wide) (remainder_once wide nearest_quotient) x y
 
 pub pair_round_to_integral_once : (mode : Round) (x : Pair) → OncePair (IsPairRoundToIntegral mode x)
-pair_round_to_integral_once mode x =
-    wide_answer_once (IsRoundToIntegral wide mode) (round_to_integral_once wide mode) x
+pair_round_to_integral_once mode x = wide_answer_once (IsRoundToIntegral wide mode) (round_to_integral_once wide mode) x
 
 pub pair_next_up_once : (x : Pair) → OncePair (IsPairNextUp x)
 pair_next_up_once x = wide_answer_once (IsNextUp wide) (next_up_once wide) x
@@ -170,8 +169,7 @@ low_fraction_once false mode x v w d e g h k = h ∙ sym k
 
 -- a pair has at most one fraction and one exponent
 pub pair_fraction_once : (mode : Round) (x answer other : Pair) (d e : ℤ) → IsPairFraction mode x answer d
-    → IsPairFraction mode x other e
-    → (answer ≡ other) × (d ≡ e)
+    → IsPairFraction mode x other e → (answer ≡ other) × (d ≡ e)
 pair_fraction_once mode x v w d e h k =
     let a = frexp_once double x.high (lit< tt) v.high w.high d e h.high_is k.high_is in (
       parts_same v w a.0

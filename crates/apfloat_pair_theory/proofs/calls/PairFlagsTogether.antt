@@ -70,8 +70,7 @@ pub pair_next_up_together : (x : Pair) → Together (IsPairNextUp x)
 pair_next_up_together x = of_one_together (IsNextUp wide) (next_up_together wide) x
 
 pub pair_next_down_together : (x : Pair) → Together (IsPairNextDown x)
-pair_next_down_together x answer status h =
-    pair_next_up_together (negated_pair x) h.up_of_negated status h.is_next_up
+pair_next_down_together x answer status h = pair_next_up_together (negated_pair x) h.up_of_negated status h.is_next_up
 
 pub pair_reading_together : (mode : Round) (text : List ℕ) → Together (IsPairReading mode text)
 pair_reading_together mode text = split_together (IsReading wide mode text) (reading_together wide mode text)
@@ -94,11 +93,9 @@ pair_from_signed_together mode number =
 
 -- the relation of a number, a status and whether the number is exact holds only of statuses whose flags go together
 abbrev pub WholeTogether : {N : Type 0} → (N → ℕ → Bool → Type 0) → Type 0
-WholeTogether {N} R =
-    (number : N) (status : ℕ) (is_exact : Bool) → R number status is_exact → FlagsGoTogether status
+WholeTogether {N} R = (number : N) (status : ℕ) (is_exact : Bool) → R number status is_exact → FlagsGoTogether status
 
-pub pair_to_unsigned_together : (mode : Round) (width : ℕ) (x : Pair)
-    → WholeTogether (IsPairToUnsigned mode width x)
+pub pair_to_unsigned_together : (mode : Round) (width : ℕ) (x : Pair) → WholeTogether (IsPairToUnsigned mode width x)
 pair_to_unsigned_together mode width x number status is_exact h =
     to_unsigned_together wide mode width h.joined number status is_exact h.is
 

@@ -50,15 +50,12 @@ pair_read_once mode text (Err e) (Err d) h k = refusal_once text e.0.now d.0.now
 
 -- each operation on pairs determines its result
 pub pairs_determined : (mode : Round)
-    → IsDetermined mode 106 128
-    (λ x y round answer. Gives (IsPairSum round x y) answer)
+    → IsDetermined mode 106 128 (λ x y round answer. Gives (IsPairSum round x y) answer)
     (λ x y round answer. Gives (IsPairDifference round x y) answer)
     (λ x y round answer. Gives (IsPairProduct round x y) answer)
-    (λ x y round answer. Gives (IsPairQuotient round x y) answer)
-    IsPairExactInverse
+    (λ x y round answer. Gives (IsPairQuotient round x y) answer) IsPairExactInverse
     (λ x y answer. Gives (IsPairTruncatedRemainder x y) answer)
-    (λ x y answer. Gives (IsPairNearestRemainder x y) answer)
-    (λ x bits. IsPairEncodedBy bits x)
+    (λ x y answer. Gives (IsPairNearestRemainder x y) answer) (λ x bits. IsPairEncodedBy bits x)
     (λ number round answer. Gives (IsPairFromUnsigned round number) answer)
     (λ number round answer. Gives (IsPairFromSigned round number) answer)
     (λ x round answer. Gives (IsPairRoundToIntegral round x) answer)

@@ -22,8 +22,7 @@ OnceDatum R = (v w : Datum) → R v → R w → v ≡ w
 -- each part of a pair has at most one conversion to the wide format
 widened_once : (part : Datum) → OnceDatum (IsWidened part)
 widened_once part v w x y =
-    (conversion_once double wide NearestTiesToEven part v w x.status y.status x.loses_info y.loses_info
-    x.is_conversion
+    (conversion_once double wide NearestTiesToEven part v w x.status y.status x.loses_info y.loses_info x.is_conversion
     y.is_conversion).0
 
 -- the converted parts of a pair have at most one sum
@@ -70,8 +69,7 @@ wide_answer_once call c x v w r s h k =
 pub wide_answer_of_two_once : (call : Datum → Datum → Datum → ℕ → Type 0)
     → ((left right : Datum) → Once (call left right)) → (x y : Pair) → OncePair (IsWideAnswerOfTwo call x y)
 wide_answer_of_two_once call c x y v w r s h k =
-    let e = joined_once x h.left k.left h.left_is k.left_is in
     let g = joined_once y h.right k.right h.right_is k.right_is in
     split_answer_once (call h.left h.right) (c h.left h.right) v w r s h.is_answer
-    (subst (λ (i : Datum). IsSplitAnswer (call i h.right) w s) (sym e)
+    (subst (λ (i : Datum). IsSplitAnswer (call i h.right) w s) (sym (joined_once x h.left k.left h.left_is k.left_is))
     (subst (λ (i : Datum). IsSplitAnswer (call k.left i) w s) (sym g) k.is_answer))

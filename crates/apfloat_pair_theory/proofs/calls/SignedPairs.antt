@@ -21,9 +21,8 @@ not_below n = less_not (pos n) (pos 0) (omega (arith, ints))
 pub pair_signed_above : (mode : Round) (n : ℕ) (answer : Pair) (status : ℕ) → IsPairFromUnsigned mode n answer status
     → IsPairFromSigned mode (pos n) answer status
 pair_signed_above mode n answer status h =
-    let e = not_below n in
     match_false (int_lt (pos n) (pos 0)) (IsPairFromNegative mode n answer status)
-    (IsPairFromUnsigned mode n answer status) e h
+    (IsPairFromUnsigned mode n answer status) (not_below n) h
 
 -- a negative number converts to the negation of its magnitude in the swapped mode
 pub pair_signed_below : (mode : Round) (n : ℕ) (answer : Pair) (status : ℕ) → 0 < n

@@ -44,18 +44,15 @@ fraction_by precision half m c amount parts d i (inr l) x y =
     omega arith
 
 -- the distance from the nearest grid number is at most that from any grid number
-nearer : (precision parts : ℕ) (exact z : ℤ) (g : ℕ) → IsNearestFraction precision parts exact z
-    → IsOnGrid precision g
+nearer : (precision parts : ℕ) (exact z : ℤ) (g : ℕ) → IsNearestFraction precision parts exact z → IsOnGrid precision g
     → magnitude ((z *ℤ pos parts) -ℤ exact) ≤ apart (g * parts) (magnitude exact)
 nearer precision parts exact z g n o =
     let s = sign_of false exact in
-    let a : magnitude ((z *ℤ pos parts) -ℤ exact) ≤ magnitude ((signed s g *ℤ pos parts) -ℤ exact) =
-    n.nearest (signed s g) (on_grid_as (sym (magnitude_signed s g)) o) in
     let e : magnitude ((signed s g *ℤ pos parts) -ℤ exact) ≡ apart (g * parts) (magnitude exact) =
     subst (λ (i : ℤ). magnitude ((signed s g *ℤ pos parts) -ℤ i) ≡ apart (g * parts) (magnitude exact))
-    (signed_exact false exact)
-    (signed_away s g (magnitude exact) parts) in
-    subst (λ (i : ℕ). magnitude ((z *ℤ pos parts) -ℤ exact) ≤ i) e a
+    (signed_exact false exact) (signed_away s g (magnitude exact) parts) in
+    subst (λ (i : ℕ). magnitude ((z *ℤ pos parts) -ℤ exact) ≤ i) e
+    (n.nearest (signed s g) (on_grid_as (sym (magnitude_signed s g)) o))
 
 -- a nearest number is that close to the fraction
 pub fraction_error : (precision parts : ℕ) (exact z : ℤ) → 0 < precision → 0 < parts
@@ -64,9 +61,8 @@ fraction_error precision parts exact z h u x =
     let e : 2 ^ precision ≡ 2 * 2 ^ (precision - 1) = sym (twice_half precision h) in
     let r = enclosed_at precision (2 ^ (precision - 1)) (magnitude exact) parts u e in
     let m = magnitude exact / (parts * 2 ^ r.0) in
-    fraction_by precision (2 ^ (precision - 1)) (magnitude exact / (parts * 2 ^ r.0)) r.0
-    (magnitude exact) parts _ r.1 r.1.full
-    (nearer precision parts exact z (magnitude exact / (parts * 2 ^ r.0) * 2 ^ r.0) x
+    fraction_by precision (2 ^ (precision - 1)) (magnitude exact / (parts * 2 ^ r.0)) r.0 (magnitude exact)
+    parts _ r.1 r.1.full (nearer precision parts exact z (magnitude exact / (parts * 2 ^ r.0) * 2 ^ r.0) x
     (multiple_on_grid precision (magnitude exact / (parts * 2 ^ r.0)) r.0 r.1.fits))
     (nearer precision parts exact z ((magnitude exact / (parts * 2 ^ r.0) + 1) * 2 ^ r.0) x
     (next_on_grid precision (2 ^ (precision - 1)) (magnitude exact / (parts * 2 ^ r.0)) r.0 e r.1.fits))

@@ -56,13 +56,11 @@ nearest_reaches precision n (negsuc m) z o l e =
 pub nearest_by : (precision n : ℕ) (x z : ℤ) → IsOnGrid precision n → IsNearest precision x z
     → magnitude (z -ℤ x) ≤ (n - magnitude x) + (magnitude x - n)
 nearest_by precision n (pos m) z o e =
-    let h = e.nearest (pos n) (on_grid_as (omega arith) o) in
     let d : magnitude (pos n -ℤ pos m) ≤ (n - magnitude (pos m)) + (magnitude (pos m) - n) =
     omega (arith, ints, one_side (pos n -ℤ pos m)) in
-    omega (arith, h)
+    omega (arith, e.nearest (pos n) (on_grid_as (omega arith) o))
 nearest_by precision n (negsuc m) z o e =
-    let o' : IsGridNumber precision (neg_ℤ (pos n)) = neg_on_grid precision (pos n) (on_grid_as (omega arith) o) in
-    let h = e.nearest (neg_ℤ (pos n)) o' in
+    let h = e.nearest (neg_ℤ (pos n)) (neg_on_grid precision (pos n) (on_grid_as (omega arith) o)) in
     let d : magnitude (neg_ℤ (pos n) -ℤ negsuc m) ≤ (n - magnitude (negsuc m)) + (magnitude (negsuc m) - n) =
     omega (arith, ints, one_side (neg_ℤ (pos n) -ℤ negsuc m)) in
     omega (arith, h)
@@ -71,17 +69,15 @@ nearest_by precision n (negsuc m) z o e =
 pub error_le_first : (precision : ℕ) (a c z : ℤ) → IsGridNumber precision c → IsNearest precision (a +ℤ c) z
     → magnitude (z -ℤ (a +ℤ c)) ≤ magnitude a
 error_le_first precision a c z g n =
-    let h = n.nearest c g in
     let e : magnitude (c -ℤ (a +ℤ c)) ≡ magnitude a = omega (arith, ints, one_side a, one_side (c -ℤ (a +ℤ c))) in
-    omega (arith, h)
+    omega (arith, n.nearest c g)
 
 -- the error of a rounded sum is at most its second summand
 pub error_le_second : (precision : ℕ) (a c z : ℤ) → IsGridNumber precision a → IsNearest precision (a +ℤ c) z
     → magnitude (z -ℤ (a +ℤ c)) ≤ magnitude c
 error_le_second precision a c z g n =
-    let h = n.nearest a g in
     let e : magnitude (a -ℤ (a +ℤ c)) ≡ magnitude c = omega (arith, ints, one_side c, one_side (a -ℤ (a +ℤ c))) in
-    omega (arith, h)
+    omega (arith, n.nearest a g)
 
 -- ---- the error relative to the number
 
@@ -123,8 +119,7 @@ relative_at precision half m c x z i n (inr q) =
 pub relative_error : (precision : ℕ) (x z : ℤ) → 0 < precision → IsNearest precision x z
     → 2 ^ precision * magnitude (z -ℤ x) ≤ magnitude x
 relative_error precision x z p n =
-    let e : 2 ^ precision ≡ 2 * 2 ^ (precision - 1) = sym (twice_half precision p) in
-    let r = enclosed_at precision (2 ^ (precision - 1)) (magnitude x) 1 (lit< tt) e in
+    let r = enclosed_at precision (2 ^ (precision - 1)) (magnitude x) 1 (lit< tt) (sym (twice_half precision p)) in
     relative_at precision (2 ^ (precision - 1)) (magnitude x / (1 * 2 ^ r.0)) r.0 x z r.1 n r.1.full
 
 -- ---- the error of a sum is a grid number
@@ -160,13 +155,11 @@ module _ (precision : ℕ) (wide : 8 ≤ 2 ^ precision) where
       (nearest_cases k s z x n)
 
   -- the error of the rounded sum of two grid numbers is a grid number
-  pub error_on_grid : (a c z : ℤ) → IsGridNumber precision a → IsGridNumber precision c
-      → IsNearest precision (a +ℤ c) z
+  pub error_on_grid : (a c z : ℤ) → IsGridNumber precision a → IsGridNumber precision c → IsNearest precision (a +ℤ c) z
       → IsGridNumber precision (z -ℤ (a +ℤ c))
   error_on_grid a c z g h n =
       let l = error_le_first precision a c z h n in
       let k = error_le_second precision a c z g n in
       let u = common precision a c g h in
-      let b = u.bound in
       error_at u.place (a +ℤ c) z (sum_multiple (2 ^ u.place) a c (pow_pos u.place) u.first u.second) n
-      (omega (arith, b))
+      (omega (arith, u.bound))

@@ -49,8 +49,7 @@ pub pick_nearest : (precision : ℕ) (negative : Bool) (amount parts p other : �
     → apart (p * parts) amount ≤ apart (other * parts) amount
 pick_nearest precision negative amount parts p other x o =
     near_at _ (x.below * parts) (x.above * parts) (other * parts) amount
-    (p * parts) x.is_below.not_above x.is_above.not_below
-    (even_nearer negative _ _ _) (even_farther negative _ _ _)
+    (p * parts) x.is_below.not_above x.is_above.not_below (even_nearer negative _ _ _) (even_farther negative _ _ _)
     (ap (λ (n : ℕ). n * parts) x.is ∙ cond_times _ x.above x.below parts)
     (λ h. mul-le-mul_right parts (x.is_above.least other o h))
     (λ h. mul-le-mul_right parts (x.is_below.greatest other o h))
@@ -77,8 +76,7 @@ signed_far false g n = omega (arith, ints, one_side g, one_side (g -ℤ pos n))
 -- the same distance, the first number in quanta and the second in parts of a quantum
 pub signed_away : (negative : Bool) (m n u : ℕ)
     → magnitude ((signed negative m *ℤ pos u) -ℤ signed negative n) ≡ apart (m * u) n
-signed_away s m n u = ap (λ (i : ℤ). magnitude (i -ℤ signed s n)) (sym (signed_times s m u)) ∙
-    signed_apart s (m * u) n
+signed_away s m n u = ap (λ (i : ℤ). magnitude (i -ℤ signed s n)) (sym (signed_times s m u)) ∙ signed_apart s (m * u) n
 
 -- z is a grid number, and no grid number is nearer to exact / parts
 pub record IsNearestFraction (precision parts : ℕ) (exact z : ℤ) : Type 0 where
@@ -93,22 +91,20 @@ pub pick_is_nearest : (precision : ℕ) (negative : Bool) (amount parts p : ℕ)
 pick_is_nearest precision s amount parts p x = record {
   on_grid = on_grid_as (sym (magnitude_signed s p)) (pick_on_grid precision s amount parts p x);
   nearest = λ other o.
-      let a = pick_nearest precision s amount parts p (magnitude other) x o in
       let b = signed_far s (other *ℤ pos parts) amount in
       let b' : apart (magnitude other * parts) amount ≤ magnitude ((other *ℤ pos parts) -ℤ signed s amount) =
       subst (λ (i : ℕ). apart i amount ≤ magnitude ((other *ℤ pos parts) -ℤ signed s amount))
       (magnitude-times other parts) b in
       subst (λ (i : ℕ). i ≤ magnitude ((other *ℤ pos parts) -ℤ signed s amount)) (sym (signed_away s p amount parts))
-      (le_trans a b');
+      (le_trans (pick_nearest precision s amount parts p (magnitude other) x o) b');
 }
 
 -- the distance from a result of whole quanta, in parts of a quantum
 away_times : (parts : ℕ) (exact x z : ℤ) → (x *ℤ pos parts) ≡ exact
     → magnitude ((z *ℤ pos parts) -ℤ exact) ≡ magnitude (z -ℤ x) * parts
 away_times parts exact x z e =
-    ap (λ (i : ℤ). magnitude ((z *ℤ pos parts) -ℤ i)) (sym e) ∙
-    ap magnitude (sym (difference_times z x (pos parts))) ∙
-    magnitude-times (z -ℤ x) parts
+    ap (λ (i : ℤ). magnitude ((z *ℤ pos parts) -ℤ i)) (sym e) ∙ ap magnitude (sym (difference_times z x (pos parts)))
+    ∙ magnitude-times (z -ℤ x) parts
 
 -- an exact result of an integral number of quanta rounds like that number
 pub whole_nearest : (precision parts : ℕ) (exact x z : ℤ) → 0 < parts → (x *ℤ pos parts) ≡ exact
@@ -154,8 +150,7 @@ beyond_is format s p k h =
 
 -- a finite value is the pick with its sign
 pub finite_is : (format : Format) (negative : Bool) (p : ℕ) (value : Datum) → format.nonfinite ≡ IEEE754
-    → is_finite value ≡ true → value ≡ delivered_value format NearestTiesToEven negative p
-    → value ≡ finite negative p
+    → is_finite value ≡ true → value ≡ delivered_value format NearestTiesToEven negative p → value ≡ finite negative p
 finite_is format s p value k h e =
     ⊎_elim
     (λ (q : largest format < p). let w : value ≡ infinite s = e ∙ beyond_is format s p k q in
@@ -215,23 +210,20 @@ fraction_within format of_zero exact parts value status k u h x =
 
 -- the same for whole quanta
 pub within_nearest : (format : Format) (of_zero : Bool) (exact : ℤ) (value : Datum) (status : ℕ)
-    → format.nonfinite ≡ IEEE754
-    → magnitude exact ≤ largest format → IsRounded format NearestTiesToEven of_zero exact 1 value status
-    → IsRoundedTo format.precision exact value
+    → format.nonfinite ≡ IEEE754 → magnitude exact ≤ largest format
+    → IsRounded format NearestTiesToEven of_zero exact 1 value status → IsRoundedTo format.precision exact value
 within_nearest format of_zero exact value status k h x =
     whole_rounded format.precision 1 exact exact value (lit< tt) (times_one exact)
     (fraction_within format of_zero exact 1 value status k (lit< tt) (omega (arith, h)) x)
 
 -- a finite result is a nearest number
 pub finite_nearest : (format : Format) (of_zero : Bool) (exact : ℤ) (value : Datum) (status : ℕ)
-    → format.nonfinite ≡ IEEE754
-    → is_finite value ≡ true → IsRounded format NearestTiesToEven of_zero exact 1 value status
-    → IsRoundedTo format.precision exact value
+    → format.nonfinite ≡ IEEE754 → is_finite value ≡ true
+    → IsRounded format NearestTiesToEven of_zero exact 1 value status → IsRoundedTo format.precision exact value
 finite_nearest format of_zero exact value status k h x =
     whole_rounded format.precision 1 exact exact value (lit< tt) (times_one exact)
     (picked_rounded format (sign_of of_zero exact) (magnitude exact) 1 exact value x.pick
-    (signed_exact of_zero exact) x.is_pick
-    (finite_is format (sign_of of_zero exact) x.pick value k h x.value_is))
+    (signed_exact of_zero exact) x.is_pick (finite_is format (sign_of of_zero exact) x.pick value k h x.value_is))
 
 -- ---- sums and differences of finite data
 
@@ -247,10 +239,9 @@ sum_finite format (infinite b) y value status k p q h s = absurd (false≢true p
 sum_finite format (nan b m) y value status k p q h s = absurd (false≢true p)
 
 -- a sum within the largest value is finite, and a nearest number
-pub sum_within : (format : Format) (x y value : Datum) (status : ℕ) → format.nonfinite ≡ IEEE754 → is_finite x ≡ true
-    → is_finite y ≡ true → magnitude (number x +ℤ number y) ≤ largest format
-    → IsSum format NearestTiesToEven x y value status
-    → IsRoundedTo format.precision (number x +ℤ number y) value
+pub sum_within : (format : Format) (x y value : Datum) (status : ℕ) → format.nonfinite ≡ IEEE754
+    → is_finite x ≡ true → is_finite y ≡ true → magnitude (number x +ℤ number y) ≤ largest format
+    → IsSum format NearestTiesToEven x y value status → IsRoundedTo format.precision (number x +ℤ number y) value
 sum_within format (finite b m) (finite c n) value status k p q h s =
     within_nearest format (zero_sum_sign NearestTiesToEven b c) (signed b m +ℤ signed c n) value status k h s
 sum_within format (finite b m) (infinite c) value status k p q h s = absurd (false≢true q)
@@ -295,5 +286,4 @@ difference_within format x y value status k p q h s =
     let d : (number x +ℤ number (negated IEEE754 y)) ≡ (number x -ℤ number y) = omega (arith, ints, e) in
     subst (λ (i : ℤ). IsRoundedTo format.precision i value) d
     (sum_within format x (negated IEEE754 y) value status k p (negated_finite y q)
-    (subst (λ (i : ℤ). magnitude i ≤ largest format) (sym d) h)
-    (difference_is format x y value status k p q s))
+    (subst (λ (i : ℤ). magnitude i ≤ largest format) (sym d) h) (difference_is format x y value status k p q s))

@@ -16,8 +16,7 @@ pub on_grid_as : {precision m n : ℕ} → m ≡ n → IsOnGrid precision m → 
 on_grid_as {precision} e g = subst (λ (i : ℕ). IsOnGrid precision i) e g
 
 -- the magnitude of a sum is the sum or the difference of the magnitudes
-pub sum_cases : (a b : ℤ)
-    → (magnitude (a +ℤ b) ≡ magnitude a + magnitude b)
+pub sum_cases : (a b : ℤ) → (magnitude (a +ℤ b) ≡ magnitude a + magnitude b)
     ⊎ ((magnitude a ≡ magnitude b + magnitude (a +ℤ b)) ⊎ (magnitude b ≡ magnitude a + magnitude (a +ℤ b)))
 sum_cases (pos m) (pos n) = inl (omega (arith, ints))
 sum_cases (negsuc m) (negsuc n) = inl (omega (arith, ints))
@@ -185,6 +184,5 @@ pub cancelled : (precision : ℕ) (x y : ℤ) → IsGridNumber precision x → I
     → magnitude (x +ℤ y) ≤ magnitude x → magnitude (x +ℤ y) ≤ magnitude y → IsGridNumber precision (x +ℤ y)
 cancelled precision x y g h l k =
     let u = common precision x y g h in
-    let b = u.bound in
     on_grid_from precision u.place _ (sum_multiple (2 ^ u.place) x y (pow_pos u.place) u.first u.second)
-    (omega (arith, b))
+    (omega (arith, u.bound))

@@ -87,26 +87,19 @@ within_status format negative amount p status w l x e =
 -- any rounding with a finite value raises at most INEXACT
 rounded_status : (format : Format) (of_zero : Bool) (exact : ℤ) (value : Datum) (status : ℕ)
     → format.nonfinite ≡ IEEE754 → 1 < 2 ^ format.precision → is_finite value ≡ true
-    → IsRounded format NearestTiesToEven of_zero exact 1 value status
-    → IsOkOrInexact status
+    → IsRounded format NearestTiesToEven of_zero exact 1 value status → IsOkOrInexact status
 rounded_status format of_zero exact value status k w h x =
-    ⊎_elim
-    (λ (q : largest format < x.pick).
-    let e : value ≡ infinite (sign_of of_zero exact) = x.value_is ∙
-    beyond_is format (sign_of of_zero exact) x.pick k q in
-    absurd (false≢true (sym (ap is_finite e) ∙ h)))
+    ⊎_elim (λ (q : largest format < x.pick).
+    absurd (false≢true (sym (ap is_finite (x.value_is ∙ beyond_is format (sign_of of_zero exact) x.pick k q)) ∙ h)))
     (λ (q : x.pick ≤ largest format). within_status format (sign_of of_zero exact)
-    (magnitude exact) x.pick status w q x.is_pick
-    x.status_is)
-    (cases_lt (largest format) x.pick)
+    (magnitude exact) x.pick status w q x.is_pick x.status_is) (cases_lt (largest format) x.pick)
 
 -- ---- sums and differences
 
 -- a finite sum of finite data raises at most INEXACT
 pub sum_status : (format : Format) (x y value : Datum) (status : ℕ) → format.nonfinite ≡ IEEE754
-    → 1 < 2 ^ format.precision
-    → is_finite x ≡ true → is_finite y ≡ true → is_finite value ≡ true → IsSum format NearestTiesToEven x y value status
-    → IsOkOrInexact status
+    → 1 < 2 ^ format.precision → is_finite x ≡ true → is_finite y ≡ true → is_finite value ≡ true
+    → IsSum format NearestTiesToEven x y value status → IsOkOrInexact status
 sum_status format (finite b m) (finite c n) value status k w p q h s =
     rounded_status format (zero_sum_sign NearestTiesToEven b c) (signed b m +ℤ signed c n) value status k w h s
 sum_status format (finite b m) (infinite c) value status k w p q h s = absurd (false≢true q)

@@ -46,13 +46,11 @@ pub record IsShared (precision : ℕ) (a c : ℤ) : Type 0 where
   pub bound : magnitude c < 2 ^ precision * 2 ^ place
 
 -- two grid numbers are multiples of one power of two, in which the lesser has at most `precision` digits
-pub shared : (precision : ℕ) (a c : ℤ) → IsGridNumber precision a → IsGridNumber precision c
-    → magnitude c ≤ magnitude a
+pub shared : (precision : ℕ) (a c : ℤ) → IsGridNumber precision a → IsGridNumber precision c → magnitude c ≤ magnitude a
     → IsShared precision a c
 shared precision a c g h l =
     let u = common precision a c g h in
-    let b = u.bound in
-    record { place = u.place; first = u.first; second = u.second; bound = omega (arith, b) }
+    record { place = u.place; first = u.first; second = u.second; bound = omega (arith, u.bound) }
 
 -- a bound of the exact first difference, from the error of the sum
 pub first_at : (a c z : ℤ) → magnitude (a -ℤ z) ≤ magnitude c + magnitude (z -ℤ (a +ℤ c))
@@ -80,12 +78,9 @@ module _ (precision : ℕ) (wide : 8 ≤ 2 ^ precision) where
       let d : magnitude c + 2 ^ k ≤ 2 ^ precision * 2 ^ k = unit_below (2 ^ precision) (2 ^ k) (magnitude c) y l in
       let f : magnitude (z -ℤ a) ≤ magnitude c + magnitude (z -ℤ (a +ℤ c)) =
       omega (arith, first_at a c z, magnitude-sub z a) in
-      ⊎_elim
-      (λ (q : magnitude (z -ℤ a) < 2 ^ precision * 2 ^ k). on_grid_from precision k (magnitude (z -ℤ a))
-      (difference_multiple (2 ^ k) z a u w x) q)
-      (λ (q : 2 ^ precision * 2 ^ k ≤ magnitude (z -ℤ a)).
-      let v : 2 ^ precision * 2 ^ k ≡ magnitude (z -ℤ a) = omega arith in
-      on_grid_as v (bound_on_grid precision k (omega (arith, wide))))
+      ⊎_elim (λ (q : magnitude (z -ℤ a) < 2 ^ precision * 2 ^ k). on_grid_from precision k (magnitude (z -ℤ a))
+      (difference_multiple (2 ^ k) z a u w x) q) (λ (q : 2 ^ precision * 2 ^ k ≤ magnitude (z -ℤ a)).
+      on_grid_as (omega arith) (bound_on_grid precision k (omega (arith, wide))))
       (cases_lt (magnitude (z -ℤ a)) (2 ^ precision * 2 ^ k))
 
   -- z - a is a grid number if a and z are multiples of twice the unit
@@ -97,8 +92,7 @@ module _ (precision : ℕ) (wide : 8 ≤ 2 ^ precision) where
       omega (arith, first_at a c z, magnitude-sub z a) in
       let e : 2 ^ (k + 1) ≡ 2 ^ k * 2 = pow-add 2 k 1 in
       let d : 2 ^ precision * 2 ^ (k + 1) ≡ 2 ^ precision * (2 ^ k * 2) = ap (λ (i : ℕ). 2 ^ precision * i) e in
-      on_grid_from precision (k + 1) (magnitude (z -ℤ a))
-      (difference_multiple (2 ^ (k + 1)) z a (pow_pos (k + 1)) w x)
+      on_grid_from precision (k + 1) (magnitude (z -ℤ a)) (difference_multiple (2 ^ (k + 1)) z a (pow_pos (k + 1)) w x)
       (omega arith)
 
   -- the subtraction of Fast2Sum (Dekker): if a is a multiple of a unit in which c has at most `precision` digits, z - a
@@ -125,9 +119,7 @@ module _ (precision : ℕ) (wide : 8 ≤ 2 ^ precision) where
 
   -- the subtraction of Fast2Sum is exact if the magnitude of a is not the lesser
   pub fast_two_sum_difference_greater : (a c z : ℤ) → IsGridNumber precision a → IsGridNumber precision c
-      → magnitude c ≤ magnitude a
-      → IsNearest precision (a +ℤ c) z
-      → IsGridNumber precision (z -ℤ a)
+      → magnitude c ≤ magnitude a → IsNearest precision (a +ℤ c) z → IsGridNumber precision (z -ℤ a)
   fast_two_sum_difference_greater a c z g h l n = fast_two_sum_difference a c z g (shared precision a c g h l) n
 
 -- the six roundings of TwoSum of a and c
@@ -184,14 +176,12 @@ module _ (precision : ℕ) (wide : 8 ≤ 2 ^ precision) where
       let f = x.first.nearest (neg_ℤ c) (neg_on_grid precision c h) in
       let f' : magnitude (neg_ℤ c -ℤ (a -ℤ z)) ≡ magnitude (z -ℤ (a +ℤ c)) =
       omega (arith, ints, one_side (neg_ℤ c -ℤ (a -ℤ z)), one_side (z -ℤ (a +ℤ c))) in
-      let i : 4 * magnitude (z -ℤ (a +ℤ c)) ≤ magnitude c =
-      quarter (2 ^ precision) _ _ _ _ wide (relative_error precision (a +ℤ c) z (positive precision wide) x.sum)
-      (magnitude_le a c) l in
+      let i : 4 * magnitude (z -ℤ (a +ℤ c)) ≤ magnitude c = quarter (2 ^ precision) _ _ _ _ wide
+      (relative_error precision (a +ℤ c) z (positive precision wide) x.sum) (magnitude_le a c) l in
       let b : magnitude (q +ℤ c) ≤ magnitude (q -ℤ (a -ℤ z)) + magnitude (z -ℤ (a +ℤ c)) = second_at a c z q in
       let b' : magnitude c ≤ magnitude q + magnitude (q +ℤ c) =
       omega (arith, ints, one_side c, one_side q, one_side (q +ℤ c)) in
-      let e₂ : zz ≡ (q +ℤ c) =
-      nearest_exact precision (q +ℤ c) zz
+      let e₂ : zz ≡ (q +ℤ c) = nearest_exact precision (q +ℤ c) zz
       (cancelled precision q c x.first.on_grid h (omega (arith, f)) (omega (arith, f))) x.second in
       let m₅ : magnitude (z -ℤ (a +ℤ c)) ≡ magnitude (zz +ℤ neg_ℤ d) =
       omega (arith, ints, one_side (z -ℤ (a +ℤ c)), one_side (zz +ℤ neg_ℤ d)) in
@@ -208,8 +198,7 @@ module _ (precision : ℕ) (wide : 8 ≤ 2 ^ precision) where
       (λ (k : magnitude (a +ℤ c) < magnitude a).
       let o : IsGridNumber precision (a +ℤ c) = cancelled precision a c g h (omega arith) (omega arith) in
       let e : z ≡ (a +ℤ c) = nearest_exact precision (a +ℤ c) z o x.sum in
-      let m : magnitude c ≡ magnitude (z -ℤ a) = omega (arith, ints, one_side c, one_side (z -ℤ a)) in
-      exact_first a c z q zz r d w g h (on_grid_as m h) x)
+      exact_first a c z q zz r d w g h (on_grid_as (omega (arith, ints, one_side c, one_side (z -ℤ a))) h) x)
       (λ (k : magnitude a ≤ magnitude (a +ℤ c)). rounded_first a c z q zz r d w g h l
       (nearest_reaches precision (magnitude a) (a +ℤ c) z g k x.sum) x)
       (cases_lt (magnitude (a +ℤ c)) (magnitude a)))

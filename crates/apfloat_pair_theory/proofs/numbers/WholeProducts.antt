@@ -49,11 +49,10 @@ pub fused_within : (format : Format) (x y z value : Datum) (status : ℕ) → fo
     → IsFractionRoundedTo format.precision (2 ^ format.scale) (fused_sum format x y z) value
 fused_within format (finite b l) (finite c m) (finite d n) value status k p q r h s =
     let e₁ : signed (product_sign b c) (l * m) ≡ (signed b l *ℤ signed c m) = signed_product b c l m in
-    let e₂ : signed d (n * 2 ^ format.scale) ≡ (signed d n *ℤ pos (2 ^ format.scale)) =
-    signed_times d n (2 ^ format.scale) in
-    let e : (signed (product_sign b c) (l * m) +ℤ signed d (n * 2 ^ format.scale)) ≡ ((signed b l *ℤ signed c m) +ℤ
-    (signed d n *ℤ pos (2 ^ format.scale))) =
-    ap (λ (i : ℤ). i +ℤ signed d (n * 2 ^ format.scale)) e₁ ∙ ap (λ (i : ℤ). (signed b l *ℤ signed c m) +ℤ i) e₂ in
+    let e : (signed (product_sign b c) (l * m) +ℤ signed d (n * 2 ^ format.scale))
+    ≡ ((signed b l *ℤ signed c m) +ℤ (signed d n *ℤ pos (2 ^ format.scale))) =
+    ap (λ (i : ℤ). i +ℤ signed d (n * 2 ^ format.scale)) e₁
+    ∙ ap (λ (i : ℤ). (signed b l *ℤ signed c m) +ℤ i) (signed_times d n (2 ^ format.scale)) in
     subst (λ (i : ℤ). IsFractionRoundedTo format.precision (2 ^ format.scale) i value) e
     (fraction_within format (zero_sum_sign NearestTiesToEven (product_sign b c) d)
     (signed (product_sign b c) (l * m) +ℤ signed d (n * 2 ^ format.scale)) (2 ^ format.scale)
@@ -101,8 +100,7 @@ size_of_product precision scale m n m_grid n_grid l =
     let e₃ : 2 ^ (m_grid.place + n_grid.place) ≡ 2 ^ (m_grid.place + n_grid.place - scale) * 2 ^ scale =
     ap (λ (i : ℕ). 2 ^ i) q ∙ pow-add 2 (m_grid.place + n_grid.place - scale) scale in
     let e₄ : (m_grid.significand * n_grid.significand) * (2 ^ m_grid.place * 2 ^ n_grid.place)
-    ≡ (m_grid.significand * n_grid.significand) * (2 ^
-    (m_grid.place + n_grid.place - scale) * 2 ^ scale) =
+    ≡ (m_grid.significand * n_grid.significand) * (2 ^ (m_grid.place + n_grid.place - scale) * 2 ^ scale) =
     ap (λ (i : ℕ). (m_grid.significand * n_grid.significand) * i) (sym e₂ ∙ e₃) in
     let f : m_grid.significand * n_grid.significand < 2 ^ precision * 2 ^ precision =
     mul-lt m_grid.significand n_grid.significand (2 ^ precision) (2 ^ precision) m_grid.fits n_grid.fits in
@@ -145,19 +143,15 @@ whole_product precision scale a c a_grid c_grid l =
 pub product_error_on_grid : (precision : ℕ) → 8 ≤ 2 ^ precision → (scale : ℕ) (a c x t : ℤ)
     → IsWholeProduct precision scale a c x → IsNearest precision x t → IsGridNumber precision (t -ℤ x)
 product_error_on_grid precision wide scale a c x t w k =
-    let r : 2 ^ precision * magnitude (t -ℤ x) ≤ magnitude x =
-    relative_error precision x t (positive precision wide) k in
-    let b : magnitude x < 2 ^ precision * (2 ^ precision * 2 ^ w.place) = w.bound in
     let l : 2 ^ precision * magnitude (t -ℤ x) < 2 ^ precision * (2 ^ precision * 2 ^ w.place) =
-    omega (arith, r, b) in
+    omega (arith, relative_error precision x t (positive precision wide) k, w.bound) in
     error_at precision wide w.place x t w.multiple k (lt_of_mul-lt-mul_left (2 ^ precision) l)
 
 -- in parts of a quantum, the error of the product is a fused sum with the negation of t
 rest_times : (x t m u a c : ℤ) → m ≡ neg_ℤ t → (x *ℤ u) ≡ (a *ℤ c) → ((x -ℤ t) *ℤ u) ≡ ((a *ℤ c) +ℤ (m *ℤ u))
 rest_times x t m u a c e w =
-    let d = difference_times x t u in
     let n : (m *ℤ u) ≡ neg_ℤ (t *ℤ u) = ap (λ (i : ℤ). i *ℤ u) e ∙ neg_times t u in
-    d ∙ ap (λ (i : ℤ). i -ℤ (t *ℤ u)) w ∙ minus_is (a *ℤ c) (t *ℤ u) (m *ℤ u) n where
+    difference_times x t u ∙ ap (λ (i : ℤ). i -ℤ (t *ℤ u)) w ∙ minus_is (a *ℤ c) (t *ℤ u) (m *ℤ u) n where
       minus_is : (p q r : ℤ) → r ≡ neg_ℤ q → (p -ℤ q) ≡ (p +ℤ r)
       minus_is p q r h = omega (arith, ints, h)
 
@@ -167,10 +161,9 @@ pub high_rounded : (format : Format) (first second product : Datum) (flags : ℕ
     → IsWholeProduct format.precision format.scale (number first) (number second) x → magnitude x ≤ largest format
     → IsProduct format NearestTiesToEven first second product flags → IsRoundedTo format.precision x product
 high_rounded format a c t flags x k fa fc w l h =
-    let m : magnitude (number a *ℤ number c) ≡ magnitude x * 2 ^ format.scale =
-    ap magnitude (sym w.is) ∙ magnitude-times x (2 ^ format.scale) in
     let b : magnitude (number a *ℤ number c) ≤ largest format * 2 ^ format.scale =
-    subst (λ (i : ℕ). i ≤ largest format * 2 ^ format.scale) (sym m) (mul-le-mul_right (2 ^ format.scale) l) in
+    subst (λ (i : ℕ). i ≤ largest format * 2 ^ format.scale)
+    (sym (ap magnitude (sym w.is) ∙ magnitude-times x (2 ^ format.scale))) (mul-le-mul_right (2 ^ format.scale) l) in
     whole_rounded format.precision (2 ^ format.scale) (number a *ℤ number c) x t (pow_pos format.scale) w.is
     (product_within format a c t flags k fa fc b h)
 
@@ -181,22 +174,19 @@ pub record IsWholeNumberAt (exact : ℤ) (value : Datum) : Type 0 where
 
 -- TwoProduct with a fused multiply-add: a * c - t, rounded once, is the exact error of the rounded product t
 pub two_product : (format : Format) (first second product rest : Datum) (flags : ℕ) (x : ℤ)
-    → format.nonfinite ≡ IEEE754 → 8 ≤ 2 ^ format.precision
-    → is_finite first ≡ true → is_finite second ≡ true → is_finite product ≡ true
-    → IsWholeProduct format.precision format.scale (number first) (number second) x → magnitude x ≤ largest format
-    → IsNearest format.precision x (number product)
+    → format.nonfinite ≡ IEEE754 → 8 ≤ 2 ^ format.precision → is_finite first ≡ true → is_finite second ≡ true
+    → is_finite product ≡ true → IsWholeProduct format.precision format.scale (number first) (number second) x
+    → magnitude x ≤ largest format → IsNearest format.precision x (number product)
     → IsFusedSum format NearestTiesToEven first second (negated IEEE754 product) rest flags
     → IsWholeNumberAt (x -ℤ number product) rest
 two_product format a c t rest flags x k wide fa fc ft w l n h =
     let r = x -ℤ number t in
     let e = rest_times x (number t) (number (negated IEEE754 t)) (pos (2 ^ format.scale)) (number a) (number c)
     (negated_number t ft) w.is in
-    let o : IsGridNumber format.precision (x -ℤ number t) =
-    on_grid_as (magnitude-sub (number t) x)
+    let o : IsGridNumber format.precision (x -ℤ number t) = on_grid_as (magnitude-sub (number t) x)
     (product_error_on_grid format.precision wide format.scale (number a) (number c) x (number t) w n) in
     let s = error_eighth format.precision wide x (number t) n in
-    let v = magnitude-sub (number t) x in
-    let b : magnitude (x -ℤ number t) ≤ largest format = omega (arith, s, v, l) in
+    let b : magnitude (x -ℤ number t) ≤ largest format = omega (arith, s, magnitude-sub (number t) x, l) in
     let m : magnitude (fused_sum format a c (negated IEEE754 t)) ≡ magnitude (x -ℤ number t) * 2 ^ format.scale =
     ap magnitude (sym e) ∙ magnitude-times (x -ℤ number t) (2 ^ format.scale) in
     let b' : magnitude (fused_sum format a c (negated IEEE754 t)) ≤ largest format * 2 ^ format.scale =
@@ -206,6 +196,5 @@ two_product format a c t rest flags x k wide fa fc ft w l n h =
     (x -ℤ number t) rest (pow_pos format.scale) e q in
     record {
       is_finite = z.is_finite;
-      number_is =
-          nearest_exact format.precision (x -ℤ number t) (number rest) o z.nearest;
+      number_is = nearest_exact format.precision (x -ℤ number t) (number rest) o z.nearest;
     }

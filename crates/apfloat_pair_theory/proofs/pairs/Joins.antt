@@ -49,8 +49,7 @@ some_rounded false z n m =
 -- the sum of a nonzero double and a zero is the double itself
 sum_with_zero : (negative other : Bool) (n : ℕ) → IsFiniteOf double negative (suc n)
     → IsSum wide NearestTiesToEven (finite negative (suc n)) (finite other 0) (finite negative (suc n)) ok_bits
-sum_with_zero b c n m =
-    rw (plus_zero b c (suc n)) (some_rounded b (zero_sum_sign NearestTiesToEven b c) n m)
+sum_with_zero b c n m = rw (plus_zero b c (suc n)) (some_rounded b (zero_sum_sign NearestTiesToEven b c) n m)
 
 -- the join of a pair whose low part is a zero, by cases of the parts
 parts_joined : (first second high : Datum) → IsMember double first → is_zero second ≡ true → IsWidened first high
@@ -77,6 +76,5 @@ parts_joined (nan b q) y high m z w = w
 
 -- the join of such a pair
 pub joined_with_zero : (x : Pair) (high : Datum) (is_zero_low : Bool) → IsMember double x.high
-    → is_zero_low ≡ is_zero_category (category_of x.low) → is_zero_low ≡ true → IsWidened x.high high
-    → IsJoined x high
+    → is_zero_low ≡ is_zero_category (category_of x.low) → is_zero_low ≡ true → IsWidened x.high high → IsJoined x high
 joined_with_zero x high z m e t w = parts_joined x.high x.low high m (sym (zero_agrees x.low) ∙ sym e ∙ t) w

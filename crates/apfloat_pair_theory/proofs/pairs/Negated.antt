@@ -27,10 +27,9 @@ negative_answer : (format : Format) (negative : Bool) (amount negated_amount : �
     → IsDelivered format NearestTiesToEven negative amount 1 nearest status
     → IsDelivered format NearestTiesToEven (not negative) negated_amount 1 (negated IEEE754 nearest) status
 negative_answer format s amount negated_amount nearest status k l e x =
-    let d = delivered_swapped format NearestTiesToEven s amount 1 nearest status l x in
     subst (λ (n : ℕ). IsDelivered format NearestTiesToEven (not s) n 1 (negated IEEE754 nearest) status) e
     (subst (λ (i : NonfiniteBehavior). IsDelivered format NearestTiesToEven (not s) amount 1 (negated i nearest) status)
-    k d)
+    k (delivered_swapped format NearestTiesToEven s amount 1 nearest status l x))
 
 -- equal numbers have equal negations
 negated_equal : (datum opposite nearest : Datum) → is_finite datum ≡ true → is_finite opposite ≡ true
@@ -50,13 +49,12 @@ negated_answer : (format : Format) (of_zero other : Bool) (exact : ℤ) (datum o
 negated_answer format of_zero other (pos zero) h g nearest status k l fh fg e q x =
     let zero = zero_delivered format NearestTiesToEven of_zero 1 (magnitude (pos 0)) (lit< tt) refl in
     let n = (delivered_once format NearestTiesToEven of_zero (magnitude (pos 0)) 1 nearest _ status ok_bits x zero).0 in
-    let z : number h ≡ pos 0 = equal_number h nearest fh q ∙ ap number n ∙ no_sign _ in
     record {
       nearest = finite (zero_sign format.nonfinite other) 0;
       status = ok_bits;
       is_nearest = zero_delivered format NearestTiesToEven other 1 (magnitude (pos 0)) (lit< tt) refl;
-      same_number = is_equal_by g (finite (zero_sign format.nonfinite other) 0) fg refl (e ∙ ap neg_ℤ z ∙
-          sym (no_sign _));
+      same_number = is_equal_by g (finite (zero_sign format.nonfinite other) 0) fg refl
+          (e ∙ ap neg_ℤ (equal_number h nearest fh q ∙ ap number n ∙ no_sign _) ∙ sym (no_sign _));
     }
 negated_answer format of_zero other (pos (suc n)) h g nearest status k l fh fg e q x = record {
   nearest = negated IEEE754 nearest;
@@ -85,15 +83,13 @@ negated_high : (format : Format) (high low opposite_high opposite_low nearest : 
     → is_equal high nearest ≡ true → IsHighOf format opposite_high opposite_low
 negated_high format (finite b i) (finite c j) (finite d u) (finite e v) nearest status k p fh fl fg fm eh el s q =
     let a = negated_answer format (zero_sum_sign NearestTiesToEven b c) (zero_sum_sign NearestTiesToEven d e)
-    (signed b i +ℤ signed c j)
-    (finite b i) (finite d u) nearest status k p refl refl eh q s in
+    (signed b i +ℤ signed c j) (finite b i) (finite d u) nearest status k p refl refl eh q s in
     record {
       nearest = a.nearest;
       status = a.status;
       is_nearest =
           subst (λ (z : ℤ). IsRounded format NearestTiesToEven (zero_sum_sign NearestTiesToEven d e) z 1 a.nearest
-          a.status)
-          (negated_sum (signed b i) (signed c j) (signed d u) (signed e v) eh el) a.is_nearest;
+          a.status) (negated_sum (signed b i) (signed c j) (signed d u) (signed e v) eh el) a.is_nearest;
       same_number = a.same_number;
     }
 negated_high format (finite b i) (finite c j) (finite d u) (infinite e) nearest status k p fh fl fg fm eh el s q =

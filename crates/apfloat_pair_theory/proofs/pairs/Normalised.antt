@@ -62,9 +62,8 @@ pub record IsSameAnswer (format : Format) (of_zero : Bool) (exact : ℤ) (value 
 
 -- finite rounded values of the same number are equal, whatever the sign of a zero
 same_answer : (format : Format) (of_zero other : Bool) (exact : ℤ) (value : Datum) (status : ℕ)
-    → format.nonfinite ≡ IEEE754
-    → is_finite value ≡ true → IsRounded format NearestTiesToEven of_zero exact 1 value status
-    → IsSameAnswer format other exact value
+    → format.nonfinite ≡ IEEE754 → is_finite value ≡ true
+    → IsRounded format NearestTiesToEven of_zero exact 1 value status → IsSameAnswer format other exact value
 same_answer format of_zero other (pos zero) value status k h x =
     let zero = zero_delivered format NearestTiesToEven of_zero 1 (magnitude (pos 0)) (lit< tt) refl in
     let e = (delivered_once format NearestTiesToEven of_zero (magnitude (pos 0)) 1 value _ status ok_bits x zero).0 in
@@ -97,8 +96,7 @@ pub record IsHighOf (format : Format) (high low : Datum) : Type 0 where
   pub same_number : is_equal high nearest ≡ true
 
 -- a pair of finite parts whose high part is that of both is normalized
-pub normalised_high : (x : Pair) → is_finite x.high ≡ true → is_finite x.low ≡ true
-    → IsHighOf double x.high x.low
+pub normalised_high : (x : Pair) → is_finite x.high ≡ true → is_finite x.low ≡ true → IsHighOf double x.high x.low
     → IsNormalised x
 normalised_high x h l n = record {
   finite_high = h;
@@ -123,8 +121,7 @@ pub high_of_sum : (format : Format) (sum rest high low : Datum) (status : ℕ) �
     → IsHighOf format high low
 high_of_sum format (finite b m) (finite c n) (finite d i) (finite e j) status k fz fy fh fl s x =
     let a = same_answer format (zero_sum_sign NearestTiesToEven b c) (zero_sum_sign NearestTiesToEven d e)
-    (signed d i +ℤ signed e j)
-    (finite d i) status k refl
+    (signed d i +ℤ signed e j) (finite d i) status k refl
     (subst (λ (u : ℤ). IsRounded format NearestTiesToEven (zero_sum_sign NearestTiesToEven b c) u 1 (finite d i) status)
     (sym s) x) in
     record { nearest = a.nearest; status = a.status; is_nearest = a.is_nearest; same_number = a.same_number }
@@ -156,13 +153,11 @@ high_alone format (finite b m) k fh g w =
     let of_zero = zero_sum_sign NearestTiesToEven b false in
     let nearest : Datum = finite (sign_of of_zero (signed b m +ℤ pos 0)) (magnitude (signed b m +ℤ pos 0)) in
     let e : (signed b m +ℤ pos 0) ≡ signed b m = +ℤ_idr (signed b m) in
-    let g' = on_grid_as (sym (ap magnitude e)) g in
-    let w' : magnitude (signed b m +ℤ pos 0) ≤ largest format = subst (λ (i : ℤ). magnitude i ≤ largest format)
-    (sym e) w in
     record {
       nearest = nearest;
       status = ok_bits;
-      is_nearest = rounded_exactly format of_zero (signed b m +ℤ pos 0) k g' w';
+      is_nearest = rounded_exactly format of_zero (signed b m +ℤ pos 0) k (on_grid_as (sym (ap magnitude e)) g)
+          (subst (λ (i : ℤ). magnitude i ≤ largest format) (sym e) w);
       same_number = is_equal_by (finite b m) nearest refl refl (sym (signed_exact of_zero (signed b m +ℤ pos 0) ∙ e));
     }
 high_alone format (infinite b) k fh g w = absurd (false≢true fh)
@@ -170,9 +165,8 @@ high_alone format (nan b m) k fh g w = absurd (false≢true fh)
 
 -- a high part that equals the rounded sum of the parts is nearest to their sum
 pub high_nearest : (format : Format) (high low nearest : Datum) (status : ℕ) → format.nonfinite ≡ IEEE754
-    → is_finite high ≡ true
-    → is_finite low ≡ true → IsSum format NearestTiesToEven high low nearest status → is_equal high nearest ≡ true
-    → IsNearest format.precision (number high +ℤ number low) (number high)
+    → is_finite high ≡ true → is_finite low ≡ true → IsSum format NearestTiesToEven high low nearest status
+    → is_equal high nearest ≡ true → IsNearest format.precision (number high +ℤ number low) (number high)
 high_nearest format h l nearest status k fh fl s e =
     let r = sum_finite format h l nearest status k fh fl (equal_finite h nearest fh e) s in
     subst (λ (z : ℤ). IsNearest format.precision (number h +ℤ number l) z) (sym (equal_number h nearest fh e)) r.nearest

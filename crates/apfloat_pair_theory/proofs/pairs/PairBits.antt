@@ -61,9 +61,8 @@ halves_joined k n = let e : n / 2 ^ k * 2 ^ k + n % 2 ^ k ≡ n = shr_split n k 
 -- joining two halves by `or` adds them
 or_halves : (k h l : ℕ) → h < 2 ^ k → l < 2 ^ k → bit_or h (l * 2 ^ k % 2 ^ (k + k)) ≡ h + 2 ^ k * l
 or_halves k h l a b =
-    ap (λ (i : ℕ). bit_or h i) (shl_whole l k k (k + k) b (omega arith)) ∙ or_comm h (l * 2 ^ k) ∙
-    or_shifted l k h a ∙
-    omega arith
+    ap (λ (i : ℕ). bit_or h i) (shl_whole l k k (k + k) b (omega arith)) ∙ or_comm h (l * 2 ^ k) ∙ or_shifted l k h a
+    ∙ omega arith
 
 -- the halves of a pair as the code joins them
 pub joined_bits : (h l : ℕ) → h < 2 ^ 64 → l < 2 ^ 64 → bit_or h (l * 2 ^ 64 % 2 ^ 128) ≡ h + 2 ^ 64 * l
@@ -78,8 +77,7 @@ same_fields b c e g t u p q r =
     ap (λ (i : Bool). fields_with i e t) p ∙ ap (λ (i : ℕ). fields_with c i t) q ∙ ap (λ (i : ℕ). fields_with c g i) r
 
 -- the fields of a double are in its lower 64 bits
-lower_fields : (bits : ℕ)
-    → fields_of double (layout_with double_constants) (bits % 2 ^ 64)
+lower_fields : (bits : ℕ) → fields_of double (layout_with double_constants) (bits % 2 ^ 64)
     ≡ fields_of double (layout_with double_constants) bits
 lower_fields bits =
     same_fields _ _ _ _ _ _ (ap (λ (i : ℕ). eqb i 1) (field-mod bits 0 1 63)) (field-mod bits 1 11 52)
@@ -87,8 +85,7 @@ lower_fields bits =
 
 -- the upper bits do not change the double
 pub lower_bits : (bits : ℕ) → double_of (bits % 2 ^ 64) ≡ double_of bits
-lower_bits bits =
-    ap (λ (x : Fields). datum_of_fields double (layout_with double_constants) x) (lower_fields bits)
+lower_bits bits = ap (λ (x : Fields). datum_of_fields double (layout_with double_constants) x) (lower_fields bits)
 
 -- a pair is read from its two halves, whatever the bits above them
 pub pair_of_halves : (bits : ℕ) (x : Pair) → x.high ≡ double_of bits → x.low ≡ double_of (bits / 2 ^ 64)
@@ -115,8 +112,7 @@ pair_encoded_by_or h l x a b =
 
 -- the bits that encode a pair are read back as the pair
 pub pair_read_back : (bits : ℕ) (x : Pair) → IsPairEncodedBy bits x → pair_of bits ≡ x
-pair_read_back bits x e =
-    parts_same (pair_of bits) x e.high.is (lower_bits (bits / 2 ^ 64) ∙ e.low.is)
+pair_read_back bits x e = parts_same (pair_of bits) x e.high.is (lower_bits (bits / 2 ^ 64) ∙ e.low.is)
 
 -- each number below 2 ^ 128 encodes the pair that is read from it
 pub pair_written_back : (bits : ℕ) → bits < 2 ^ 128 → IsPairEncodedBy bits (pair_of bits)

@@ -49,19 +49,17 @@ pick_times negative below above m u p =
 pick_whole : (precision : ℕ) (negative : Bool) (m u p : ℕ) → 0 < u
     → IsPick precision NearestTiesToEven negative (m * u) u p → IsPick precision NearestTiesToEven negative m 1 p
 pick_whole precision s m u p h x =
-    let l : x.below ≤ m = le_of_mul-le-mul_right x.is_below.not_above h in
-    let g : m ≤ x.above = le_of_mul-le-mul_right x.is_above.not_below h in
     record {
       below = x.below;
       above = x.above;
       is_below = record {
         on_grid = x.is_below.on_grid;
-        not_above = omega (arith, l);
+        not_above = omega (arith, le_of_mul-le-mul_right x.is_below.not_above h);
         greatest = λ other o k. x.is_below.greatest other o (mul-le-mul_right u (omega (arith, k)));
       };
       is_above = record {
         on_grid = x.is_above.on_grid;
-        not_below = omega (arith, g);
+        not_below = omega (arith, le_of_mul-le-mul_right x.is_above.not_below h);
         least = λ other o k. x.is_above.least other o (mul-le-mul_right u (omega (arith, k)));
       };
       is = x.is ∙ pick_times s x.below x.above m u h;
@@ -165,8 +163,7 @@ again_sum : (high low value : Datum) (status : ℕ) (x : ℤ) → is_finite high
     → (number high +ℤ number low) ≡ x → ((of_zero : Bool) → IsRounded double NearestTiesToEven of_zero x 1 value status)
     → IsSum double NearestTiesToEven high low value status
 again_sum (finite d i) (finite e j) value status x f g s r =
-    subst (λ (n : ℤ). IsRounded double NearestTiesToEven (zero_sum_sign NearestTiesToEven d e) n 1 value status)
-    (sym s)
+    subst (λ (n : ℤ). IsRounded double NearestTiesToEven (zero_sum_sign NearestTiesToEven d e) n 1 value status) (sym s)
     (r (zero_sum_sign NearestTiesToEven d e))
 again_sum (finite d i) (infinite e) value status x f g s r = absurd (false≢true g)
 again_sum (finite d i) (nan e j) value status x f g s r = absurd (false≢true g)
@@ -212,16 +209,14 @@ number_converted b m high status loses_info p c =
 pub split_exactly : (negative : Bool) (m : ℕ) (answer : Pair) → 0 < m → is_finite answer.high ≡ true
     → IsSplit (finite negative m) answer → IsCut negative m answer
 split_exactly b m answer p f s =
-    let k = number_converted b m answer.high s.status s.loses_info p s.high_is in
     let u : 0 < 2 ^ double.scale = pow_pos double.scale in
-    let x = k.is_delivered in
+    let x = (number_converted b m answer.high s.status s.loses_info p s.high_is).is_delivered in
     let w = delivered_whole double b m (2 ^ double.scale) answer.high s.status u x in
     let r = high_rounded_to b m answer.high w.0 p f w.1 in
     let q = finite_pick b x.pick answer.high f x.value_is in
     let exactly : s.status ≡ ok_bits → number answer.high ≡ signed b m =
-    λ o. ap number (x.value_is ∙ within_is double b x.pick refl q) ∙
-    ap (λ (i : ℕ). signed b i)
-    (eq_of_mul-eq-mul_right (2 ^ double.scale) u x.pick m
+    λ o. ap number (x.value_is ∙ within_is double b x.pick refl q)
+    ∙ ap (λ (i : ℕ). signed b i) (eq_of_mul-eq-mul_right (2 ^ double.scale) u x.pick m
     (ok_is_exact double b (m * 2 ^ double.scale) (2 ^ double.scale) x.pick s.status q x.status_is o)) in
     let n = low_left b m answer.high s.status r.is_finite exactly (λ z. absurd (never_zero b m answer.high p r z)) in
     let n' : IsWholeNumberAt (signed b m -ℤ number answer.high) answer.low =
@@ -250,8 +245,7 @@ within_finite : (negative : Bool) (m : ℕ) (answer : Pair) → 0 < m → m ≤ 
     → IsSplit (finite negative m) answer → is_finite answer.high ≡ true
 within_finite b m answer p l s =
     let k = number_converted b m answer.high s.status s.loses_info p s.high_is in
-    let u : 0 < 2 ^ double.scale = pow_pos double.scale in
-    let w = delivered_whole double b m (2 ^ double.scale) answer.high s.status u k.is_delivered in
+    let w = delivered_whole double b m (2 ^ double.scale) answer.high s.status (pow_pos double.scale) k.is_delivered in
     (within_nearest double true (signed b m) answer.high w.0 refl
     (subst (λ (i : ℕ). i ≤ largest double) (sym (magnitude_signed b m)) l)
     (rounded_of double true b m answer.high w.0 p w.1)).is_finite
@@ -292,17 +286,14 @@ pub lossless_split : (x : Datum) (answer : Pair) → IsSplit x answer → IsLoss
 lossless_split (finite b m) answer s member some l =
     let p : 0 < m = ltb-true 0 m some in
     let r = split_exactly b m answer p (within_finite b m answer p l s) s in
-    let o = product_error_on_grid double.precision wide_enough 0 (signed b m) (pos 1) (signed b m)
-    (number answer.high)
+    let o = product_error_on_grid double.precision wide_enough 0 (signed b m) (pos 1) (signed b m) (number answer.high)
     (wide_number b m member.on_grid) r.high_is.nearest in
     let g : IsGridNumber double.precision (number answer.low) =
     on_grid_as (magnitude-sub (number answer.high) (signed b m) ∙ ap magnitude (sym r.low_is.number_is)) o in
     let e = error_eighth double.precision wide_enough (signed b m) (number answer.high) r.high_is.nearest in
     let v = magnitude-sub (number answer.high) (signed b m) in
-    let a : magnitude (number answer.low) ≡ magnitude (signed b m -ℤ number answer.high) =
-    ap magnitude r.low_is.number_is in
     let d = magnitude_signed b m in
-    (r.exactly, member_of answer.low r.low_is.is_finite g (omega (arith, e, v, a, d, l)))
+    (r.exactly, member_of answer.low r.low_is.is_finite g (omega (arith, e, v, ap magnitude r.low_is.number_is, d, l)))
 lossless_split (infinite b) answer s member some l = absurd (false≢true some)
 lossless_split (nan b n) answer s member some l = absurd (false≢true some)
 
@@ -317,8 +308,7 @@ split_zero : (negative : Bool) (answer : Pair) → IsSplit (finite negative 0) a
     → pair_number answer ≡ signed negative 0
 split_zero b answer s =
     let h : answer.high ≡ finite b 0 = s.high_is.value_is in
-    let l : answer.low ≡ positive_zero =
-    s.low_is ∙ ap (λ (d : Datum). low_part (finite b 0) d s.status) h in
+    let l : answer.low ≡ positive_zero = s.low_is ∙ ap (λ (d : Datum). low_part (finite b 0) d s.status) h in
     ap (λ (d : Datum). number d +ℤ number answer.low) h ∙ ap (λ (d : Datum). signed b 0 +ℤ number d) l ∙
     zero_adds b false
 

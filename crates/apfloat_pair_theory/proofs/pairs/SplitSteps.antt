@@ -56,8 +56,7 @@ widened_same b n value m w =
       within = le_trans m.within (lit≤ tt);
       zero_has = λ z. refl;
     } in
-    let c = exactly_converted double wide NearestTiesToEven (finite b n) value w.status w.loses_info
-    w.is_conversion in
+    let c = exactly_converted double wide NearestTiesToEven (finite b n) value w.status w.loses_info w.is_conversion in
     (c n refl t).value_is
 
 -- ---- the difference
@@ -79,8 +78,7 @@ difference_rounded : (negative : Bool) (m n : ℕ) (value : Datum) (status : ℕ
 difference_rounded b m n value status d =
     let s : IsSum wide NearestTiesToEven (finite b m) (finite (not b) n) value status =
     subst (λ (i : Datum). IsSum wide NearestTiesToEven (finite b m) i value status) (negated_is b n) d in
-    subst (λ (z : Bool). IsRounded wide NearestTiesToEven z (signed b m -ℤ signed b n) 1 value status)
-    (no_zero_sign b)
+    subst (λ (z : Bool). IsRounded wide NearestTiesToEven z (signed b m -ℤ signed b n) 1 value status) (no_zero_sign b)
     (subst (λ (e : ℤ). IsRounded wide NearestTiesToEven (zero_sum_sign NearestTiesToEven b (not b)) e 1 value status)
     (plus_negated b m n) s)
 
@@ -148,9 +146,8 @@ some_rest b m high low status p f s =
     let e : high ≡ finite b n = finite_is double b n high refl f k.is_delivered.value_is in
     let r = subst (λ (d : Datum). IsRoundedTo double.precision (signed b m) d) e
     (high_rounded_to b m high w.0 p f w.1) in
-    let t : IsFiniteOf double b n = subst (λ (d : Datum). IsMember double d) e s.is_double in
-    let u : s.widened ≡ finite b n =
-    widened_same b n s.widened t (subst (λ (d : Datum). IsWidened d s.widened) e s.widened_is) in
+    let u : s.widened ≡ finite b n = widened_same b n s.widened (subst (λ (d : Datum). IsMember double d) e s.is_double)
+    (subst (λ (d : Datum). IsWidened d s.widened) e s.widened_is) in
     let d = subst (λ (i : Datum). IsDifference wide NearestTiesToEven (finite b m) i s.rest s.rest_status) u
     s.rest_is in
     let z = rest_exactly b m n s.rest low s.rest_status s.low_status s.low_loses_info
@@ -166,7 +163,6 @@ rest_by_steps (finite b (suc m)) high low status f s =
     some_rest b (suc m) high low status (omega arith) (finite_number high f) s
 rest_by_steps (infinite b) high low status f s =
     absurd (false≢true (ap is_finite_non_zero (sym s.high_is.value_is) ∙ f))
-rest_by_steps (nan b q) high low status f s =
-    absurd (false≢true (ap is_finite_non_zero (sym s.high_is.value_is) ∙ f))
+rest_by_steps (nan b q) high low status f s = absurd (false≢true (ap is_finite_non_zero (sym s.high_is.value_is) ∙ f))
 
 -- ---- a split by steps

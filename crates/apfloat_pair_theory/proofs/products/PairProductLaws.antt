@@ -41,11 +41,9 @@ nothing v h = omega (arith, ints, h)
 zero_close : (precision parts : ℕ) (exact v : ℤ) → 0 < parts → magnitude exact ≡ 0
     → IsCloseFraction precision parts exact v → v ≡ pos 0
 zero_close precision parts exact v u z h =
-    let s = fraction_size parts exact v in
     nothing v
     (none_left (2 ^ precision) parts (magnitude v) (magnitude ((v *ℤ pos parts) -ℤ exact)) (pow_pos precision) u
-    (omega (arith, h, z))
-    (omega (arith, s, z)))
+    (omega (arith, h, z)) (omega (arith, fraction_size parts exact v, z)))
 
 -- the rounded product and what the steps add to it are the exact product
 exact_steps : (precision : ℕ) → 8 ≤ 2 ^ precision → (scale : ℕ) (a c x ad bc t tau : ℤ)
@@ -55,8 +53,7 @@ exact_steps precision wide scale a c x ad bc t tau w za zb nt l =
     let ev = zero_close precision (2 ^ scale) ad l.v (pow_pos scale) za l.v_close in
     let ew = zero_close precision (2 ^ scale) bc l.w (pow_pos scale) zb l.w_close in
     let sum : (l.v +ℤ l.w) ≡ pos 0 = omega (arith, ints, ev, ew) in
-    let ec = nearest_exact precision (l.v +ℤ l.w) l.cross
-    (on_grid_as (sym (ap magnitude sum)) (zero_on_grid precision))
+    let ec = nearest_exact precision (l.v +ℤ l.w) l.cross (on_grid_as (sym (ap magnitude sum)) (zero_on_grid precision))
     l.cross_is in
     let q : ((x -ℤ t) +ℤ l.cross) ≡ (x -ℤ t) = omega (arith, ints, ec, sum) in
     let o : IsGridNumber precision (x -ℤ t) =
@@ -99,16 +96,14 @@ alone_product : (x y answer : Pair) (status : ℕ) → IsPairProduct NearestTies
 alone_product x y answer status k s t e =
     let ga = member_on_grid x.high s.is_finite s.is_double in
     let gc = member_on_grid y.high t.is_finite t.is_double in
-    let r = in_range (number x.high) (number y.high) ga gc
-    (lengths_of x y 970 1021 1178 3169 e (lit≤ tt) (lit≤ tt)) in
+    let r = in_range (number x.high) (number y.high) ga gc (lengths_of x y 970 1021 1178 3169 e (lit≤ tt) (lit≤ tt)) in
     let n = product_numbers x y answer status r.0 (single_factor x s e.first_is_number)
     (single_factor y t e.second_is_number) r.1 k in
     let zx = single_low x s in
     let zy = single_low y t in
     let v : (n.t +ℤ n.tau) ≡ r.0 =
     exact_steps double.precision wide_enough double.scale (number x.high) (number y.high) r.0 _ _ n.t n.tau r.1.whole
-    (no_product (number x.high) (number y.low) zy) (no_product_first (number x.low) (number y.high) zx) n.t_is
-    n.lost in
+    (no_product (number x.high) (number y.low) zy) (no_product_first (number x.low) (number y.high) zx) n.t_is n.lost in
     record {
       normalised = n.normalised;
       number_is =
@@ -174,22 +169,16 @@ accurate_product x y answer status k s t e =
     let n = product_numbers x y answer status r.0 (normalised_factor x s e.first_is_number)
     (normalised_factor y t e.second_is_number) r.1 k in
     let w = whole_size double.precision double.scale (number x.high) (number y.high) r.0 r.1.whole in
-    let low : 2 ^ 174 ≤ magnitude r.0 = product_low double.scale 174 _ _ (magnitude r.0) 1248 3169 l w (lit≤ tt) in
-    let big = big_enough (2 ^ double.precision) (2 ^ double.scale) _ _ _ _ _ (2 ^ 174) (lit≤ tt) low w (half_high x s)
-    (half_high y t) in
+    let big = big_enough (2 ^ double.precision) (2 ^ double.scale) _ _ _ _ _ (2 ^ 174) (lit≤ tt)
+    (product_low double.scale 174 _ _ (magnitude r.0) 1248 3169 l w (lit≤ tt)) w (half_high x s) (half_high y t) in
     let v = product_bound double.precision double.scale (number x.high) (number x.low) (number y.high)
-    (number y.low) r.0 n.t n.tau
-    wide_enough (number_low x s) (number_low y t) r.1.whole.is n.t_is n.lost big in
-    let m = magnitude-mul (pair_number x) (pair_number y) in
+    (number y.low) r.0 n.t n.tau wide_enough (number_low x s) (number_low y t) r.1.whole.is n.t_is n.lost big in
     let exact : ℤ = pair_number x *ℤ pair_number y in
     record {
       normalised = n.normalised;
       error =
           subst
-          (λ (i : ℤ). magnitude ((i *ℤ pos (2 ^ double.scale)) -ℤ exact) * 2 ^ 102 ≤ magnitude exact)
-          (sym n.number_is)
-          (subst
-          (λ (i : ℕ). magnitude (((n.t +ℤ n.tau) *ℤ pos (2 ^ double.scale)) -ℤ exact) * 2 ^ 102 ≤ i)
-          (sym m)
-          (sixteenth _ _ v));
+          (λ (i : ℤ). magnitude ((i *ℤ pos (2 ^ double.scale)) -ℤ exact) * 2 ^ 102 ≤ magnitude exact) (sym n.number_is)
+          (subst (λ (i : ℕ). magnitude (((n.t +ℤ n.tau) *ℤ pos (2 ^ double.scale)) -ℤ exact) * 2 ^ 102 ≤ i)
+          (sym (magnitude-mul (pair_number x) (pair_number y))) (sixteenth _ _ v));
     }

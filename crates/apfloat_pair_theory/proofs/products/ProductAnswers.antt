@@ -88,8 +88,7 @@ reached x t = omega (arith, grown t x, magnitude-sub x t)
 
 -- the steps after the product of the high parts
 from_steps : (x y : Pair) (t : Datum) (flags : ℕ) (answer : Pair) (status : ℕ) (whole : ℤ) → IsFactor x → IsFactor y
-    → IsInRange (number x.high) (number y.high) whole → is_finite t ≡ true
-    → IsNearest double.precision whole (number t)
+    → IsInRange (number x.high) (number y.high) whole → is_finite t ≡ true → IsNearest double.precision whole (number t)
     → Leads double NearestTiesToEven (number_product x y t flags) answer status → IsProductNumber x y whole answer
 from_steps x y t flags answer status whole a c r is_number nearest lost =
     let v = lost.3 in

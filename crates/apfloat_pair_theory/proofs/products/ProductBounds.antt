@@ -54,12 +54,9 @@ product_losses p u A B C D X Y ev ew V W evw VW T et E w hB hD hA hC h1 h2 h3 h4
     let f₁ : p * E ≤ p * (B * D + ev + ew + u * evw + u * et) = mul-le-mul_left p h9 in
     let f₂ : p * (p * E) ≤ p * (p * (B * D + ev + ew + u * evw + u * et)) = mul-le-mul_left p f₁ in
     total (X * Y) (p * (A * D)) (p * (B * C)) (p * (p * (B * D))) (A * C) (p * (p * ev)) (p * (p * ew)) (p * ev)
-    (p * ew) (p * (p * u))
-    (A * D + ev + B * C + ew) (p * (A * D + ev + B * C + ew)) (p * (u * (p * evw))) (p * (u * (p * et)))
-    (u * (p * evw))
-    (p * (p * E))
-    (omega arith) (omega arith) (omega arith) (omega arith) (omega arith) (omega arith) g₁ g₂ h0
-    (omega arith) s₄ s₃ t₅ s₂ (omega arith)
+    (p * ew) (p * (p * u)) (A * D + ev + B * C + ew) (p * (A * D + ev + B * C + ew)) (p * (u * (p * evw)))
+    (p * (u * (p * et))) (u * (p * evw)) (p * (p * E)) (omega arith) (omega arith) (omega arith) (omega arith)
+    (omega arith) (omega arith) g₁ g₂ h0 (omega arith) s₄ s₃ t₅ s₂ (omega arith)
 
 -- ---- the error of the result, from the losses of the steps
 
@@ -67,12 +64,9 @@ product_losses p u A B C D X Y ev ew V W evw VW T et E w hB hD hA hC h1 h2 h3 h4
 pub five_le : (a b c d e : ℤ)
     → magnitude ((((a +ℤ b) +ℤ c) +ℤ d) -ℤ e) ≤ magnitude e + magnitude c + magnitude d + magnitude b + magnitude a
 five_le a b c d e =
-    let s₁ = magnitude_le a b in
-    let s₂ = magnitude_le (a +ℤ b) c in
-    let s₃ = magnitude_le ((a +ℤ b) +ℤ c) d in
     let s₄ : magnitude ((((a +ℤ b) +ℤ c) +ℤ d) -ℤ e) ≤ magnitude (((a +ℤ b) +ℤ c) +ℤ d) + magnitude e =
     omega (arith, ints, one_side e, one_side (((a +ℤ b) +ℤ c) +ℤ d), one_side ((((a +ℤ b) +ℤ c) +ℤ d) -ℤ e)) in
-    omega (arith, s₁, s₂, s₃, s₄)
+    omega (arith, magnitude_le a b, magnitude_le (a +ℤ b) c, magnitude_le ((a +ℤ b) +ℤ c) d, s₄)
 
 -- the error of a product, as the sum of its parts
 loss_is : (tu tauu xu crossu vu wu dtu dcu ac ad bc bd : ℤ) → tauu ≡ (dtu +ℤ ((xu -ℤ tu) +ℤ crossu))
@@ -121,18 +115,13 @@ losses a b c d x t v w cross tau u e =
     ≡ (((t *ℤ pos u) +ℤ (tau *ℤ pos u)) -ℤ (((a *ℤ c) +ℤ (a *ℤ d)) +ℤ ((b *ℤ c) +ℤ (b *ℤ d)))) =
     ap (λ (i : ℤ). i -ℤ ((a +ℤ b) *ℤ (c +ℤ d))) (sum_times t tau (pos u)) ∙
     ap (λ (i : ℤ). ((t *ℤ pos u) +ℤ (tau *ℤ pos u)) -ℤ i) (four_products a b c d) in
-    let s = five_le (last *ℤ pos u) (crossed *ℤ pos u) ((v *ℤ pos u) -ℤ (a *ℤ d)) ((w *ℤ pos u) -ℤ (b *ℤ c))
-    (b *ℤ d) in
-    let m₁ = scaled_magnitude last u in
+    let s = five_le (last *ℤ pos u) (crossed *ℤ pos u) ((v *ℤ pos u) -ℤ (a *ℤ d)) ((w *ℤ pos u) -ℤ (b *ℤ c)) (b *ℤ d) in
     let m₂ = scaled_magnitude crossed u in
-    let r = subst
-    (λ (i : ℤ). magnitude i ≤ magnitude (b *ℤ d) + distance v u (a *ℤ d) + distance w u (b *ℤ c)
+    let r = subst (λ (i : ℤ). magnitude i ≤ magnitude (b *ℤ d) + distance v u (a *ℤ d) + distance w u (b *ℤ c)
     + magnitude (crossed *ℤ pos u) + magnitude (last *ℤ pos u)) (sym (e₄ ∙ e₃)) s in
-    subst
-    (λ (i : ℕ). distance (t +ℤ tau) u ((a +ℤ b) *ℤ (c +ℤ d))
-    ≤ magnitude (b *ℤ d) + distance v u (a *ℤ d) + distance w u (b *ℤ c) + u * magnitude crossed + i) m₁
-    (subst
-    (λ (i : ℕ). distance (t +ℤ tau) u ((a +ℤ b) *ℤ (c +ℤ d))
+    subst (λ (i : ℕ). distance (t +ℤ tau) u ((a +ℤ b) *ℤ (c +ℤ d))
+    ≤ magnitude (b *ℤ d) + distance v u (a *ℤ d) + distance w u (b *ℤ c) + u * magnitude crossed + i)
+    (scaled_magnitude last u) (subst (λ (i : ℕ). distance (t +ℤ tau) u ((a +ℤ b) *ℤ (c +ℤ d))
     ≤ magnitude (b *ℤ d) + distance v u (a *ℤ d) + distance w u (b *ℤ c) + i + magnitude (last *ℤ pos u)) m₂ r)
 
 -- a bound relative to x quanta, in parts of which a quantum has u
@@ -185,8 +174,7 @@ product_bound precision scale a b c d x t tau wide hb hd e nt l big =
     let cross_lost : ℕ = magnitude (l.cross -ℤ (l.v +ℤ l.w)) in
     let tau_lost : ℕ = magnitude (tau -ℤ ((x -ℤ t) +ℤ l.cross)) in
     let lost : ℕ = distance (t +ℤ tau) (2 ^ scale) ((a +ℤ b) *ℤ (c +ℤ d)) in
-    let h₉ : lost
-    ≤ magnitude b * magnitude d + v_lost + w_lost + 2 ^ scale * cross_lost + 2 ^ scale * tau_lost =
+    let h₉ : lost ≤ magnitude b * magnitude d + v_lost + w_lost + 2 ^ scale * cross_lost + 2 ^ scale * tau_lost =
     subst (λ (i : ℕ). lost ≤ i + v_lost + w_lost + 2 ^ scale * cross_lost + 2 ^ scale * tau_lost) bd
     (losses a b c d x t l.v l.w l.cross tau (2 ^ scale) e) in
     product_losses (2 ^ precision) (2 ^ scale) (magnitude a) (magnitude b) (magnitude c) (magnitude d)

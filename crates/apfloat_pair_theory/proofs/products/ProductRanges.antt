@@ -47,7 +47,6 @@ pub record HaveLengths (m n least greatest : ℕ) : Type 0 where
 pub fewer : (m n least less greatest : ℕ) → less ≤ least → HaveLengths m n least greatest
     → HaveLengths m n less greatest
 fewer m n least less greatest l r =
-    let h = r.not_below in
     record {
       i = r.i;
       j = r.j;
@@ -55,7 +54,7 @@ fewer m n least less greatest l r =
       first_high = r.first_high;
       second_low = r.second_low;
       second_high = r.second_high;
-      not_below = omega (arith, h, l);
+      not_below = omega (arith, r.not_below, l);
       not_above = r.not_above;
     }
 
@@ -166,11 +165,9 @@ twice_reach x w t h e = omega arith
 
 -- if their exponents add up to -970 to 1021, the product of two doubles is in range
 pub in_range : (a c : ℤ) → IsGridNumber double.precision a → IsGridNumber double.precision c
-    → HaveLengths (magnitude a) (magnitude c) 1178 3169
-    → (x : ℤ) × IsInRange a c x
+    → HaveLengths (magnitude a) (magnitude c) 1178 3169 → (x : ℤ) × IsInRange a c x
 in_range a c g h r =
-    let p = places_reach double.precision double.scale (magnitude a) (magnitude c) r.i r.j g h r.first_low
-    r.second_low
+    let p = places_reach double.precision double.scale (magnitude a) (magnitude c) r.i r.j g h r.first_low r.second_low
     r.not_below in
     let w = whole_product double.precision double.scale a c g h p in
     let e = whole_size double.precision double.scale a c w.0 w.1 in

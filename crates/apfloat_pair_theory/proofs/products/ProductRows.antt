@@ -23,14 +23,11 @@ one_times : IsPairProduct NearestTiesToEven (alone (finite false (2 ^ 1074))) on
 one_times =
     step (finite false (2 ^ 1074)) 0 (rounded (2 ^ 52) 1022 refl refl refl)
     (step (finite false 0) 0 (rounded 0 0 refl refl refl)
-    (step (finite false 1) 0 (rounded 1 0 refl refl refl)
-    (step (finite false 0) 0 (rounded 0 0 refl refl refl)
-    (step (finite false 1) 0 (rounded 1 0 refl refl refl)
-    (step (finite false 1) 0 (rounded 1 0 refl refl refl)
+    (step (finite false 1) 0 (rounded 1 0 refl refl refl) (step (finite false 0) 0 (rounded 0 0 refl refl refl)
+    (step (finite false 1) 0 (rounded 1 0 refl refl refl) (step (finite false 1) 0 (rounded 1 0 refl refl refl)
     (step (finite false (2 ^ 1074)) 16 (rounded (2 ^ 52) 1022 refl refl refl)
     (step (finite false 0) 0 (rounded 0 0 refl refl refl)
-    (step (finite false 1) 0 (rounded 1 0 refl refl refl)
-    (refl, refl)))))))))
+    (step (finite false 1) 0 (rounded 1 0 refl refl refl) (refl, refl)))))))))
 
 -- one quantum above -1 times that: the cross products cancel, and the result is -1
 minus_one_times : IsPairProduct NearestTiesToEven (record { high = finite true (2 ^ 1074); low = finite false 1 })
@@ -39,14 +36,11 @@ minus_one_times : IsPairProduct NearestTiesToEven (record { high = finite true (
 minus_one_times =
     step (finite true (2 ^ 1074)) 0 (rounded (2 ^ 52) 1022 refl refl refl)
     (step (finite false 0) 0 (rounded 0 0 refl refl refl)
-    (step (finite true 1) 0 (rounded 1 0 refl refl refl)
-    (step (finite false 1) 0 (rounded 1 0 refl refl refl)
-    (step (finite false 0) 0 (rounded 0 0 refl refl refl)
-    (step (finite false 0) 0 (rounded 0 0 refl refl refl)
+    (step (finite true 1) 0 (rounded 1 0 refl refl refl) (step (finite false 1) 0 (rounded 1 0 refl refl refl)
+    (step (finite false 0) 0 (rounded 0 0 refl refl refl) (step (finite false 0) 0 (rounded 0 0 refl refl refl)
     (step (finite true (2 ^ 1074)) 0 (rounded (2 ^ 52) 1022 refl refl refl)
     (step (finite false 0) 0 (rounded 0 0 refl refl refl)
-    (step (finite false 0) 0 (rounded 0 0 refl refl refl)
-    (refl, refl)))))))))
+    (step (finite false 0) 0 (rounded 0 0 refl refl refl) (refl, refl)))))))))
 
 -- ---- the laws
 

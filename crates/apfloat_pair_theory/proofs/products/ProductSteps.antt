@@ -84,8 +84,7 @@ small_over p u l e x w h k =
     (cases_lt (2 * e) u)
 
 -- the rounded value of a product with a low part is small relative to x
-cross_small : (p u l e x v : ℕ) → 64 ≤ p → 0 < u → 64 ≤ x → 2 * (p * e) ≤ 2 * l + p * u → 64 * l ≤ x * u
-    → v * u ≤ l + e
+cross_small : (p u l e x v : ℕ) → 64 ≤ p → 0 < u → 64 ≤ x → 2 * (p * e) ≤ 2 * l + p * u → 64 * l ≤ x * u → v * u ≤ l + e
     → 32 * v ≤ x
 cross_small p u l e x v w h y i k j =
     let a : 128 * e ≤ x * u + 64 * u = small_over p u l e (x * u) w i k in
@@ -119,12 +118,10 @@ tau_bound x q j t h k l = omega arith
 
 module _ (format : Format) (kind : format.nonfinite ≡ IEEE754) (wide : 64 ≤ 2 ^ format.precision) where
   -- the rounded product with a low part is finite and small
-  cross_product : (x : ℤ) (first second value : Datum) (flags : ℕ) → is_finite first ≡ true → is_finite second ≡ true
-      → 64 ≤ magnitude x
-      → (64 * (size first * size second) ≤ magnitude x * 2 ^ format.scale)
+  cross_product : (x : ℤ) (first second value : Datum) (flags : ℕ) → is_finite first ≡ true
+      → is_finite second ≡ true → 64 ≤ magnitude x → (64 * (size first * size second) ≤ magnitude x * 2 ^ format.scale)
       × (size first * size second ≤ largest format * 2 ^ format.scale)
-      → IsProduct format NearestTiesToEven first second value flags
-      → (is_finite value ≡ true)
+      → IsProduct format NearestTiesToEven first second value flags → (is_finite value ≡ true)
       × IsCloseFraction format.precision (2 ^ format.scale) (number first *ℤ number second) (number value)
       × (32 * size value ≤ magnitude x)
   cross_product x a d v flags fa fd some b h =
@@ -156,8 +153,7 @@ module _ (format : Format) (kind : format.nonfinite ≡ IEEE754) (wide : 64 ≤ 
       st.is_v.1 in
       let pw = cross_product x b c w st.is_w.0 g.finite_b g.finite_c g.some
       (product_le_first (size a) (size c) (size b) (magnitude x) (2 ^ format.scale)
-      (largest format) g.low_first e g.within)
-      st.is_w.1 in
+      (largest format) g.low_first e g.within) st.is_w.1 in
       let within = g.within in
       let s₁ = cross_bound _ _ _ _ pv.2 pw.2 (magnitude_le (number v) (number w)) in
       let nc = sum_within format v w cross st.is_cross.0 kind pv.0 pw.0 (omega (arith, s₁, within)) st.is_cross.1 in

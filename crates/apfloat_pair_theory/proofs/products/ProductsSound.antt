@@ -31,8 +31,7 @@ product_of_numbers_sound x y =
     sound_after (product_sound double x.high y.high) (λ t s f.
     sound_if (is_finite_non_zero t) (number_product x y t s) (ends (alone t) s) (number_product_sound x y t s f) f)
 
-product_of_categories_sound : (first second : Category) (x y : Pair)
-    → AreSound (product_of_categories first second x y)
+product_of_categories_sound : (first second : Category) (x y : Pair) → AreSound (product_of_categories first second x y)
 product_of_categories_sound Normal Normal x y = product_of_numbers_sound x y
 product_of_categories_sound first NaN x y = ok_together
 product_of_categories_sound first second x y = ok_together

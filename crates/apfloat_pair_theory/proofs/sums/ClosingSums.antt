@@ -115,8 +115,7 @@ closed_pair z y flags answer status a (h, h_flags, is_h, is_answer) =
 -- a datum that is +0 has the number 0
 pub zero_number : (datum : Datum) → same_datum datum positive_zero ≡ true → number datum ≡ pos 0
 zero_number (finite b m) h =
-    let p = and_parts (same_sign b false) (eqb m 0) h in
-    ap (λ (n : ℕ). signed b n) (eqb-true m 0 p.1) ∙ no_sign b
+    ap (λ (n : ℕ). signed b n) (eqb-true m 0 (and_parts (same_sign b false) (eqb m 0) h).1) ∙ no_sign b
 zero_number (infinite b) h = absurd (false≢true h)
 zero_number (nan b m) h = absurd (false≢true h)
 

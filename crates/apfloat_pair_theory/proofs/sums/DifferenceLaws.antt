@@ -35,8 +35,7 @@ error_free_difference x y answer status mx my k s t r =
     let n = negated_pair_number y t.is_finite (ap is_finite t.low_is) in
     subst (λ (z : ℤ). IsExactPair z 1 answer)
     (minus_is (pair_number x) (pair_number y) (pair_number (negated_pair y)) n)
-    (error_free_sum x (negated_pair y) answer status mx (negated_member y.high t.is_finite my) k s
-    (negated_single y t)
+    (error_free_sum x (negated_pair y) answer status mx (negated_member y.high t.is_finite my) k s (negated_single y t)
     (second_negated x y r))
 
 -- the difference of normalized pairs is normalized, and close to the exact difference
@@ -44,9 +43,8 @@ pub accurate_difference : (x y answer : Pair) (status : ℕ) → IsPairDifferenc
     → IsAccurateDifference x y answer
 accurate_difference x y answer status k s t r =
     let n = negated_pair_number y t.finite_high t.finite_low in
-    let m : magnitude (pair_number (negated_pair y)) ≡ magnitude (pair_number y) =
-    ap magnitude n ∙ magnitude-neg (pair_number y) in
-    subst (λ (i : ℕ). IsClosePair (pair_number x -ℤ pair_number y) 1 103 (magnitude (pair_number x) + i) answer) m
+    subst (λ (i : ℕ). IsClosePair (pair_number x -ℤ pair_number y) 1 103 (magnitude (pair_number x) + i) answer)
+    (ap magnitude n ∙ magnitude-neg (pair_number y))
     (subst (λ (z : ℤ). IsClosePair z 1 103 (total_size x (negated_pair y)) answer)
     (minus_is (pair_number x) (pair_number y) (pair_number (negated_pair y)) n)
     (accurate_sum x (negated_pair y) answer status k s (negated_normalised y t) (second_negated x y r)))

@@ -67,8 +67,7 @@ pub rounded_low : (x y z : ℤ) → magnitude z ≤ magnitude x + magnitude y + 
 rounded_low x y z = omega (arith, ints, one_side z, one_side x, one_side y, one_side (z -ℤ (x +ℤ y)))
 
 -- if the rounded sum is less than what is added to it, that is at most the second summand
-small_rest : (z e s a aa c cc i x j y : ℕ) → 8 * e ≤ s → s ≤ z + e → 8 * aa ≤ a + aa → 8 * cc ≤ c + cc
-    → 8 * i ≤ e + aa
+small_rest : (z e s a aa c cc i x j y : ℕ) → 8 * e ≤ s → s ≤ z + e → 8 * aa ≤ a + aa → 8 * cc ≤ c + cc → 8 * i ≤ e + aa
     → x ≤ e + aa + i → 8 * j ≤ x + cc → y ≤ x + cc + j → a ≤ s + c → z < y → y ≤ c
 small_rest z e s a aa c cc i x j y h1 h2 h3 h4 h5 h6 h7 h8 h9 h0 = omega arith
 
@@ -94,9 +93,7 @@ module _ (precision : ℕ) (wide : 8 ≤ 2 ^ precision) where
   pub rest_on_grid : (a c z e : ℤ) → IsGridNumber precision a → IsGridNumber precision c
       → IsNearest precision (a +ℤ c) z → e ≡ ((a +ℤ c) -ℤ z) → IsGridNumber precision e
   rest_on_grid a c z e o p n d =
-      let v = error_on_grid precision wide a c z o p n in
-      let m : magnitude (z -ℤ (a +ℤ c)) ≡ magnitude e = omega (arith, ints, one_side (z -ℤ (a +ℤ c)), one_side e) in
-      on_grid_as m v
+      on_grid_as (omega (arith, ints, one_side (z -ℤ (a +ℤ c)), one_side e)) (error_on_grid precision wide a c z o p n)
 
   -- the error of a rounded sum is small relative to the sum
   pub rest_small : (a c z e : ℤ) → IsNearest precision (a +ℤ c) z → e ≡ ((a +ℤ c) -ℤ z)
@@ -107,8 +104,7 @@ module _ (precision : ℕ) (wide : 8 ≤ 2 ^ precision) where
       (relative_error precision (a +ℤ c) z (positive precision wide) n)
 
   -- if both low parts are zero, z and y are the exact sum, and y is the lesser
-  pub exact_opening : (a aa c cc z q v r d e x y : ℤ) → IsGridNumber precision a → IsGridNumber precision c
-      → aa ≡ pos 0
+  pub exact_opening : (a aa c cc z q v r d e x y : ℤ) → IsGridNumber precision a → IsGridNumber precision c → aa ≡ pos 0
       → cc ≡ pos 0 → IsOpening precision a aa c cc z q v r d e x y → ((z +ℤ y) ≡ (a +ℤ c)) × IsShared precision z y
   exact_opening a aa c cc z q v r d e x y o p u w k =
       let f : e ≡ ((a +ℤ c) -ℤ z) = two_sum precision wide a c z q v r d e o p k.six in
@@ -127,22 +123,18 @@ module _ (precision : ℕ) (wide : 8 ≤ 2 ^ precision) where
 
   -- the rounded sum of two multiples is a multiple
   sum_multiple_at : (k : ℕ) (a c z : ℤ) → IsMultiple (2 ^ k) (magnitude a) → IsMultiple (2 ^ k) (magnitude c)
-      → IsNearest precision (a +ℤ c) z
-      → IsMultiple (2 ^ k) (magnitude z)
+      → IsNearest precision (a +ℤ c) z → IsMultiple (2 ^ k) (magnitude z)
   sum_multiple_at k a c z x y n =
       let s = sum_multiple (2 ^ k) a c (pow_pos k) x y in
       ⊎_elim (λ (e : z ≡ a +ℤ c). subst (λ (i : ℤ). IsMultiple (2 ^ k) (magnitude i)) (sym e) s)
-      (λ q. finer_multiple k (magnitude z) q.1)
-      (nearest_cases precision wide k (a +ℤ c) z s n)
+      (λ q. finer_multiple k (magnitude z) q.1) (nearest_cases precision wide k (a +ℤ c) z s n)
 
   -- a number that is above neither of two numbers shares a place with their rounded sum
   shared_below : (a c z y : ℤ) → IsGridNumber precision a → IsGridNumber precision c → IsNearest precision (a +ℤ c) z
-      → IsGridNumber precision y
-      → magnitude y ≤ magnitude a → magnitude y ≤ magnitude c → IsShared precision z y
+      → IsGridNumber precision y → magnitude y ≤ magnitude a → magnitude y ≤ magnitude c → IsShared precision z y
   shared_below a c z y ga gc nz gy la lc =
       let u = common precision a c ga gc in
-      let b = u.bound in
-      shared_at precision u.place z y (sum_multiple_at u.place a c z u.first u.second nz) gy (omega (arith, b))
+      shared_at precision u.place z y (sum_multiple_at u.place a c z u.first u.second nz) gy (omega (arith, u.bound))
 
   -- the error of a rounding is at most an eighth of the number
   pub error_eighth : (x z : ℤ) → IsNearest precision x z → 8 * magnitude (z -ℤ x) ≤ magnitude x
@@ -181,9 +173,7 @@ module _ (precision : ℕ) (wide : 8 ≤ 2 ^ precision) where
       let ey = error_low x cc y ny in
       let bx = rounded_low e aa x in
       let by = rounded_low x cc y in
-      ⊎_elim
-      (λ (q : magnitude z < magnitude y).
-      shared_below a c z y na.on_grid nc.on_grid nz ny.on_grid
+      ⊎_elim (λ (q : magnitude z < magnitude y). shared_below a c z y na.on_grid nc.on_grid nz ny.on_grid
       (small_rest_first _ _ _ _ _ _ _ _ _ _ _ h₁ h₂ la lc ex bx ey by dc q)
       (small_rest _ _ _ _ _ _ _ _ _ _ _ h₁ h₂ la lc ex bx ey by da q))
       (λ (q : magnitude y ≤ magnitude z). shared precision z y nz.on_grid ny.on_grid q)

@@ -51,8 +51,7 @@ at_categories first second x y answer status e g s =
 
 -- either one operand is zero and the other is the result, or both are nonzero
 pub sum_rows : (x y answer : Pair) (status : ℕ) → is_finite x.high ≡ true → is_finite y.high ≡ true
-    → IsPairSum NearestTiesToEven x y answer status
-    → IsGivenBack y x answer status
+    → IsPairSum NearestTiesToEven x y answer status → IsGivenBack y x answer status
     ⊎ (IsGivenBack x y answer status ⊎ Leads double NearestTiesToEven (sum_of_numbers x y) answer status)
 sum_rows x y answer status fx fy s =
     ⊎_elim

@@ -50,21 +50,18 @@ single_summand x s r = record {
 -- a double with low part +0 is a normalized pair
 pub single_normalised : (x : Pair) → IsDoubleAlone x → quanta_of x.high ≤ sum_reach → IsNormalised x
 single_normalised x s r =
-    let w = within_quanta x.high s.is_finite r in
     let n = high_alone double x.high is_ieee s.is_finite (member_on_grid x.high s.is_finite s.is_double)
-    (reach_within sum_reach (largest double) (size x.high) w room) in
+    (reach_within sum_reach (largest double) (size x.high) (within_quanta x.high s.is_finite r) room) in
     normalised_high x s.is_finite (ap is_finite s.low_is)
     (subst (λ (l : Datum). IsHighOf double x.high l) (sym s.low_is) n)
 
 -- for two doubles, z and w are the exact sum
 singles_open : (x y : Pair) (z q v r d e u w : ℤ) → IsDoubleAlone x → IsDoubleAlone y
-    → IsPairOpening x y z q v r d e u w
-    → ((z +ℤ w) ≡ (number x.high +ℤ number y.high)) × IsShared double.precision z w
+    → IsPairOpening x y z q v r d e u w → ((z +ℤ w) ≡ (number x.high +ℤ number y.high)) × IsShared double.precision z w
 singles_open x y z q v r d e u w s t k =
     exact_opening double.precision wide_enough (number x.high) (number x.low) (number y.high)
-    (number y.low) z q v r d e u w
-    (member_on_grid x.high s.is_finite s.is_double) (member_on_grid y.high t.is_finite t.is_double) (single_low x s)
-    (single_low y t) k
+    (number y.low) z q v r d e u w (member_on_grid x.high s.is_finite s.is_double)
+    (member_on_grid y.high t.is_finite t.is_double) (single_low x s) (single_low y t) k
 
 -- adding a pair that is 0 leaves the first pair
 first_back : (a aa c cc : ℤ) → c ≡ pos 0 → cc ≡ pos 0 → (a +ℤ aa) ≡ ((a +ℤ aa) +ℤ (c +ℤ cc))
@@ -97,8 +94,7 @@ summed_exactly x y answer status s t m =
       number_is =
           in_quanta (pair_number answer) (pair_number x +ℤ pair_number y)
           (highs_alone (number x.high) (number x.low) (number y.high) (number y.low) (pair_number answer)
-          (number m.z +ℤ number m.w)
-          (single_low x s) (single_low y t) m.number_is o.0);
+          (number m.z +ℤ number m.w) (single_low x s) (single_low y t) m.number_is o.0);
     }
 
 -- a given result whose number is the exact sum loses nothing
@@ -109,9 +105,8 @@ given_exactly x y given answer e n s =
     (record { normalised = n; number_is = in_quanta (pair_number given) (pair_number x +ℤ pair_number y) s })
 
 -- the sum of two doubles is exact
-alone_sum : (x y answer : Pair) (status : ℕ) → IsPairSum NearestTiesToEven x y answer status
-    → IsDoubleAlone x → IsDoubleAlone y → AreWithinReach x y
-    → IsExactPair (pair_number x +ℤ pair_number y) 1 answer
+alone_sum : (x y answer : Pair) (status : ℕ) → IsPairSum NearestTiesToEven x y answer status → IsDoubleAlone x
+    → IsDoubleAlone y → AreWithinReach x y → IsExactPair (pair_number x +ℤ pair_number y) 1 answer
 alone_sum x y answer status k s t r =
     ⊎_elim
     (λ (g : IsGivenBack y x answer status).
@@ -145,11 +140,10 @@ low_enough t h l a b = omega arith
 normalised_summand : (x : Pair) → IsNormalised x → quanta_of x.high ≤ sum_reach → IsPairSummand x
 normalised_summand x s r =
     let w : magnitude (number x.high) ≤ sum_reach = within_quanta x.high s.finite_high r in
-    let n = normalised_nearest x s in
     record {
       finite_high = s.finite_high;
       finite_low = s.finite_low;
-      on_grid = n.on_grid;
+      on_grid = (normalised_nearest x s).on_grid;
       within = w;
       low_within = low_enough sum_reach (magnitude (number x.high)) (magnitude (number x.low)) (normalised_low x s) w;
     }
@@ -199,8 +193,7 @@ summed_closely x y answer status s t m =
       error =
           close_in_quanta (pair_number answer) (pair_number x +ℤ pair_number y) 103 (total_size x y)
           (subst (λ (i : ℤ). magnitude (i -ℤ (pair_number x +ℤ pair_number y)) * 2 ^ 103 ≤ total_size x y)
-          (sym m.number_is)
-          (small_error _ (total_size x y) b));
+          (sym m.number_is) (small_error _ (total_size x y) b));
     }
 
 -- the sum of normalized pairs is normalized, and close to the exact sum

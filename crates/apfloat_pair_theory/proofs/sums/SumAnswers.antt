@@ -73,13 +73,11 @@ opening_status x y z q v r d e u w a c k o =
     let s₇ = sum_status double u y.low w _ is_ieee digits o.finite_middle c.finite_low o.addend.finite_rest
     k.with_second.1 in
     union_status _ _
-    (union_status _ _ (union_status _ _ (union_status _ _ (union_status _ _ (union_status _ _ s₁ s₂) s₃) s₄) s₅) s₆)
-    s₇
+    (union_status _ _ (union_status _ _ (union_status _ _ (union_status _ _ (union_status _ _ s₁ s₂) s₃) s₄) s₅) s₆) s₇
 
 -- the sum of two pairs whose high parts have a finite sum
-finite_summed : (x y : Pair) (z : Datum) (z_flags : ℕ) (answer : Pair) (status : ℕ) → IsPairSummand x
-    → IsPairSummand y
-    → IsSharing x y → IsSum double NearestTiesToEven x.high y.high z z_flags
+finite_summed : (x y : Pair) (z : Datum) (z_flags : ℕ) (answer : Pair) (status : ℕ)
+    → IsPairSummand x → IsPairSummand y → IsSharing x y → IsSum double NearestTiesToEven x.high y.high z z_flags
     → Leads double NearestTiesToEven (finite_sum x y z z_flags) answer status → IsSummed x y answer status
 finite_summed x y z z_flags answer status a c sh s q =
     let v = q.3 in
@@ -130,8 +128,7 @@ finite_summed x y z z_flags answer status a c sh s q =
 
 -- the sum of two pairs whose high parts are within reach
 pub numbers_summed : (x y answer : Pair) (status : ℕ) → IsPairSummand x → IsPairSummand y → IsSharing x y
-    → Leads double NearestTiesToEven (sum_of_numbers x y) answer status
-    → IsSummed x y answer status
+    → Leads double NearestTiesToEven (sum_of_numbers x y) answer status → IsSummed x y answer status
 numbers_summed x y answer status a c sh (z, z_flags, is_z, is_answer) =
     let h = first_finite double is_ieee wide_enough sum_reach room x.high y.high z z_flags a.finite_high
     c.finite_high a.within c.within is_z in

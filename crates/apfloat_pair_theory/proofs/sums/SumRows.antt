@@ -15,17 +15,13 @@ one_and_smallest : IsPairSum NearestTiesToEven (alone (finite false (2 ^ 1074)))
     (parts_of false (2 ^ 1074) false 1) inexact_bit
 one_and_smallest =
     step (finite false (2 ^ 1074)) 16 (rounded (2 ^ 52) 1022 refl refl refl)
-    (step (finite false 0) 0 (rounded 0 0 refl refl refl)
-    (step (finite false 1) 0 (rounded 1 0 refl refl refl)
+    (step (finite false 0) 0 (rounded 0 0 refl refl refl) (step (finite false 1) 0 (rounded 1 0 refl refl refl)
     (step (finite false (2 ^ 1074)) 0 (rounded (2 ^ 52) 1022 refl refl refl)
-    (step (finite false 0) 0 (rounded 0 0 refl refl refl)
-    (step (finite false 1) 0 (rounded 1 0 refl refl refl)
-    (step (finite false 1) 0 (rounded 1 0 refl refl refl)
-    (step (finite false 1) 0 (rounded 1 0 refl refl refl)
+    (step (finite false 0) 0 (rounded 0 0 refl refl refl) (step (finite false 1) 0 (rounded 1 0 refl refl refl)
+    (step (finite false 1) 0 (rounded 1 0 refl refl refl) (step (finite false 1) 0 (rounded 1 0 refl refl refl)
     (step (finite false (2 ^ 1074)) 16 (rounded (2 ^ 52) 1022 refl refl refl)
     (step (finite false 0) 0 (rounded 0 0 refl refl refl)
-    (step (finite false 1) 0 (rounded 1 0 refl refl refl)
-    (refl, refl)))))))))))
+    (step (finite false 1) 0 (rounded 1 0 refl refl refl) (refl, refl)))))))))))
 
 -- ---- If the low parts cancel the error of the sum of the high parts, the result has no flag, and may not
 -- be exact: this sum loses one quantum.
@@ -51,10 +47,8 @@ loss_without_flag : IsPairSum NearestTiesToEven near far (alone (finite true ((2
 loss_without_flag =
     step (finite true ((2 ^ 52 + 2) * 2 ^ 54)) 16 (rounded (2 ^ 52 + 1) 54 refl refl refl)
     (step (finite false ((2 ^ 52 + 2) * 2 ^ 54)) 16 (rounded (2 ^ 52 + 2) 54 refl refl refl)
-    (step (finite false 0) 0 (rounded 0 0 refl refl refl)
-    (step (finite false 0) 0 (rounded 0 0 refl refl refl)
+    (step (finite false 0) 0 (rounded 0 0 refl refl refl) (step (finite false 0) 0 (rounded 0 0 refl refl refl)
     (step (finite true (2 ^ 53)) 0 (rounded (2 ^ 52) 1 refl refl refl)
     (step (finite false (2 ^ 53)) 0 (rounded (2 ^ 52) 1 refl refl refl)
     (step (finite false (2 ^ 53)) 16 (rounded (2 ^ 52) 1 refl refl refl)
-    (step (finite false 0) 0 (rounded 0 0 refl refl refl)
-    (refl, refl))))))))
+    (step (finite false 0) 0 (rounded 0 0 refl refl refl) (refl, refl))))))))

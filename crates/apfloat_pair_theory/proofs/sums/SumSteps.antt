@@ -169,9 +169,8 @@ closing_last t s e g u v h1 h2 h3 h4 h5 = omega arith
 module _ (format : Format) (kind : format.nonfinite ≡ IEEE754) (wide : 8 ≤ 2 ^ format.precision) (top : ℕ)
     (room : 3 * top ≤ largest format) where
   -- an exact sum or difference of at most twice `top` is rounded to a finite datum
-  sum_of : (x y value : Datum) → is_finite x ≡ true → is_finite y ≡ true
-      → magnitude (number x +ℤ number y) ≤ 2 * top → IsSumStep format x y value
-      → IsRoundedTo format.precision (number x +ℤ number y) value
+  sum_of : (x y value : Datum) → is_finite x ≡ true → is_finite y ≡ true → magnitude (number x +ℤ number y) ≤ 2 * top
+      → IsSumStep format x y value → IsRoundedTo format.precision (number x +ℤ number y) value
   sum_of x y value p q h s = sum_within format x y value s.0 kind p q (within_largest _ _ _ room h) s.1
 
   difference_of : (x y value : Datum) → is_finite x ≡ true → is_finite y ≡ true
@@ -191,9 +190,8 @@ module _ (format : Format) (kind : format.nonfinite ≡ IEEE754) (wide : 8 ≤ 2
       (sum_of a c z fa fc (sum_low _ _ _ _ la lc (magnitude_le (number a) (number c))) (status, x)).is_finite
 
   -- within a third of the largest value, no step overflows
-  pub two_sum_rounded : (a c z q lost_of_c z_again gained lost : Datum)
-      → is_finite a ≡ true → is_finite c ≡ true → size a ≤ top → size c ≤ top
-      → IsTwoSumSteps format a c z q lost_of_c z_again gained lost
+  pub two_sum_rounded : (a c z q lost_of_c z_again gained lost : Datum) → is_finite a ≡ true
+      → is_finite c ≡ true → size a ≤ top → size c ≤ top → IsTwoSumSteps format a c z q lost_of_c z_again gained lost
       → IsTwoSumRounded format.precision a c z q lost_of_c z_again gained lost
   two_sum_rounded a c z q v r d e fa fc la lc x =
       let s₀ = sum_low _ _ _ _ la lc (magnitude_le (number a) (number c)) in
@@ -248,8 +246,7 @@ module _ (format : Format) (kind : format.nonfinite ≡ IEEE754) (wide : 8 ≤ 2
       (eighth _ _ _ wide (rest_small format.precision wide (number a) (number c) _ _ t.roundings.sum is)) in
       let ez = error_low _ _ _ s₀ (error_eighth format.precision wide (number a +ℤ number c) _ t.roundings.sum) in
       let b₁ = magnitude_le (number e) (number aa) in
-      let nx = sum_of e aa x t.finite.last m.finite_low
-      (first_low _ _ _ _ le m.low_within b₁) k.with_first in
+      let nx = sum_of e aa x t.finite.last m.finite_low (first_low _ _ _ _ le m.low_within b₁) k.with_first in
       let g = grown (number e +ℤ number aa) (number x) in
       let s₂ = second_low _ _ _ _ _ _ _ _ le m.low_within b₁ (error_of _ _ nx) g n.low_within
       (magnitude_le (number x) (number cc)) in

@@ -29,8 +29,7 @@ at_test mode test value one other answer status e h =
     subst (λ (b : Bool). Leads double mode (if b then one else other) answer status) e h
 
 pub continued_sound : {A B : Type 0} (steps : Steps A) (next : A → ℕ → Steps B) → AreSound steps
-    → ((given : A) (flags : ℕ) → FlagsGoTogether flags → AreSound (next given flags))
-    → AreSound (continued steps next)
+    → ((given : A) (flags : ℕ) → FlagsGoTogether flags → AreSound (next given flags)) → AreSound (continued steps next)
 continued_sound (ends given flags) next h k = k given flags h
 continued_sound (after outcome more) next h k =
     (h.0, λ datum flags f. continued_sound (more datum flags) next (h.1 datum flags f) k)
@@ -86,8 +85,7 @@ finite_sum_sound x y z flags f =
     (λ zz s g. sound_if (same_datum zz positive_zero) (ends (alone z) ok_bits) (closing z zz (flags ∪ s)) ok_together
     (closing_sound z zz (flags ∪ s) (union_together flags s f g)))
 
-sum_anew_low_sound : (x y : Pair) (z : Datum) (flags : ℕ) → FlagsGoTogether flags
-    → AreSound (sum_anew_low x y z flags)
+sum_anew_low_sound : (x y : Pair) (z : Datum) (flags : ℕ) → FlagsGoTogether flags → AreSound (sum_anew_low x y z flags)
 sum_anew_low_sound x y z flags f =
     sound_after (sum_sound double x.low y.low) (λ zz s g.
     sound_after (difference_sound double (greater x.high y.high) z) (λ left t h.

@@ -76,8 +76,7 @@ exact_of : (f : Format) (s : Bool) (v : ℤ) (p : ℕ) (head tail : Datum) (stat
 exact_of f s v p head tail status g x =
     let left = left_of v 1 s p in
     let q = magnitude left in
-    let e : x.quanta ≡ q =
-    ties_to_zero_once f.precision q 1 x.quanta q x.is_pick
+    let e : x.quanta ≡ q = ties_to_zero_once f.precision q 1 x.quanta q x.is_pick
     (ties_to_zero_exact f.precision q q 1 (lit< tt) g (omega arith)) in
     let h = signed_number f.nonfinite s p in
     let t = signed_number f.nonfinite (sign_of s left) q in
@@ -133,15 +132,13 @@ whole_rest : (f : Format) → 3 ≤ f.precision → (of_zero : Bool) (a c whole 
 whole_rest f h of_zero a c whole exact pick g k d e t =
     let u = pow_pos f.scale in
     let m = ap magnitude (sym e) ∙ magnitude-times whole (2 ^ f.scale) in
-    let t' : IsTiesToZeroPick f.precision (magnitude whole) 1 pick =
-    ties_of_times f.precision (magnitude whole) (2 ^ f.scale) pick u
-    (subst (λ (i : ℕ). IsTiesToZeroPick f.precision i (2 ^ f.scale) pick) m t) in
+    let t' : IsTiesToZeroPick f.precision (magnitude whole) 1 pick = ties_of_times f.precision (magnitude whole)
+    (2 ^ f.scale) pick u (subst (λ (i : ℕ). IsTiesToZeroPick f.precision i (2 ^ f.scale) pick) m t) in
     let s : sign_of of_zero whole ≡ sign_of of_zero exact =
     sym (sign_times of_zero whole (2 ^ f.scale) u) ∙ ap (λ (i : ℤ). sign_of of_zero i) e in
     let n : IsNearest f.precision whole (signed (sign_of of_zero exact) pick) =
     as_nearest f.precision whole (signed (sign_of of_zero exact) pick)
-    (subst (λ (b : Bool). IsNearestTo f.precision whole (signed b pick)) s
-    (pick_is_nearest f of_zero whole pick t')) in
+    (subst (λ (b : Bool). IsNearestTo f.precision whole (signed b pick)) s (pick_is_nearest f of_zero whole pick t')) in
     let w = whole_of f.precision f.scale a c whole (omega (arith, h)) g k (e ∙ sym d) in
     let r = product_error_on_grid f.precision (eight f.precision h) f.scale a c whole
     (signed (sign_of of_zero exact) pick) w n in

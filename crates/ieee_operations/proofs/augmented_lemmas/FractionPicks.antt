@@ -60,12 +60,10 @@ pub gap : (precision amount parts below above : ℕ) → 0 < precision → 0 < p
 gap precision amount parts below above h p l b a =
     let e : 2 ^ precision ≡ 2 * 2 ^ (precision - 1) = sym (twice_half precision h) in
     let r = enclosed_at precision (2 ^ (precision - 1)) amount parts p e in
-    let u : above ≤ (amount / (parts * 2 ^ r.0) + 1) * 2 ^ r.0 =
-    a.least ((amount / (parts * 2 ^ r.0) + 1) * 2 ^ r.0)
+    let u : above ≤ (amount / (parts * 2 ^ r.0) + 1) * 2 ^ r.0 = a.least ((amount / (parts * 2 ^ r.0) + 1) * 2 ^ r.0)
     (next_on_grid precision (2 ^ (precision - 1)) (amount / (parts * 2 ^ r.0)) r.0 e r.1.fits)
     (omega (arith, r.1.to)) in
-    let v : amount / (parts * 2 ^ r.0) * 2 ^ r.0 ≤ below =
-    b.greatest (amount / (parts * 2 ^ r.0) * 2 ^ r.0)
+    let v : amount / (parts * 2 ^ r.0) * 2 ^ r.0 ≤ below = b.greatest (amount / (parts * 2 ^ r.0) * 2 ^ r.0)
     (multiple_on_grid precision (amount / (parts * 2 ^ r.0)) r.0 r.1.fits) r.1.from in
     let w = unit_at_most precision (2 ^ (precision - 1)) (amount / (parts * 2 ^ r.0)) r.0 amount parts h refl r.1 l
     r.1.full in
@@ -142,8 +140,7 @@ not_half_in : (negative odd above : Bool) (low high amount parts e : ℕ)
 not_half_in negative odd true low high amount parts e t l h q n =
     let w = even_nearer negative odd (amount - low * parts) (high * parts - amount) t in
     let k : e * parts ≡ high * parts = ap (λ (x : ℕ). x * parts) q in
-    ⊎_elim
-    (λ (c : (low + high) * parts < 2 * amount). q ∙ sym (takes_high_by low high amount parts l h c))
+    ⊎_elim (λ (c : (low + high) * parts < 2 * amount). q ∙ sym (takes_high_by low high amount parts l h c))
     (λ (c : 2 * amount ≤ (low + high) * parts). absurd (n (omega (arith, w, c, k, l, h))))
     (cases_lt ((low + high) * parts) (2 * amount))
 not_half_in negative odd false low high amount parts e t l h q n =
@@ -244,12 +241,8 @@ distance head amount parts = apart amount (head * parts)
 pub distance_fraction : (head amount parts : ℕ) → IsFractionPick amount parts
     → IsFractionPick (distance head amount parts) parts
 distance_fraction head amount parts n = record {
-  not_whole = λ k e.
-      ⊎_elim
-      (λ (q : amount < head * parts).
-      fewer k (omega (arith, e, q)) q e)
-      (λ (q : head * parts ≤ amount). n.not_whole (head + k) (omega (arith, e, q)))
-      (cases_lt amount (head * parts));
+  not_whole = λ k e. ⊎_elim (λ (q : amount < head * parts). fewer k (omega (arith, e, q)) q e)
+      (λ (q : head * parts ≤ amount). n.not_whole (head + k) (omega (arith, e, q))) (cases_lt amount (head * parts));
 } where
   fewer : (k : ℕ) → k * parts ≤ head * parts → amount < head * parts → k * parts ≡ distance head amount parts → ⊥
   fewer k w q e =
@@ -339,8 +332,7 @@ next_in f h s amount parts e p l x b =
     let g = next_on_grid f.precision (2 ^ (f.precision - 1)) m c d (greatest_fits f.nonfinite f.precision) in
     let some' : largest f * parts < x.above * parts = omega (arith, x.is_above.not_below, l) in
     let some : largest f < x.above = lt_of_mul-lt-mul_right parts some' in
-    let lower : (m + 1) * 2 ^ c ≤ x.above =
-    none_between f.precision (2 ^ (f.precision - 1)) m c x.above d
+    let lower : (m + 1) * 2 ^ c ≤ x.above = none_between f.precision (2 ^ (f.precision - 1)) m c x.above d
     (inr (greatest_full f.nonfinite f.precision h)) x.is_above.on_grid (omega (arith, some)) in
     ⊎_elim
     (λ (q : (m + 1) * 2 ^ c * parts < amount).

@@ -88,9 +88,8 @@ small_product precision scale m n p g h q =
     let e : m * n ≡ (g.significand * 2 ^ g.place) * (h.significand * 2 ^ h.place) =
     ap (λ (i : ℕ). i * n) a ∙ ap (λ (i : ℕ). (g.significand * 2 ^ g.place) * i) b in
     let w : 2 ^ (g.place + h.place) ≡ 2 ^ g.place * 2 ^ h.place = pow-add 2 g.place h.place in
-    let e' : (g.significand * h.significand) * 2 ^ (g.place + h.place)
-    ≡ (g.significand * h.significand) * (2 ^ g.place * 2 ^ h.place) =
-    ap (λ (i : ℕ). (g.significand * h.significand) * i) w in
+    let e' : (g.significand * h.significand) * 2 ^ (g.place + h.place) ≡ (g.significand * h.significand)
+    * (2 ^ g.place * 2 ^ h.place) = ap (λ (i : ℕ). (g.significand * h.significand) * i) w in
     let f = mul-lt g.significand h.significand (2 ^ precision) (2 ^ precision) g.fits h.fits in
     let f' = mul-lt-mul_of_pos_right f (pow_pos (g.place + h.place)) in
     let t : 2 * 2 ^ (g.place + h.place) ≤ 2 ^ scale = half_at_most (g.place + h.place) scale q in

@@ -67,11 +67,10 @@ tail_is f s p head (finite b zero) left e h =
     (ap (λ (d : Datum). zero_sign f.nonfinite (is_negative d)) e ∙ sign_of_head f.nonfinite s p)
     ∙ ap (λ (i : ℤ). signed_quanta f.nonfinite (sign_of s i) (magnitude i)) (sym z)
 tail_is f s p head (finite b (suc n)) left e h =
-    ap (λ (t : Bool). cond t (copy_sign f zero_datum head) (finite b (suc n))) (not_zero (suc n) (omega arith)) ∙
-    sym (ap (λ (i : ℤ). signed_quanta f.nonfinite (sign_of s i) (magnitude i)) (sym h.number_is)
+    ap (λ (t : Bool). cond t (copy_sign f zero_datum head) (finite b (suc n))) (not_zero (suc n) (omega arith))
+    ∙ sym (ap (λ (i : ℤ). signed_quanta f.nonfinite (sign_of s i) (magnitude i)) (sym h.number_is)
     ∙ ap (λ (c : Bool). signed_quanta f.nonfinite c (magnitude (signed b (suc n))))
-    (sign_signed s b (suc n) (omega arith))
-    ∙ ap (λ (k : ℕ). signed_quanta f.nonfinite b k) (magnitude_signed b (suc n))
+    (sign_signed s b (suc n) (omega arith)) ∙ ap (λ (k : ℕ). signed_quanta f.nonfinite b k) (magnitude_signed b (suc n))
     ∙ signed_some f.nonfinite b (suc n) (omega arith))
 tail_is f s p head (infinite b) left e h = absurd (false≢true h.is_finite)
 tail_is f s p head (nan b n) left e h = absurd (false≢true h.is_finite)
@@ -327,12 +326,11 @@ half_left f of_zero v left unit h u l e =
     away s (magnitude v) (largest f) (half_unit f)
     (subst (λ (z : ℤ). magnitude (z -ℤ signed s (largest f)) ≡ half_unit f) (sym (signed_exact of_zero v)) k) l
 
-pub no_half_left : (f : Format) → 3 ≤ f.precision → 1 ≤ f.span → (of_zero : Bool) (v : ℤ) (left unit : Datum)
-    (status : ℕ) → unit ≡ finite false (half_unit f)
+pub no_half_left : (f : Format) → 3 ≤ f.precision
+    → 1 ≤ f.span → (of_zero : Bool) (v : ℤ) (left unit : Datum) (status : ℕ) → unit ≡ finite false (half_unit f)
     → (status ≡ ok_bits → HasNumber (v -ℤ signed (sign_of of_zero v) (largest f)) left)
     → (IsNearestTo f.precision v (signed (sign_of of_zero v) (largest f)) → status ≡ ok_bits)
-    → (status ≡ ok_bits → is_equal (abs f left) unit ≡ false)
-    → magnitude v ≡ largest f + half_unit f → ⊥
+    → (status ≡ ok_bits → is_equal (abs f left) unit ≡ false) → magnitude v ≡ largest f + half_unit f → ⊥
 no_half_left f h k of_zero v left unit status u exact nearest differs e =
     let s = sign_of of_zero v in
     let o = nearest (pick_is_nearest f of_zero v (largest f) (at_half f h k (magnitude v) e)) in

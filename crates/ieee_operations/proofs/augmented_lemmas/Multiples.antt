@@ -26,9 +26,8 @@ not_apart x y h = omega (arith, ints, h, one_side (x -ℤ y))
 -- a factor above 0 can be cancelled
 pub times_cancelled : (a b : ℤ) (u : ℕ) → 0 < u → (a *ℤ pos u) ≡ (b *ℤ pos u) → a ≡ b
 times_cancelled a b u p e =
-    let z : magnitude (a -ℤ b) * u ≡ 0 =
-    sym (magnitude-times (a -ℤ b) u) ∙ ap magnitude (difference_times a b (pos u)) ∙
-    same_apart (a *ℤ pos u) (b *ℤ pos u) e in
+    let z : magnitude (a -ℤ b) * u ≡ 0 = sym (magnitude-times (a -ℤ b) u) ∙ ap magnitude (difference_times a b (pos u))
+    ∙ same_apart (a *ℤ pos u) (b *ℤ pos u) e in
     let l : magnitude (a -ℤ b) * u ≤ 0 * u = omega (arith, z) in
     not_apart a b (le_of_mul-le-mul_right l p)
 
@@ -143,9 +142,8 @@ pub left_times : (whole exact : ℤ) (parts : ℕ) (negative : Bool) (pick : ℕ
     → (left_of whole 1 negative pick *ℤ pos parts) ≡ left_of exact parts negative pick
 left_times whole exact parts s pick e =
     let one : pick * 1 * parts ≡ pick * parts = omega arith in
-    difference_times whole (signed s (pick * 1)) (pos parts) ∙
-    ap (λ (i : ℤ). i -ℤ (signed s (pick * 1) *ℤ pos parts)) e ∙
-    ap (λ (i : ℤ). exact -ℤ i) (sym (signed_times s (pick * 1) parts) ∙ ap (λ (k : ℕ). signed s k) one)
+    difference_times whole (signed s (pick * 1)) (pos parts) ∙ ap (λ (i : ℤ). i -ℤ (signed s (pick * 1) *ℤ pos parts)) e
+    ∙ ap (λ (i : ℤ). exact -ℤ i) (sym (signed_times s (pick * 1) parts) ∙ ap (λ (k : ℕ). signed s k) one)
 
 eqb_times : (m n parts : ℕ) → 0 < parts → eqb (m * parts) (n * parts) ≡ eqb (m * 1) n
 eqb_times m n parts p =
@@ -180,8 +178,7 @@ module _ (f : Format) (whole exact : ℤ) (parts : ℕ) (some : 0 < parts) (is :
             (ties_times f.precision (magnitude left) parts x.quanta some x.is_pick);
         tail_is = x.tail_is ∙ ap (λ (c : Bool). signed_quanta f.nonfinite c x.quanta) g;
         status_is = x.status_is ∙ ap (λ (c : Bool). if c then ok_bits else underflow_bit + inexact_bit)
-            (sym (eqb_times x.quanta (magnitude left) parts some)
-            ∙ ap (λ (i : ℕ). eqb (x.quanta * parts) i) m);
+            (sym (eqb_times x.quanta (magnitude left) parts some) ∙ ap (λ (i : ℕ). eqb (x.quanta * parts) i) m);
       }
 
   pub with_tail_of_times : (s : Bool) (pick : ℕ) (head tail : Datum) (status : ℕ)
@@ -215,9 +212,8 @@ module _ (f : Format) (whole exact : ℤ) (parts : ℕ) (some : 0 < parts) (is :
       → IsAugmented f of_zero whole 1 head tail status → IsAugmented f other exact parts head tail status
   augmented_times of_zero other head tail status p x =
       let m : magnitude whole * parts ≡ magnitude exact = sym (magnitude-times whole parts) ∙ ap magnitude is in
-      let g : sign_of of_zero whole ≡ sign_of other exact =
-      sym (sign_times of_zero whole parts some) ∙ ap (λ (i : ℤ). sign_of of_zero i) is ∙
-      sign_some of_zero other exact p in
+      let g : sign_of of_zero whole ≡ sign_of other exact = sym (sign_times of_zero whole parts some)
+      ∙ ap (λ (i : ℤ). sign_of of_zero i) is ∙ sign_some of_zero other exact p in
       record {
         pick = x.pick;
         is_pick = subst (λ (i : ℕ). IsTiesToZeroPick f.precision i parts x.pick) m

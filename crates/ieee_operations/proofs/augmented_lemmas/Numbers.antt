@@ -58,8 +58,7 @@ finite_within f s p value h e =
     ⊎_elim
     (λ (q : largest f < p).
     absurd (false≢true (sym (ap is_finite (e ∙ past_is f s p q) ∙ past_not_finite f.nonfinite (nan_base f) s) ∙ h)))
-    (λ (q : p ≤ largest f). q)
-    (cases_lt (largest f) p)
+    (λ (q : p ≤ largest f). q) (cases_lt (largest f) p)
 
 pub past_without : (f : Format) (negative : Bool) (p : ℕ) (value : Datum) → is_finite value ≡ false
     → value ≡ delivered_value f NearestTiesToEven negative p → largest f < p
@@ -80,8 +79,7 @@ pub record IsRoundedExactly (exact : ℤ) (value : Datum) (status : ℕ) : Type 
 
 -- a number of the format is rounded exactly
 pub fraction_exactly : (f : Format) (mode : Round) (of_zero : Bool) (z exact : ℤ) (parts : ℕ) (value : Datum)
-    (status : ℕ) → 0 < parts → IsOnGrid f.precision (magnitude z) → magnitude z ≤ largest f
-    → (z *ℤ pos parts) ≡ exact
+    (status : ℕ) → 0 < parts → IsOnGrid f.precision (magnitude z) → magnitude z ≤ largest f → (z *ℤ pos parts) ≡ exact
     → IsRounded f mode of_zero exact parts value status → IsRoundedExactly z value status
 fraction_exactly f mode of_zero z exact parts value status p g l e h =
     let m : magnitude exact ≡ magnitude z * parts = ap magnitude (sym e) ∙ magnitude-times z parts in
@@ -116,8 +114,7 @@ lost_not_ok : (tiny : Bool) → (cond tiny (underflow_bit + inexact_bit) inexact
 lost_not_ok true e = omega (arith, e)
 lost_not_ok false e = omega (arith, e)
 
-pub ok_tests : (past exact out tiny : Bool)
-    → (cond past (cond out (overflow_bit + inexact_bit) inexact_bit)
+pub ok_tests : (past exact out tiny : Bool) → (cond past (cond out (overflow_bit + inexact_bit) inexact_bit)
     (cond exact ok_bits (cond tiny (underflow_bit + inexact_bit) inexact_bit))) ≡ ok_bits
     → (past ≡ false) × (exact ≡ true)
 ok_tests true exact out tiny e = absurd (past_not_ok out e)

@@ -31,13 +31,10 @@ short_in f h x y short j nx ny sum =
     let s = sign_of (zero_sum_sign NearestTiesToEven (is_negative x) (is_negative y)) (number x +ℤ number y) in
     let r = sum_rounded f TowardZero x y short j nx.is_finite ny.is_finite sum in
     ⊎_elim
-    (λ (q : largest f < r.pick).
-    quanta_in f s (largest f) short (largest_on_grid f) (omega arith)
+    (λ (q : largest f < r.pick). quanta_in f s (largest f) short (largest_on_grid f) (omega arith)
     (r.value_is ∙ short_is f s r.pick q ∙ sym (signed_some f.nonfinite s (largest f) (largest_some f h))))
-    (λ (q : r.pick ≤ largest f).
-    quanta_in f s r.pick short (on_grid_as (sym r.is_pick.is) r.is_pick.is_below.on_grid) q
-    (r.value_is ∙ within_is f TowardZero s r.pick q))
-    (cases_lt (largest f) r.pick)
+    (λ (q : r.pick ≤ largest f). quanta_in f s r.pick short (on_grid_as (sym r.is_pick.is) r.is_pick.is_below.on_grid) q
+    (r.value_is ∙ within_is f TowardZero s r.pick q)) (cases_lt (largest f) r.pick)
 
 -- a head within the largest value and what it leaves are the two results
 finish : (f : Format) → 3 ≤ f.precision → (x y : Datum) → IsAugmentedNumber f x → IsAugmentedNumber f y → (p : ℕ)
@@ -79,17 +76,16 @@ head_is_short f h x y near short rest left other i j rest_status nx ny sum short
     finish f h x y nx ny a.lower p a.lower_within short left head tail status a.short_is l hd tl ok
 
 -- the sum to nearest is the head
-pub head_is_near : (f : Format) → 3 ≤ f.precision → (x y near short rest left other : Datum)
-    (i j rest_status left_status : ℕ)
-    → IsAugmentedNumber f x → IsAugmentedNumber f y → IsSum f NearestTiesToEven x y near i
-    → IsSum f TowardZero x y short j → IsAugmentedNumber f near
-    → (rest_status ≡ ok_bits → HasNumber ((number x +ℤ number y) -ℤ number near) rest)
+pub head_is_near : (f : Format) → 3 ≤ f.precision
+    → (x y near short rest left other : Datum) (i j rest_status left_status : ℕ) → IsAugmentedNumber f x
+    → IsAugmentedNumber f y → IsSum f NearestTiesToEven x y near i → IsSum f TowardZero x y short j
+    → IsAugmentedNumber f near → (rest_status ≡ ok_bits → HasNumber ((number x +ℤ number y) -ℤ number near) rest)
     → (IsNearestTo f.precision (number x +ℤ number y) (number near) → rest_status ≡ ok_bits)
     → (left_status ≡ ok_bits → HasNumber ((number x +ℤ number y) -ℤ number short) left)
     → (IsNearestTo f.precision (number x +ℤ number y) (number short) → left_status ≡ ok_bits)
     → other ≡ negated f.nonfinite rest → (left_status ≡ ok_bits → is_equal left other ≡ false)
-    → (head tail : Datum) (status : ℕ) → head ≡ near → tail ≡ with_sign f near rest
-    → status ≡ ok_bits → IsAugmentedSum f x y head tail status
+    → (head tail : Datum) (status : ℕ) → head ≡ near → tail ≡ with_sign f near rest → status ≡ ok_bits
+    → IsAugmentedSum f x y head tail status
 head_is_near f h x y near short rest left other i j rest_status left_status nx ny sum shorter nn exact nearest
     left_exact left_nearest o differs head tail status hd tl ok =
     let v = number x +ℤ number y in
@@ -130,14 +126,12 @@ sum_past f h x y near short i j nx ny sum shorter nn =
     }
 
 -- the largest value is the head: the sum is halfway past it
-pub head_is_largest : (f : Format) → 3 ≤ f.precision → 1 ≤ f.span → (x y near short left magnitude_of_left unit : Datum)
-    (i j : ℕ)
-    → IsAugmentedNumber f x → IsAugmentedNumber f y → IsSum f NearestTiesToEven x y near i
-    → IsSum f TowardZero x y short j → is_finite near ≡ false
-    → HasNumber ((number x +ℤ number y) -ℤ number short) left → magnitude_of_left ≡ abs f left
-    → unit ≡ finite false (half_unit f) → is_equal magnitude_of_left unit ≡ true
-    → (head tail : Datum) (status : ℕ) → head ≡ short → tail ≡ with_sign f short left
-    → status ≡ ok_bits → IsAugmentedSum f x y head tail status
+pub head_is_largest : (f : Format) → 3 ≤ f.precision
+    → 1 ≤ f.span → (x y near short left magnitude_of_left unit : Datum) (i j : ℕ) → IsAugmentedNumber f x
+    → IsAugmentedNumber f y → IsSum f NearestTiesToEven x y near i → IsSum f TowardZero x y short j
+    → is_finite near ≡ false → HasNumber ((number x +ℤ number y) -ℤ number short) left → magnitude_of_left ≡ abs f left
+    → unit ≡ finite false (half_unit f) → is_equal magnitude_of_left unit ≡ true → (head tail : Datum) (status : ℕ)
+    → head ≡ short → tail ≡ with_sign f short left → status ≡ ok_bits → IsAugmentedSum f x y head tail status
 head_is_largest f h k x y near short left magnitude_of_left unit i j nx ny sum shorter nn l m u e head tail status hd
     tl ok =
     let v = number x +ℤ number y in
@@ -152,16 +146,14 @@ head_is_largest f h k x y near short left magnitude_of_left unit i j nx ny sum s
     (n.short_is ∙ sym (signed_some f.nonfinite s (largest f) (largest_some f h))) l hd tl ok
 
 -- the head is past the largest value
-pub head_is_past : (f : Format) → 3 ≤ f.precision → 1 ≤ f.span → (x y near short left magnitude_of_left unit : Datum)
-    (i j left_status : ℕ)
-    → IsAugmentedNumber f x → IsAugmentedNumber f y → IsSum f NearestTiesToEven x y near i
-    → IsSum f TowardZero x y short j → is_finite near ≡ false
-    → (left_status ≡ ok_bits → HasNumber ((number x +ℤ number y) -ℤ number short) left)
+pub head_is_past : (f : Format) → 3 ≤ f.precision → 1 ≤ f.span
+    → (x y near short left magnitude_of_left unit : Datum) (i j left_status : ℕ) → IsAugmentedNumber f x
+    → IsAugmentedNumber f y → IsSum f NearestTiesToEven x y near i → IsSum f TowardZero x y short j
+    → is_finite near ≡ false → (left_status ≡ ok_bits → HasNumber ((number x +ℤ number y) -ℤ number short) left)
     → (IsNearestTo f.precision (number x +ℤ number y) (number short) → left_status ≡ ok_bits)
     → magnitude_of_left ≡ abs f left → unit ≡ finite false (half_unit f)
-    → (left_status ≡ ok_bits → is_equal magnitude_of_left unit ≡ false)
-    → (head tail : Datum) (status : ℕ) → head ≡ near → tail ≡ near
-    → status ≡ overflow_bit + inexact_bit → IsAugmentedSum f x y head tail status
+    → (left_status ≡ ok_bits → is_equal magnitude_of_left unit ≡ false) → (head tail : Datum) (status : ℕ) → head ≡ near
+    → tail ≡ near → status ≡ overflow_bit + inexact_bit → IsAugmentedSum f x y head tail status
 head_is_past f h k x y near short left magnitude_of_left unit i j left_status nx ny sum shorter nn exact nearest m u
     differs head tail status hd tl ok =
     let v = number x +ℤ number y in

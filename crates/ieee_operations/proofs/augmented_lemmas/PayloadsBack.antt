@@ -59,9 +59,8 @@ cleared_is : (p a c k : ℕ) → k < 2 ^ (p - 2) → bit_and a 1 ≡ 1 → a ≡
 cleared_is p a c k l o e =
     let u = 2 ^ (p - 2) in
     let one : 2 ^ (p - 2) ≡ 1 * 2 ^ (p - 2) + 0 = omega arith in
-    let b : bit_and (a * u + k) u ≡ 1 * u + 0 =
-    ap (λ (n : ℕ). bit_and (a * u + k) n) one ∙ and_block (p - 2) a 1 k 0 l (pow_pos (p - 2))
-    ∙ ap (λ (n : ℕ). n * u + bit_and k 0) o ∙ ap (λ (n : ℕ). 1 * u + n) (and_zero_r k) in
+    let b : bit_and (a * u + k) u ≡ 1 * u + 0 = ap (λ (n : ℕ). bit_and (a * u + k) n) one ∙ and_block (p - 2) a 1 k 0 l
+    (pow_pos (p - 2)) ∙ ap (λ (n : ℕ). n * u + bit_and k 0) o ∙ ap (λ (n : ℕ). 1 * u + n) (and_zero_r k) in
     let f : a * u ≡ (2 * c + 1) * u = ap (λ (n : ℕ). n * u) e in
     omega (arith, b, f)
 

@@ -150,16 +150,14 @@ signed_minus false a b c e = omega (arith, ints, e)
 
 -- Halfway past the largest value, what that value leaves is exact.
 half_is_exact : (f : Format) → 3 ≤ f.precision → (of_zero s : Bool) (exact : ℤ) (parts : ℕ) (x y short rest : Datum)
-    (j : ℕ) → 0 < parts → parts ≡ 2 ^ f.scale → exact ≡ (number x *ℤ number y)
-    → signed s (magnitude exact) ≡ exact → short ≡ finite s (largest f)
-    → IsRounded f NearestTiesToEven of_zero (rest_of_product f x y short) parts rest j
+    (j : ℕ) → 0 < parts → parts ≡ 2 ^ f.scale → exact ≡ (number x *ℤ number y) → signed s (magnitude exact) ≡ exact
+    → short ≡ finite s (largest f) → IsRounded f NearestTiesToEven of_zero (rest_of_product f x y short) parts rest j
     → magnitude exact ≡ (largest f + half_unit f) * parts → j ≡ ok_bits
 half_is_exact f h of_zero s exact parts x y short rest j p u e d is r amount =
     let k : (signed s (half_unit f) *ℤ pos parts) ≡ (exact -ℤ (signed s (largest f) *ℤ pos parts)) =
-    sym (signed_times s (half_unit f) parts) ∙
-    signed_minus s (magnitude exact) (largest f * parts) (half_unit f * parts) (omega (arith, amount)) ∙
-    ap (λ (i : ℤ). i -ℤ signed s (largest f * parts)) d ∙
-    ap (λ (i : ℤ). exact -ℤ i) (signed_times s (largest f) parts) in
+    sym (signed_times s (half_unit f) parts) ∙ signed_minus s (magnitude exact) (largest f * parts)
+    (half_unit f * parts) (omega (arith, amount)) ∙ ap (λ (i : ℤ). i -ℤ signed s (largest f * parts)) d
+    ∙ ap (λ (i : ℤ). exact -ℤ i) (signed_times s (largest f) parts) in
     let n : (exact -ℤ (signed s (largest f) *ℤ pos parts)) ≡ rest_of_product f x y short =
     ap (λ (i : ℤ). i -ℤ (signed s (largest f) *ℤ pos parts)) e ∙
     ap (λ (i : ℤ). (number x *ℤ number y) -ℤ (i *ℤ pos parts)) (sym (ap number is)) ∙

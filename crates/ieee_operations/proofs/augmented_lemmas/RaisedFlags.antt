@@ -11,11 +11,9 @@ use Rattle.apfloat_model.proofs.rounding.FlagsTogether.{product_together, inexac
 use Rattle.ieee_operations.specs.augmented.Augmented.{left_of, IsPastLargest, IsWithTail, IsAugmented, AreBoth}
 use Rattle.ieee_operations.proofs.augmented_lemmas.Cases.{OfEachOperation, of_each}
 
-past_or_not : (f : Format) (negative : Bool) (exact : ℤ) (parts pick : ℕ) (head tail : Datum) (status : ℕ)
-    (test : Bool)
+past_or_not : (f : Format) (negative : Bool) (exact : ℤ) (parts pick : ℕ) (head tail : Datum) (status : ℕ) (test : Bool)
     → MatchBool test (IsPastLargest f negative head tail status)
-    (IsWithTail f negative exact parts pick head tail status)
-    → FlagsGoTogether status
+    (IsWithTail f negative exact parts pick head tail status) → FlagsGoTogether status
 past_or_not f negative exact parts pick head tail status true x =
     subst FlagsGoTogether (sym x.status_is) (inexact_together (overflow_bit + inexact_bit) (lit< tt))
 past_or_not f negative exact parts pick head tail status false x =

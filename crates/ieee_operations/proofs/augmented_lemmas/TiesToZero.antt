@@ -76,8 +76,7 @@ pub from_half : (precision : ℕ) (negative : Bool) (amount e t : ℕ)
 from_half precision negative amount e t x y h =
     let s = short_is_below precision negative amount 1 e t x y in
     from_pick precision negative amount e t x
-    (s ∙ half _ x.below x.above amount e x.is_below.not_above x.is_above.not_below x.is
-    (h ∙ ap (λ (z : ℕ). e + z) s))
+    (s ∙ half _ x.below x.above amount e x.is_below.not_above x.is_above.not_below x.is (h ∙ ap (λ (z : ℕ). e + z) s))
 
 -- ---- no grid number is nearer
 
@@ -104,7 +103,6 @@ pub signed_nearest : (precision : ℕ) (negative : Bool) (amount p : ℕ) → Is
     → IsNearestTo precision (signed negative amount) (signed negative p)
 signed_nearest precision s amount p g near = record {
   on_grid = on_grid_as (sym (magnitude_signed s p)) g;
-  nearest = λ other o.
-      subst (λ (i : ℕ). i ≤ magnitude (other -ℤ signed s amount)) (sym (signed_apart s p amount))
+  nearest = λ other o. subst (λ (i : ℕ). i ≤ magnitude (other -ℤ signed s amount)) (sym (signed_apart s p amount))
       (le_trans (near (magnitude other) o) (signed_far s other amount));
 }

@@ -90,9 +90,8 @@ no_whole : (f : Format) → 3 ≤ f.precision → (x y near : Datum) → IsNearP
 no_whole f h x y near a nn lost = record {
   not_whole = λ whole e.
       let w : (signed (sign_of_product x y) whole *ℤ pos (2 ^ f.scale)) ≡ (number x *ℤ number y) =
-      sym (signed_times (sign_of_product x y) whole (2 ^ f.scale)) ∙
-      ap (λ (n : ℕ). signed (sign_of_product x y) n) e ∙
-      signed_exact (product_sign (is_negative x) (is_negative y)) (number x *ℤ number y) in
+      sym (signed_times (sign_of_product x y) whole (2 ^ f.scale)) ∙ ap (λ (n : ℕ). signed (sign_of_product x y) n) e
+      ∙ signed_exact (product_sign (is_negative x) (is_negative y)) (number x *ℤ number y) in
       exact_whole f h x y near a nn lost (signed (sign_of_product x y) whole) w;
 }
 
@@ -174,11 +173,10 @@ twice_rounded f x y head left k nx q nh lx lh t =
     let d : (number t.double_head *ℤ pos (2 ^ f.scale))
     ≡ ((number head *ℤ pos (2 ^ f.scale)) +ℤ (number head *ℤ pos (2 ^ f.scale))) =
     ap (λ (i : ℤ). i *ℤ pos (2 ^ f.scale)) b.number_is ∙ sum_times (number head) (number head) (pos (2 ^ f.scale)) in
-    let w : rest_of_product f t.double y t.double_head
-    ≡ (rest_of_product f x y head +ℤ rest_of_product f x y head) =
-    ap (λ (i : ℤ). i -ℤ (number t.double_head *ℤ pos (2 ^ f.scale))) e ∙
-    ap (λ (i : ℤ). ((number x *ℤ number y) +ℤ (number x *ℤ number y)) -ℤ i) d ∙
-    twice_left_is (number x *ℤ number y) (number head *ℤ pos (2 ^ f.scale)) in
+    let w : rest_of_product f t.double y t.double_head ≡ (rest_of_product f x y head +ℤ rest_of_product f x y head) =
+    ap (λ (i : ℤ). i -ℤ (number t.double_head *ℤ pos (2 ^ f.scale))) e
+    ∙ ap (λ (i : ℤ). ((number x *ℤ number y) +ℤ (number x *ℤ number y)) -ℤ i) d
+    ∙ twice_left_is (number x *ℤ number y) (number head *ℤ pos (2 ^ f.scale)) in
     (r.0, subst (λ (i : ℤ). IsRounded f NearestTiesToEven r.0 i (2 ^ f.scale) left k) w r.1)
 
 -- what a head of `pick` quanta leaves of the product, and its magnitude
@@ -251,10 +249,9 @@ module _ (f : Format) (x y near short left : Datum) (k : ℕ) (t : IsTiny f x y 
       let e : magnitude (number left) * 2 ^ f.scale ≡ 2 * magnitude (rest_of_product f x y short) =
       sym (magnitude-times (number left) (2 ^ f.scale)) ∙ ap magnitude h.parts_are ∙
       magnitude_double (rest_of_product f x y short) in
-      let r : magnitude (rest_of_product f x y short)
-      ≡ distance t.picks.lower (magnitude (exact_of x y)) (2 ^ f.scale) =
-      ap magnitude (rest_is f x y short (sign_of_product x y) t.picks.lower short_number) ∙
-      left_magnitude (product_sign (is_negative x) (is_negative y)) (exact_of x y) (2 ^ f.scale) t.picks.lower in
+      let r : magnitude (rest_of_product f x y short) ≡ distance t.picks.lower (magnitude (exact_of x y))
+      (2 ^ f.scale) = ap magnitude (rest_is f x y short (sign_of_product x y) t.picks.lower short_number)
+      ∙ left_magnitude (product_sign (is_negative x) (is_negative y)) (exact_of x y) (2 ^ f.scale) t.picks.lower in
       let b = lower_parts in
       omega (arith, e, r, t.picks.is_even.is_below.not_above, b)
 
@@ -268,8 +265,7 @@ module _ (f : Format) (x y near short left : Datum) (k : ℕ) (t : IsTiny f x y 
       let b : j * 2 ^ 0 ≤ largest f = below_top f j 0 t.precise l (omega (arith, t.wide)) in
       let d : rest_of_product f x y short
       ≡ (signed s (magnitude (exact_of x y)) -ℤ signed s (t.picks.lower * 2 ^ f.scale)) =
-      rest_is f x y short s t.picks.lower short_number ∙
-      ap (λ (i : ℤ). i -ℤ signed s (t.picks.lower * 2 ^ f.scale))
+      rest_is f x y short s t.picks.lower short_number ∙ ap (λ (i : ℤ). i -ℤ signed s (t.picks.lower * 2 ^ f.scale))
       (sym (signed_exact (product_sign (is_negative x) (is_negative y)) (exact_of x y))) in
       let w : (signed (sign_of_product x y) j *ℤ pos (2 ^ f.scale))
       ≡ (rest_of_product f x y short +ℤ rest_of_product f x y short) =
@@ -365,8 +361,7 @@ module _ (f : Format) (x y near short left : Datum) (k : ℕ) (t : IsTiny f x y 
       → (pick ≡ t.picks.is_even.above) ⊎ (pick ≡ t.picks.is_even.below)
       → IsTiesToZeroPick f.precision (magnitude (exact_of x y)) (2 ^ f.scale) pick
       → ((negative : Bool) (amount q : ℕ) → amount ≡ distance pick (magnitude (exact_of x y)) (2 ^ f.scale)
-      → IsPick f.precision mode negative amount (2 ^ f.scale) q
-      → IsTiesToZeroPick f.precision amount (2 ^ f.scale) q)
+      → IsPick f.precision mode negative amount (2 ^ f.scale) q → IsTiesToZeroPick f.precision amount (2 ^ f.scale) q)
       → (head tail : Datum) (status : ℕ) → HasRoundedTail f mode x y given head tail status
       → IsAugmentedProduct f x y head tail status
   tail_is given pick mode nh e l side p picks head tail status w₀ =
@@ -377,14 +372,12 @@ module _ (f : Format) (x y near short left : Datum) (k : ℕ) (t : IsTiny f x y 
       let n = ap number e ∙ (signed_number f.nonfinite (sign_of_product x y) pick).number_is in
       let z = left_of (exact_of x y) (2 ^ f.scale) (sign_of_product x y) pick in
       let r : IsRounded f mode r₀.0 (left_of (exact_of x y) (2 ^ f.scale) (sign_of_product x y) pick) (2 ^ f.scale) tail
-      w₀.tail_status =
-      subst (λ (i : ℤ). IsRounded f mode r₀.0 i (2 ^ f.scale) tail w₀.tail_status)
+      w₀.tail_status = subst (λ (i : ℤ). IsRounded f mode r₀.0 i (2 ^ f.scale) tail w₀.tail_status)
       (rest_is f x y given (sign_of_product x y) pick n) r₀.1 in
       let m = left_magnitude of_zero (exact_of x y) (2 ^ f.scale) pick in
       let c = distance_fraction pick (magnitude (exact_of x y)) (2 ^ f.scale) t.fraction in
       let differs : r.pick * 2 ^ f.scale ≡ magnitude z → ⊥ = λ d. c.not_whole r.pick (d ∙ m) in
-      let some : 0 < magnitude z =
-      ⊎_elim (λ (d : 0 < magnitude z). d)
+      let some : 0 < magnitude z = ⊎_elim (λ (d : 0 < magnitude z). d)
       (λ (d : magnitude z ≤ 0). absurd (c.not_whole 0 (omega (arith, d, m)))) (cases_lt 0 (magnitude z)) in
       let within : r.pick ≤ largest f =
       tail_within mode (sign_of r₀.0 z) (magnitude z) r.pick (omega (arith, m, at_most pick side)) r.is_pick in

@@ -25,8 +25,7 @@ use Rattle.rustc_apfloat.specs.double_double_operations.PairConversions.{IsConve
 regrouped : (x y z : ℕ) → x * y * z ≡ x * (y * z)
 regrouped x y z = omega arith
 
-below_of : (precision point a b w : ℕ) → 0 < w → IsBelow precision point (a * w) (b * w)
-    → IsBelow precision point a b
+below_of : (precision point a b w : ℕ) → 0 < w → IsBelow precision point (a * w) (b * w) → IsBelow precision point a b
 below_of precision point a b w p x = record {
   on_grid = x.on_grid;
   not_above = le_of_mul-le-mul_right (subst (λ (k : ℕ). k ≤ a * w) (sym (regrouped point b w)) x.not_above) p;
@@ -34,13 +33,11 @@ below_of precision point a b w p x = record {
       x.greatest other g (subst (λ (k : ℕ). k ≤ a * w) (regrouped other b w) (mul-le-mul_right w l));
 }
 
-above_of : (precision point a b w : ℕ) → 0 < w → IsAbove precision point (a * w) (b * w)
-    → IsAbove precision point a b
+above_of : (precision point a b w : ℕ) → 0 < w → IsAbove precision point (a * w) (b * w) → IsAbove precision point a b
 above_of precision point a b w p x = record {
   on_grid = x.on_grid;
   not_below = le_of_mul-le-mul_right (subst (λ (k : ℕ). a * w ≤ k) (sym (regrouped point b w)) x.not_below) p;
-  least = λ other g l.
-      x.least other g (subst (λ (k : ℕ). a * w ≤ k) (regrouped other b w) (mul-le-mul_right w l));
+  least = λ other g l. x.least other g (subst (λ (k : ℕ). a * w ≤ k) (regrouped other b w) (mul-le-mul_right w l));
 }
 
 pick_of : (precision : ℕ) (mode : Round) (negative : Bool) (a b w m : ℕ) → 0 < w
@@ -85,10 +82,8 @@ eqb_times x y w p =
 
 leb_times : (x y w : ℕ) → 0 < w → leb x y ≡ leb (x * w) (y * w)
 leb_times x y w p =
-    ⊎_elim
-    (λ (l : y < x). lt-leb x y l ∙ sym (lt-leb (x * w) (y * w) (mul-lt-mul_of_pos_right l p)))
-    (λ (l : x ≤ y). le-leb x y l ∙ sym (le-leb (x * w) (y * w) (mul-le-mul_right w l)))
-    (cases_lt y x)
+    ⊎_elim (λ (l : y < x). lt-leb x y l ∙ sym (lt-leb (x * w) (y * w) (mul-lt-mul_of_pos_right l p)))
+    (λ (l : x ≤ y). le-leb x y l ∙ sym (le-leb (x * w) (y * w) (mul-le-mul_right w l))) (cases_lt y x)
 
 -- whether x is rounded to at most l, where h is the next number
 abbrev rounds_low : Round → Bool → ℕ → ℕ → ℕ → Bool
@@ -99,10 +94,8 @@ rounds_low_times : (mode : Round) (negative : Bool) (x l h w : ℕ) → 0 < w
 rounds_low_times mode negative x l h w p =
     ap (λ (t : Bool). t || (ltb x h && not (takes_above mode negative (x - l) (h - x) true))) (leb_times x l w p)
     ∙ ap (λ (t : Bool). leb (x * w) (l * w) || (t && not (takes_above mode negative (x - l) (h - x) true)))
-    (ltb_times x h w p)
-    ∙ ap (λ (t : Bool). leb (x * w) (l * w) || (ltb (x * w) (h * w) && not t))
-    (takes_scaled mode negative true (x - l) (h - x) w p)
-    ∙ ap (λ (k : ℕ). leb (x * w) (l * w)
+    (ltb_times x h w p) ∙ ap (λ (t : Bool). leb (x * w) (l * w) || (ltb (x * w) (h * w) && not t))
+    (takes_scaled mode negative true (x - l) (h - x) w p) ∙ ap (λ (k : ℕ). leb (x * w) (l * w)
     || (ltb (x * w) (h * w) && not (takes_above mode negative k ((h - x) * w) true))) (less_scaled x l w)
     ∙ ap (λ (k : ℕ). leb (x * w) (l * w)
     || (ltb (x * w) (h * w) && not (takes_above mode negative (x * w - l * w) k true))) (less_scaled h x w)
@@ -111,8 +104,7 @@ below_normal_times : (precision : ℕ) (mode : Round) (negative : Bool) (a b w :
     → rounds_below_normal precision mode negative a b ≡ rounds_below_normal precision mode negative (a * w) (b * w)
 below_normal_times precision mode negative a b w p =
     rounds_low_times mode negative (2 * a) ((2 ^ precision - 1) * b) (2 ^ precision * b) w p
-    ∙ ap (λ (k : ℕ). rounds_low mode negative k ((2 ^ precision - 1) * b * w) (2 ^ precision * b * w))
-    (regrouped 2 a w)
+    ∙ ap (λ (k : ℕ). rounds_low mode negative k ((2 ^ precision - 1) * b * w) (2 ^ precision * b * w)) (regrouped 2 a w)
     ∙ ap (λ (k : ℕ). rounds_low mode negative (2 * (a * w)) k (2 ^ precision * b * w))
     (regrouped (2 ^ precision - 1) b w)
     ∙ ap (λ (k : ℕ). rounds_low mode negative (2 * (a * w)) ((2 ^ precision - 1) * (b * w)) k)
@@ -122,8 +114,7 @@ tiny_times : (f : Format) (mode : Round) (negative : Bool) (a b pick w : ℕ) �
     → is_tiny f mode negative a b pick ≡ is_tiny f mode negative (a * w) (b * w) pick
 tiny_times f mode negative a b pick w p =
     ap (λ (t : Bool). if f.tiny_before_rounding then t
-    else (if f.ieee_flags then rounds_below_normal f.precision mode negative a b
-    else ltb pick (smallest_normalized f)))
+    else (if f.ieee_flags then rounds_below_normal f.precision mode negative a b else ltb pick (smallest_normalized f)))
     (ltb_times a (smallest_normalized f * b) w p
     ∙ ap (λ (k : ℕ). ltb (a * w) k) (regrouped (smallest_normalized f) b w))
     ∙ ap (λ (t : Bool). if f.tiny_before_rounding then ltb (a * w) (smallest_normalized f * (b * w))
@@ -134,14 +125,12 @@ status_times : (f : Format) (mode : Round) (negative : Bool) (a b pick w : ℕ) 
     → delivered_status f mode negative a b pick ≡ delivered_status f mode negative (a * w) (b * w) pick
 status_times f mode negative a b pick w p =
     ap (λ (t : Bool). if ltb (largest f) pick
-    then (if raises_overflow f mode negative then overflow_bit + inexact_bit else inexact_bit)
-    else (if t then ok_bits
+    then (if raises_overflow f mode negative then overflow_bit + inexact_bit else inexact_bit) else (if t then ok_bits
     else (if is_tiny f mode negative a b pick then underflow_bit + inexact_bit else inexact_bit)))
     (eqb_times (pick * b) a w p ∙ ap (λ (k : ℕ). eqb k (a * w)) (regrouped pick b w))
     ∙ ap (λ (t : Bool). if ltb (largest f) pick
     then (if raises_overflow f mode negative then overflow_bit + inexact_bit else inexact_bit)
-    else (if eqb (pick * (b * w)) (a * w) then ok_bits
-    else (if t then underflow_bit + inexact_bit else inexact_bit)))
+    else (if eqb (pick * (b * w)) (a * w) then ok_bits else (if t then underflow_bit + inexact_bit else inexact_bit)))
     (tiny_times f mode negative a b pick w p)
 
 -- a common factor of the amount and the parts changes nothing
@@ -168,12 +157,10 @@ rounded_sum g mode left right m n t value status h =
     let given = (exact *ℤ pos u) *ℤ pos q in
     let total = exact *ℤ pos q in
     let e : (signed left (m * u) +ℤ signed right (n * u)) ≡ (exact *ℤ pos u) =
-    ap (λ (z : ℤ). z +ℤ signed right (n * u)) (signed_times left m u)
-    ∙ ap (λ (z : ℤ). (signed left m *ℤ pos u) +ℤ z) (signed_times right n u)
-    ∙ sym (sum_times (signed left m) (signed right n) (pos u)) in
-    let sign : sign_of of_zero given ≡ sign_of of_zero total =
-    sign_times of_zero (exact *ℤ pos u) q (pow_pos g.scale) ∙ sign_times of_zero exact u (pow_pos t)
-    ∙ sym (sign_times of_zero exact q (pow_pos g.scale)) in
+    ap (λ (z : ℤ). z +ℤ signed right (n * u)) (signed_times left m u) ∙ ap (λ (z : ℤ). (signed left m *ℤ pos u) +ℤ z)
+    (signed_times right n u) ∙ sym (sum_times (signed left m) (signed right n) (pos u)) in
+    let sign : sign_of of_zero given ≡ sign_of of_zero total = sign_times of_zero (exact *ℤ pos u) q (pow_pos g.scale)
+    ∙ sign_times of_zero exact u (pow_pos t) ∙ sym (sign_times of_zero exact q (pow_pos g.scale)) in
     let amount : magnitude given ≡ magnitude total * u =
     magnitude-times (exact *ℤ pos u) q ∙ ap (λ (k : ℕ). k * q) (magnitude-times exact u)
     ∙ swapped_factors (magnitude exact) u q ∙ ap (λ (k : ℕ). k * u) (sym (magnitude-times exact q)) in
@@ -207,8 +194,6 @@ chosen false P Q e h = absurd (false≢true e)
 
 pub number_delivered : (g : Format) (mode : Round) (x : Pair) (value : Datum) (status : ℕ)
     → IsPairTo g mode x value status → IsPairNumberTo g mode x value status
-number_delivered g mode x value status h = λ some low.
-    parts_rounded double g mode x.high x.low value status
+number_delivered g mode x value status h = λ some low. parts_rounded double g mode x.high x.low value status
     (chosen (is_finite_non_zero x.high) (IsSumTo double double g mode x.high x.low value status)
-    (IsConvertedAnyway double g mode x.high value status) some h)
-    (finite_of x.high some) low
+    (IsConvertedAnyway double g mode x.high value status) some h) (finite_of x.high some) low

@@ -51,8 +51,7 @@ fraction_turns x value exponent normal member h =
 
 -- the machine negation of the exponent of a fraction is its negation
 pub fraction_turned : (x value : Datum) (exponent : ℤ) → category_of x ≡ Normal → IsMember double x
-    → IsFrexp double x value exponent
-    → to_z w32 (of_z w32 (pos 0 -ℤ to_z w32 (of_z w32 exponent))) ≡ neg_ℤ exponent
+    → IsFrexp double x value exponent → to_z w32 (of_z w32 (pos 0 -ℤ to_z w32 (of_z w32 exponent))) ≡ neg_ℤ exponent
 fraction_turned x value exponent normal member h =
     let n = double_within x value exponent normal member h in
     let e : (pos 0 -ℤ exponent) ≡ neg_ℤ exponent = omega (arith, ints) in

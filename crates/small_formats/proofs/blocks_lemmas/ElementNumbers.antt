@@ -57,9 +57,8 @@ pub record IsNumberIn (f : Format) (quanta : ℕ) : Type 0 where
   pub within : quanta ≤ largest f
 
 -- of a biased exponent and a trailing significand
-implied_in : (f : Format) (negative : Bool) (biased trailing : ℕ) → 0 < f.precision
-    → trailing < 2 ^ (f.precision - 1) → trailing ≤ largest f
-    → (1 ≤ biased → (2 ^ (f.precision - 1) + trailing) * 2 ^ (biased - 1) ≤ largest f)
+implied_in : (f : Format) (negative : Bool) (biased trailing : ℕ) → 0 < f.precision → trailing < 2 ^ (f.precision - 1)
+    → trailing ≤ largest f → (1 ≤ biased → (2 ^ (f.precision - 1) + trailing) * 2 ^ (biased - 1) ≤ largest f)
     → IsNumberIn f (quanta_of (if eqb biased 0 then finite negative trailing
     else finite negative ((2 ^ (f.precision - 1) + trailing) * 2 ^ (biased - 1))))
 implied_in f negative zero trailing some fits low top =

@@ -34,14 +34,12 @@ code_of_element_once E5M2 code other l k e =
     encoded_once (format_with e5m2_constants) (layout_with e5m2_constants) (element_datum E5M2 other) code other
     e5m2_interchange
     (subst (λ (x : Datum). IsEncodedBy (format_with e5m2_constants) (layout_with e5m2_constants) code x) e
-    (e5m2_encoded code l))
-    (e5m2_encoded other k)
+    (e5m2_encoded code l)) (e5m2_encoded other k)
 code_of_element_once E4M3FN code other l k e =
     encoded_once (format_with e4m3fn_constants) (layout_with e4m3fn_constants) (element_datum E4M3FN other) code other
     e4m3fn_interchange
     (subst (λ (x : Datum). IsEncodedBy (format_with e4m3fn_constants) (layout_with e4m3fn_constants) code x) e
-    (e4m3fn_encoded code l))
-    (e4m3fn_encoded other k)
+    (e4m3fn_encoded code l)) (e4m3fn_encoded other k)
 code_of_element_once E3M2FN code other l k e =
     code_once e3m2fn code other (element_datum E3M2FN other) (lawful_from_test e3m2fn refl) l k e refl
 code_of_element_once E2M3FN code other l k e =
@@ -49,9 +47,8 @@ code_of_element_once E2M3FN code other l k e =
 code_of_element_once E2M1FN code other l k e =
     code_once e2m1fn code other (element_datum E2M1FN other) (lawful_from_test e2m1fn refl) l k e refl
 
-pub element_once : (element : ElementFormat) (mode : Round) (negative : Bool)
-    (amount parts code other status flags : ℕ) → code < 2 ^ width element → other < 2 ^ width element
-    → IsElement element mode negative amount parts code status
+pub element_once : (element : ElementFormat) (mode : Round) (negative : Bool) (amount parts code other status flags : ℕ)
+    → code < 2 ^ width element → other < 2 ^ width element → IsElement element mode negative amount parts code status
     → IsElement element mode negative amount parts other flags → (code ≡ other) × (status ≡ flags)
 element_once element mode b amount parts code other status flags l k x y =
     let g = format_of_element element in

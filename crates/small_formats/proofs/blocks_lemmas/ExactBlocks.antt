@@ -19,8 +19,7 @@ use Rattle.small_formats.proofs.blocks_lemmas.ExactProducts.{HasProducts, exact_
 
 -- the product of a scale and a number
 product_is : (element : ElementFormat) (g : Format) (mode : Round) (scale : ℕ) (x value : Datum) (status : ℕ)
-    → (scale ≡ 255 → ⊥) → is_finite x ≡ true
-    → MatchBool (eqb scale nan_code) (IsAnswer (qnan g 0) ok_bits value status)
+    → (scale ≡ 255 → ⊥) → is_finite x ≡ true → MatchBool (eqb scale nan_code) (IsAnswer (qnan g 0) ok_bits value status)
     (IsProductTo (format_of_element element) scale_format g mode x (scale_of scale) value status)
     → (b : Bool) × (x ≡ finite b (quanta_of x)) × IsDelivered g mode b (quanta_of x * 2 ^ scale * 2 ^ g.scale)
     (2 ^ ((format_of_element element).scale + 127)) value status
@@ -64,8 +63,7 @@ scaled_exactly element g mode scale code value status below narrow number has h 
           let b : 2 ^ (scale + g.scale) ≡ 2 ^ scale * 2 ^ g.scale = pow-add 2 scale g.scale in
           let c : 2 ^ k * 2 ^ (f.scale + 127) ≡ 2 ^ scale * 2 ^ g.scale = sym a ∙ ap (λ (n : ℕ). 2 ^ n) places ∙ b in
           (let z : quanta_of x * 2 ^ k * 2 ^ (f.scale + 127) ≡ quanta_of x * (2 ^ k * 2 ^ (f.scale + 127)) =
-          omega arith in z)
-          ∙ ap (λ (n : ℕ). quanta_of x * n) c ∙ omega arith;
+          omega arith in z) ∙ ap (λ (n : ℕ). quanta_of x * n) c ∙ omega arith;
       status_is = exact.status_is;
     }
 
@@ -85,13 +83,10 @@ exact_into_single element scale top mode code value status narrow number h =
     scaled_exactly element (format_with single_constants) mode scale code value status (omega (arith, top, some)) narrow
     number
     (room_in element (format_with single_constants) scale refl (lit≤ tt) (omega (arith, s.quantum))
-    (omega (arith, top)))
-    h
+    (omega (arith, top))) h
 
 pub exact_into_bfloat : IsExactIntoBFloat
 exact_into_bfloat element scale top quantum mode code value status narrow number h =
     let some = (short element).exponents_low in
     scaled_exactly element (format_with bfloat_constants) mode scale code value status (omega (arith, top, some)) narrow
-    number
-    (room_in element (format_with bfloat_constants) scale refl (lit≤ tt) quantum (omega (arith, top)))
-    h
+    number (room_in element (format_with bfloat_constants) scale refl (lit≤ tt) quantum (omega (arith, top))) h

@@ -32,8 +32,7 @@ half_member c code law precise quantum room =
     mul-le-mul_right (2 ^ k) (omega (arith, most, largest_point c law)) in
     let together : (2 ^ c.precision - 1) * 2 ^ f.span * 2 ^ k ≡ (2 ^ c.precision - 1) * 2 ^ (f.span + k) =
     (let z : (2 ^ c.precision - 1) * 2 ^ f.span * 2 ^ k ≡ (2 ^ c.precision - 1) * (2 ^ f.span * 2 ^ k) =
-    omega arith in z)
-    ∙ ap (λ (n : ℕ). (2 ^ c.precision - 1) * n) (sym (pow-add 2 f.span k)) in
+    omega arith in z) ∙ ap (λ (n : ℕ). (2 ^ c.precision - 1) * n) (sym (pow-add 2 f.span k)) in
     let top = top_below c.precision (f.span + k) 11 29 precise (omega (arith, room, quantum)) in
     record {
       on_grid = wider_grid c.precision 11 (m * 2 ^ k) precise

@@ -81,8 +81,7 @@ joint_exact p span scale mode b m n value status has grid within single h =
     let same : m * n * 2 ^ 0 ≡ m * n = omega arith in
     exact_product double_format mode b (p + 24) (span + 253) (scale + 149) 0 (m * n) value status has
     (product_on_grid p 24 m n grid single.on_grid) (product_within p 24 span 253 m n within single.within)
-    (subst (λ (x : ℕ). IsDelivered double_format mode b (x * 2 ^ 1074) (2 ^ (scale + 149)) value status)
-    (sym same) h)
+    (subst (λ (x : ℕ). IsDelivered double_format mode b (x * 2 ^ 1074) (2 ^ (scale + 149)) value status) (sym same) h)
 
 -- ---- a scale times the tensor's
 

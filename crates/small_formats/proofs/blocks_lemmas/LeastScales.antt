@@ -34,8 +34,7 @@ pub record IsClamped (place scale top code : ℕ) : Type 0 where
   pub low : 0 < code → code + scale + top ≤ place + 127
   pub high : code < 254 → place + 127 ≤ code + scale + top
 
-pub clamped : (place scale top code : ℕ) → code ≡ min (up (pos place -ℤ pos scale -ℤ pos top +ℤ pos 127))
-    254
+pub clamped : (place scale top code : ℕ) → code ≡ min (up (pos place -ℤ pos scale -ℤ pos top +ℤ pos 127)) 254
     → IsClamped place scale top code
 clamped place scale top code e =
     let z : ℤ = pos place -ℤ pos scale -ℤ pos top +ℤ pos 127 in
@@ -242,8 +241,7 @@ leads E2M1FN = refl
 
 -- the flag of overflow in a status that is delivered
 overflow_bit_is : (past raises exact tiny : Bool) → raises ≡ true
-    → not (eqb (bit_and (if past then (if raises then 20 else 16) else
-    (if exact then 0 else (if tiny then 24 else 16)))
+    → not (eqb (bit_and (if past then (if raises then 20 else 16) else (if exact then 0 else (if tiny then 24 else 16)))
     4) 0) ≡ past
 overflow_bit_is true true exact tiny e = refl
 overflow_bit_is false true true tiny e = refl
@@ -398,17 +396,14 @@ middle_pick p t amount parts pick some room positive below is =
     let one : 0 < half = pow_pos (p - 1) in
     let double : 2 ^ p ≡ 2 * half = sym (twice_half p some) in
     let full : m + 1 ≡ 2 * half = omega (arith, one) in
-    let end : 2 ^ t ≡ (m + 1) * 2 ^ c =
-    ap (λ (k : ℕ). 2 ^ k) (let e : t ≡ p + c = omega (arith, room) in e) ∙ pow-add 2 p c
-    ∙ ap (λ (k : ℕ). k * 2 ^ c) (double ∙ sym full) in
+    let end : 2 ^ t ≡ (m + 1) * 2 ^ c = ap (λ (k : ℕ). 2 ^ k) (let e : t ≡ p + c = omega (arith, room) in e)
+    ∙ pow-add 2 p c ∙ ap (λ (k : ℕ). k * 2 ^ c) (double ∙ sym full) in
     let power : 2 ^ (p + 1) ≡ 2 * (m + 1) = twice_power p ∙ ap (λ (k : ℕ). 2 * k) (double ∙ sym full) in
     let last : 2 ^ (p + 1) - 1 ≡ 2 * m + 1 = omega (arith, power) in
     let here : eqb pick ((m + 1) * 2 ^ c) ≡ leb ((2 * m + 1) * ((m + 1) * 2 ^ c) * parts) (amount * (2 * (m + 1))) =
     ⊎_elim
-    (λ (l : m * 2 ^ c * parts < amount).
-    between p half m c amount parts pick double full one positive
+    (λ (l : m * 2 ^ c * parts < amount). between p half m c amount parts pick double full one positive
     (subst (λ (k : ℕ). amount < k * parts) end below) l is)
-    (λ (l : amount ≤ m * 2 ^ c * parts).
-    not_above p m c amount parts pick positive (omega (arith, double, full)) l is)
+    (λ (l : amount ≤ m * 2 ^ c * parts). not_above p m c amount parts pick positive (omega (arith, double, full)) l is)
     (cases_lt (m * 2 ^ c * parts) amount) in
     rw (last, power, end) here

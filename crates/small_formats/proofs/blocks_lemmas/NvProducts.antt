@@ -22,8 +22,7 @@ element_room : HasProducts double_format 26 255 150 0
 element_room = record { kind = refl; digits = lit≤ tt; quantum = lit≤ tt; room = lit≤ tt }
 
 -- an element times the tensor's scale, in double
-pub element_by : (mode : Round) (code tensor : ℕ) (value : Datum) (status : ℕ)
-    → IsFiniteOf single_format false tensor
+pub element_by : (mode : Round) (code tensor : ℕ) (value : Datum) (status : ℕ) → IsFiniteOf single_format false tensor
     → IsProductOf double_format mode (seen (format_of_element E2M1FN) double_format (element_datum E2M1FN code))
     (number false tensor 149) value status
     → value ≡ finite (is_negative_code e2m1fn code) (quanta_in code * tensor * 2 ^ (1074 - 150))
@@ -42,10 +41,9 @@ joint_fraction n q t g k s u e =
 
 -- that times the scale of the block, rounded once
 pub scaled_by : (g : Format) (mode : Round) (code scale tensor : ℕ) (element by value : Datum) (status : ℕ)
-    → 0 < g.precision → scale < 127
-    → element ≡ finite (is_negative_code e2m1fn code) (quanta_in code * tensor * 2 ^ (1074 - 150))
-    → by ≡ element_datum E4M3FN scale
-    → IsProductTo double_format scale_in g mode element by value status
+    → 0 < g.precision
+    → scale < 127 → element ≡ finite (is_negative_code e2m1fn code) (quanta_in code * tensor * 2 ^ (1074 - 150))
+    → by ≡ element_datum E4M3FN scale → IsProductTo double_format scale_in g mode element by value status
     → IsDelivered g mode (is_negative_code e2m1fn code) (quanta_in code * (scale_quanta scale * tensor) * 2 ^ g.scale)
     (2 ^ 159) value status
 scaled_by g mode code scale tensor element by value status precise l e f h =

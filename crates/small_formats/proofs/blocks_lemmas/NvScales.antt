@@ -96,11 +96,9 @@ quotient_own g mode negative amount parts quotient status s h =
     let h' = subst (λ (b : Bool). IsSaturatedIn g mode b amount parts quotient status) s h in
     saturated_own g h'.pick quotient h'.value_is
 
-pub scale_in_of : (g : Format) (mode : Round) (negative : Bool) (amount parts least : ℕ)
-    (quotient other scale : Datum) (status : ℕ) → negative ≡ false
-    → IsSaturatedIn g mode negative amount parts quotient status
-    → other ≡ finite false least → scale ≡ unless_zero quotient other
-    → IsScaleIn g mode amount parts least scale
+pub scale_in_of : (g : Format) (mode : Round) (negative : Bool) (amount parts least : ℕ) (quotient other scale : Datum)
+    (status : ℕ) → negative ≡ false → IsSaturatedIn g mode negative amount parts quotient status
+    → other ≡ finite false least → scale ≡ unless_zero quotient other → IsScaleIn g mode amount parts least scale
 scale_in_of g mode negative amount parts least quotient other scale status s h o e =
     let h' = subst (λ (b : Bool). IsSaturatedIn g mode b amount parts quotient status) s h in
     record {
@@ -149,8 +147,7 @@ own_number (nan b k) e = cc
 pub number_of_code : (code : ℕ) → code < nan_scale
     → element_datum E4M3FN code ≡ finite false (quanta_of (element_datum E4M3FN code))
 number_of_code code l =
-    own_number (element_datum E4M3FN code)
-    (sym (numbers_below code (omega (arith, l))) ∙ lt-ltb code nan_scale l)
+    own_number (element_datum E4M3FN code) (sym (numbers_below code (omega (arith, l))) ∙ lt-ltb code nan_scale l)
 
 number_is : (x : Datum) (n : ℕ) → x ≡ finite false n → (is_finite x && not (is_negative x)) ≡ true
 number_is x n e = ap (λ (d : Datum). is_finite d && not (is_negative d)) e

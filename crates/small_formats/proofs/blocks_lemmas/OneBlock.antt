@@ -92,8 +92,7 @@ pub block_once : (rule : ScaleRule) (element : ElementFormat) (f : Format) (mode
     → DeterminesBoth (IsBlockBy rule element f mode values)
 block_once rule element f mode values =
     match_case DeterminesBoth (are_finite values) (IsBlockOfNumbers rule element f mode values)
-    (IsBlockOfNan nan_code values)
-    (numbers_once rule element f mode values) (nan_once nan_code values)
+    (IsBlockOfNan nan_code values) (numbers_once rule element f mode values) (nan_once nan_code values)
 
 none_some : (n : ℕ) → n ≡ 0 → 0 < n → ⊥
 none_some n e l = omega (arith, e, l)

@@ -90,8 +90,7 @@ nv_quantized_once f mode tensor values before =
     match_case DeterminesBoth (eqb (length values) 0) _ _ (refused_once Empty before)
     (match_case DeterminesBoth (eqb (length before) (length values)) _ _
     (match_case DeterminesBoth (is_positive tensor) _ _ (written_once f mode _ values)
-    (refused_once TensorScale before))
-    (refused_once Lengths before))
+    (refused_once TensorScale before)) (refused_once Lengths before))
 
 -- ---- out of a block
 
@@ -125,6 +124,4 @@ nv_dequantized_once g mode tensor scale codes before =
     (match_case DeterminesBoth (eqb (length before) (length codes)) _ _
     (match_case DeterminesBoth (is_positive tensor) _ _
     (match_case DeterminesBoth (leb scale nan_scale) _ _ (either_once g mode _ scale codes before)
-    (refused_once BlockScale before))
-    (refused_once TensorScale before))
-    (refused_once Lengths before))
+    (refused_once BlockScale before)) (refused_once TensorScale before)) (refused_once Lengths before))

@@ -50,8 +50,7 @@ counts_more flags status =
 
 pub at_most_all : (flag : ℕ) (flags : List ℕ) → count_raised flag flags ≤ length flags
 at_most_all flag [] = omega arith
-at_most_all flag (status ∷ flags) =
-    one_more (is_raised flag status) (at_most_all flag flags)
+at_most_all flag (status ∷ flags) = one_more (is_raised flag status) (at_most_all flag flags)
   where
     one_more : (test : Bool) → count_raised flag flags ≤ length flags
         → cond test 1 0 + count_raised flag flags ≤ length (status ∷ flags)
@@ -70,8 +69,7 @@ pub record AreWritten {A B : Type 0} (Holds : A → B → ℕ → Type 0) (count
 
 -- counts of fewer elements than a machine word can count
 pub room_for : {A B : Type 0} {Holds : A → B → ℕ → Type 0} {count : ℕ} {read : List A} {written : List B}
-    {counts : Counts} → AreWritten Holds count read written counts → count < 2 ^ 64 - 1
-    → BlockCountsHaveRoom counts
+    {counts : Counts} → AreWritten Holds count read written counts → count < 2 ^ 64 - 1 → BlockCountsHaveRoom counts
 room_for {counts = counts} so_far l =
     let flags = so_far.flags in
     let size = so_far.flags_size in
@@ -97,8 +95,7 @@ none_written Holds read written = record {
 
 pub one_written : {A B : Type 0} {Holds : A → B → ℕ → Type 0} {count : ℕ} {read : List A} {written : List B}
     {counts more : Counts} → AreWritten Holds count read written counts → (x : A) (y : B) (status : ℕ)
-    → count < length written → slice_get read count ≡ Some x → Holds x y status
-    → more ≡ with_status counts status
+    → count < length written → slice_get read count ≡ Some x → Holds x y status → more ≡ with_status counts status
     → AreWritten Holds (count + 1) read (slice_set written count y) more
 one_written {A} {B} {Holds} {count} {read} {written} so_far x y status l at here counted = record {
   flags = so_far.flags ++ status ∷ [];
@@ -133,9 +130,8 @@ all_written {read = read} all last size = record {
   in_places = record {
     same_size = size;
     flags_size = all.flags_size ∙ last;
-    each = λ place x y status read_at written_at flag_at.
-        all.each place x y status (omega (arith, last, slice_get_within read place x read_at)) read_at written_at
-        flag_at;
+    each = λ place x y status read_at written_at flag_at. all.each place x y status
+        (omega (arith, last, slice_get_within read place x read_at)) read_at written_at flag_at;
   };
   counted = all.counted;
 }

@@ -71,8 +71,7 @@ product_in f h g mode x datum y value status precise positive is p amount places
 
 -- the product of a half is that of the code of a storage format with the same number
 pub product_of_half : (c : StorageConstants) (h g : Format) (mode : Round) (code : ℕ) (half y value : Datum)
-    (status : ℕ) → 0 < g.precision → IsPositive h y
-    → (half ≡ finite (is_negative (datum_of c code)) (quanta_of half))
+    (status : ℕ) → 0 < g.precision → IsPositive h y → (half ≡ finite (is_negative (datum_of c code)) (quanta_of half))
     × (quanta_of half * 2 ^ (stored_format c).scale ≡ quanta_of (datum_of c code) * 2 ^ 24)
     → IsProductTo (library_format half_constants) h g mode half y value status → (amount places : ℕ)
     → IsSameNumber amount places (quanta_of y) h.scale

@@ -31,8 +31,7 @@ saturated_is : (g : Format) (negative past leads : Bool) (pick : ℕ) (value res
     → zero_sign g.nonfinite negative ≡ negative
     → value ≡ cond past (cond leads (past_largest g.nonfinite (nan_base g) negative) (finite negative (largest g)))
     (signed_quanta g.nonfinite negative pick)
-    → (is_finite value ≡ true → result ≡ value)
-    → (is_finite value ≡ false → result ≡ finite negative (largest g))
+    → (is_finite value ≡ true → result ≡ value) → (is_finite value ≡ false → result ≡ finite negative (largest g))
     → result ≡ cond past (finite negative (largest g)) (finite negative pick)
 saturated_is g negative true true pick value result z v kept past =
     past (ap is_finite v ∙ past_not_finite g.nonfinite (nan_base g) negative)

@@ -25,8 +25,7 @@ pub groups_more : (bits : ℕ) (front bytes codes group : List ℕ) → 8 * leng
     → number_of_digits 8 front ≡ number_of_digits bits codes → number_of_digits 8 bytes ≡ number_of_digits bits group
     → number_of_digits 8 (front ++ bytes) ≡ number_of_digits bits (codes ++ group)
 groups_more bits front bytes codes group places so_far here =
-    number_append 8 front bytes
-    ∙ ap (λ (n : ℕ). n + 2 ^ (8 * length front) * number_of_digits 8 bytes) so_far
+    number_append 8 front bytes ∙ ap (λ (n : ℕ). n + 2 ^ (8 * length front) * number_of_digits 8 bytes) so_far
     ∙ ap (λ (n : ℕ). number_of_digits bits codes + 2 ^ n * number_of_digits 8 bytes) places
     ∙ ap (λ (n : ℕ). number_of_digits bits codes + 2 ^ (bits * length codes) * n) here
     ∙ sym (number_append bits codes group)

@@ -39,10 +39,8 @@ one_more bits codes bytes more_codes more_bytes group three code byte next last 
     let before : length (take code codes) ≡ code = length-take-le code codes l in
     record {
       same_bits = ap (λ (n : ℕ). 8 * n) count ∙ so_far.same_bits ∙ ap (λ (n : ℕ). bits * n) (sym size);
-      same_number = ap (number_of_digits 8) f
-          ∙ groups_more bits (take byte bytes) three (take code codes) group
-          (ap (λ (n : ℕ). 8 * n) front ∙ places
-          ∙ ap (λ (n : ℕ). bits * n) (sym before)) so_far.same_number same
+      same_number = ap (number_of_digits 8) f ∙ groups_more bits (take byte bytes) three (take code codes) group
+          (ap (λ (n : ℕ). 8 * n) front ∙ places ∙ ap (λ (n : ℕ). bits * n) (sym before)) so_far.same_number same
           ∙ ap (number_of_digits bits) (sym e);
     }
 

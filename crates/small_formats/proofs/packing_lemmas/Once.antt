@@ -33,9 +33,8 @@ digits_once bits (x ∷ xs) (y ∷ ys) size p q e =
     let fits = λ (n : ℕ). n < 2 ^ bits in
     let both = apart (2 ^ bits) x y (number_of_digits bits xs) (number_of_digits bits ys) (all_first fits x xs p)
     (all_first fits y ys q) e in
-    ap (λ (n : ℕ). n ∷ xs) both.0
-    ∙ ap (λ (zs : List ℕ). y ∷ zs) (digits_once bits xs ys (omega (arith, size)) (all_rest fits x xs p)
-    (all_rest fits y ys q) both.1)
+    ap (λ (n : ℕ). n ∷ xs) both.0 ∙ ap (λ (zs : List ℕ). y ∷ zs)
+    (digits_once bits xs ys (omega (arith, size)) (all_rest fits x xs p) (all_rest fits y ys q) both.1)
 
 pub packed_once : ArePackedOnce
 packed_once = record {

@@ -74,8 +74,7 @@ within_delivered : (mode : ConversionRound) (b : Bool) (amount parts : ℕ) (val
     → is_finite value ≡ true → quanta_of value ≤ 992 → IsDeliveredBy wide_format mode b amount parts value status
     → IsDeliveredBy e3m4_format mode b amount parts value status
 within_delivered (Ieee mode) b amount parts value status some number low d =
-    narrow_delivered mode b amount parts value status d
-    ((pick_told mode b d.pick value d.value_is).within number low)
+    narrow_delivered mode b amount parts value status d ((pick_told mode b d.pick value d.value_is).within number low)
 within_delivered ToOdd b amount parts value status some number low d =
     let pick : ℕ = odd_between d.below d.above in
     let most = (pick_told TowardZero b pick value d.value_is).within number low in

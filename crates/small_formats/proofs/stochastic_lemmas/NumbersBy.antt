@@ -25,10 +25,8 @@ pub converted_number : (f g : Format) (mode : Round) (b : Bool) (n : ℕ) (value
 converted_number f g mode b n value status loses x =
     MatchBool-at_false _ (IsConvertedNumber f g mode b (suc n) value status loses) (some_quanta n) x
 
-pub number_by : (f g : Format) (mode : ConversionRound) (b : Bool) (n : ℕ) (value : Datum) (status : ℕ)
-    (loses : Bool)
-    → IsNumberBy f g mode b (suc n) value status loses
-    → IsConversionBy f g mode (finite b (suc n)) value status loses
+pub number_by : (f g : Format) (mode : ConversionRound) (b : Bool) (n : ℕ) (value : Datum) (status : ℕ) (loses : Bool)
+    → IsNumberBy f g mode b (suc n) value status loses → IsConversionBy f g mode (finite b (suc n)) value status loses
 number_by f g mode b n value status loses x =
     match_false (eqb (suc n) 0) _ (IsNumberBy f g mode b (suc n) value status loses) (some_quanta n) x
 
@@ -83,8 +81,7 @@ randomly_converted f g bits (finite b (suc n)) value status loses away plain e d
 -- ---- to odd
 
 pub converted_to_odd : (f g : Format) (x : Datum) (truncated answer : StatusAnd Datum) (loses : Bool)
-    → category_of x ≡ Normal
-    → IsConversion f g TowardZero x truncated.value (bits_of truncated.status) loses
+    → category_of x ≡ Normal → IsConversion f g TowardZero x truncated.value (bits_of truncated.status) loses
     → bits_of answer.status ≡ bits_of truncated.status
     → ((amount parts : ℕ) → 0 < parts → Gives (IsDelivered g TowardZero (is_negative x) amount parts) truncated
     → Gives (IsToOdd g (is_negative x) amount parts) answer)

@@ -16,8 +16,7 @@ use Rattle.small_formats.specs.stochastic.Laws.{AreConversionsOfModel, IsConvers
 use Rattle.small_formats.specs.stochastic.ModeConversions.{IsDeliveredBy, IsNumberBy}
 use Rattle.small_formats.proofs.ScaleModes.{some_quanta}
 
-delivered_by_once : (g : Format) (mode : ConversionRound) (negative : Bool) (amount parts : ℕ) (v w : Datum)
-    (s t : ℕ)
+delivered_by_once : (g : Format) (mode : ConversionRound) (negative : Bool) (amount parts : ℕ) (v w : Datum) (s t : ℕ)
     → IsDeliveredBy g mode negative amount parts v s → IsDeliveredBy g mode negative amount parts w t
     → (v ≡ w) × (s ≡ t)
 delivered_by_once g (Ieee mode) negative amount parts v w s t x y =

@@ -29,9 +29,8 @@ same_parts digits by to r k v w p q d =
     let times : 2 ^ digits * by * v ≡ 2 ^ digits * r * w =
     let e : 2 ^ digits * (by * v) ≡ 2 ^ digits * (r * w) = ap (λ (n : ℕ). 2 ^ digits * n) d.below_by in
     omega (arith, e) in
-    sym (mul-div-mul_right (2 ^ digits * by) (by + to) p)
-    ∙ ap (λ (n : ℕ). n / ((by + to) * v)) times ∙ ap (λ (n : ℕ). 2 ^ digits * r * w / n) d.both
-    ∙ mul-div-mul_right (2 ^ digits * r) k q
+    sym (mul-div-mul_right (2 ^ digits * by) (by + to) p) ∙ ap (λ (n : ℕ). n / ((by + to) * v)) times
+    ∙ ap (λ (n : ℕ). 2 ^ digits * r * w / n) d.both ∙ mul-div-mul_right (2 ^ digits * r) k q
 
 -- nothing has no parts
 no_parts : (digits by n : ℕ) → by ≡ 0 → 2 ^ digits * by / n ≡ 0

@@ -2,8 +2,8 @@
 
 ghost use Rattle.std.specs.Prelude.{◌<◌};
 
+use crate::agreements::{readings, remainders, sums};
 use crate::asserts::{Bits, same};
-use conformance::agreements::{readings, remainders, sums};
 use rustc_apfloat::ieee::Half;
 use rustc_apfloat::ppc::DoubleDouble;
 use rustc_apfloat::{Float, Status, StatusAnd};

@@ -5,11 +5,11 @@ ghost use Rattle.rustc_apfloat.specs.FlaggedTypes.{format_of};
 ghost use Rattle.tests.specs.Subjects.{IsSubject};
 
 use crate::asserts::same;
+use crate::plain::{Bounds, deliver};
 use crate::sweeps::small;
 use crate::sweeps::small::{HALF_BOUNDS, Layout, bits_of};
 use crate::sweeps::tables::MODES;
 use commands::custom_formats::SevenS;
-use conformance::plain::{Bounds, deliver};
 use rustc_apfloat::ieee::{Flagged, Half, HalfS, IeeeFlags, Loss, NonfiniteBehavior, TinyBefore};
 use rustc_apfloat::{ExpInt, Float, Round, ieee};
 use std::process::Abort;

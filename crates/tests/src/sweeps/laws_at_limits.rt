@@ -5,6 +5,10 @@ ghost use Rattle.std.specs.Prelude.{◌<◌, ◌≤◌};
 ghost use Rattle.rustc_apfloat.specs.Products.{product_limit};
 
 use crate::asserts::same;
+use crate::laws::{
+    near_difference, opposite_products, sums_in_order, there_and_back, through_bits, through_value,
+    up_and_down,
+};
 use crate::sweeps::calls::{
     is_nonzero_number, is_number, next_down, of_integer, quiet_nan, scaled,
 };
@@ -12,10 +16,6 @@ use crate::sweeps::tables::MODES;
 use commands::custom_formats::{
     BroadS, DeepS, FusedLimitS, LeastFiniteS, LeastS, PreciseS, ProductLimitS, SevenS, TenS, VastS,
     WrittenBitS,
-};
-use conformance::laws::{
-    near_difference, opposite_products, sums_in_order, there_and_back, through_bits, through_value,
-    up_and_down,
 };
 use rustc_apfloat::ieee::{HalfS, IeeeFloat, NonfiniteBehavior, Semantics, TinyBefore};
 use rustc_apfloat::{Float, Round, Status};

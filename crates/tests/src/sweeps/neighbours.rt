@@ -4,13 +4,13 @@
 ghost use Rattle.std.specs.Prelude.{◌<◌};
 
 use crate::asserts::{Bits, same};
+use crate::laws::up_and_down;
 use crate::sweeps::calls::{is_nonzero_number, next_down};
 use crate::sweeps::small::{
     Class, Expected, Layout, Small, answered, decoded, exactly, is_nan, layout_of, past_bits,
     patterns_of, signals,
 };
 use crate::sweeps::tables::INVALID_OP;
-use conformance::laws::up_and_down;
 use rustc_apfloat::Float;
 use rustc_apfloat::ieee::{Float8E5M2S, HalfS, NonfiniteBehavior, Semantics};
 use std::process::Abort;

@@ -1,7 +1,7 @@
 //! Sums of doubles as pairs.
 
 use crate::asserts::same;
-use conformance::pairs::{exact_sum, sum_of_three};
+use crate::pairs::{exact_sum, sum_of_three};
 use rustc_apfloat::Float;
 use rustc_apfloat::ieee::Double;
 

@@ -3,8 +3,8 @@
 
 ghost use Rattle.std.specs.Prelude.{◌≡◌, ◌*◌, ◌^◌, ◌<◌, ◌≤◌};
 
+use crate::plain::{Bounds, RoundedValue, deliver, whole};
 use crate::sweeps::tables::{DIV_BY_ZERO, INEXACT, INVALID_OP, OK};
-use conformance::plain::{Bounds, RoundedValue, deliver, whole};
 use rustc_apfloat::ieee::{Flagged, IeeeFloat, NonfiniteBehavior};
 use rustc_apfloat::{Flags, Float, Round, StatusAnd};
 

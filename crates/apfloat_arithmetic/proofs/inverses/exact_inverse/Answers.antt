@@ -19,8 +19,7 @@ returns-then-is_invertible-clause-stored c = λ inverse h.
     let n = number_of (goal.at.returns-then-is_invertible-clause-stored c).In-Normal in
     let w = (normal_near s x.significand x.exponent n).word in
     let e = opposite_word s x.significand x.exponent n in
-    let i = inverted_normal s x.significand x.exponent n
-    (c.is_invertible.ensures.yes c.if-is_invertible.true) in
+    let i = inverted_normal s x.significand x.exponent n (c.is_invertible.ensures.yes c.if-is_invertible.true) in
     subst (λ (y : Unpacked). IsStored s y) (same_Some _ inverse h) (rw (w, e) i)
 
 pub returns-then-is_invertible-clause-inverse : goal.returns-then-is_invertible-clause-inverse
@@ -41,5 +40,4 @@ returns-else-is_invertible-clause-inverse c =
     let x = c.args.x in
     let n = number_of (goal.at.returns-else-is_invertible-clause-inverse c).In-Normal in
     subst (λ (k : Category). IsExactInverse (format_at s) (datum_by k s x) None) (sym c.in-Normal.is)
-    (no_inverse_answer s x.negative x.significand x.exponent n
-    (c.is_invertible.ensures.no c.if-is_invertible.false))
+    (no_inverse_answer s x.negative x.significand x.exponent n (c.is_invertible.ensures.no c.if-is_invertible.false))

@@ -23,8 +23,7 @@ returns-then-x-integer_bit-clause-no c = λ _ i.
     ]
 
 pub overflow_sub-x : goal.overflow_sub-x
-overflow_sub-x c =
-    omega (arith, ints, c.args.shape.parameters, c.requires.operand.least, c.requires.operand.greatest)
+overflow_sub-x c = omega (arith, ints, c.args.shape.parameters, c.requires.operand.least, c.requires.operand.greatest)
 
 pub overflow_sub-result : goal.overflow_sub-result
 overflow_sub-result c =

@@ -17,8 +17,7 @@ overflow_mul-result c =
 pub returns-then-significand-power_of_two-clause-full : goal.returns-then-significand-power_of_two-clause-full
 returns-then-significand-power_of_two-clause-full c =
     subst (λ (x : ℕ). 2 ^ (2 * c.args.precision - 1) ≤ 2 * x) (sym c.full_product-significand.ensures)
-    (product_full c.args.precision c.args.left c.args.right c.requires.some c.requires.left_full
-    c.requires.right_full)
+    (product_full c.args.precision c.args.left c.args.right c.requires.some c.requires.left_full c.requires.right_full)
 
 pub returns-else-significand-power_of_two-clause-fits : goal.returns-else-significand-power_of_two-clause-fits
 returns-else-significand-power_of_two-clause-fits c =

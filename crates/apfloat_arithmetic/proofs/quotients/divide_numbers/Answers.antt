@@ -16,8 +16,7 @@ divide_u128-quotient-requires-clause-some c =
 
 pub divide_u128-quotient-requires-clause-narrow : goal.divide_u128-quotient-requires-clause-narrow
 divide_u128-quotient-requires-clause-narrow c =
-    let a : 2 ^ c.args.shape.precision ≤ 2 ^ 125 =
-    pow-le-pow_right two_pos c.args.shape.parameters.precision_high in
+    let a : 2 ^ c.args.shape.precision ≤ 2 ^ 125 = pow-le-pow_right two_pos c.args.shape.parameters.precision_high in
     let f = c.requires.right.operand.fits in
     omega (arith, a, f)
 
@@ -80,8 +79,7 @@ returns-clause-delivered c =
     (quanta_some s c.args.y.significand c.args.y.exponent c.requires.right)
     (quotient_is s c.args.x.exponent c.args.y.exponent c.quotient_exponent.result (s.precision + 1)
     c.divide_u128-quotient.result.whole c.divide_u128-quotient.result.loss c.args.x.significand
-    c.args.y.significand c.requires.left c.requires.right v
-    c.divide_u128-quotient.ensures.stands) in
+    c.args.y.significand c.requires.left c.requires.right v c.divide_u128-quotient.ensures.stands) in
     subst (λ (b : Bool). IsDelivered (format_at s) c.args.round b
     (quanta_at s.min_exp c.args.x.significand c.args.x.exponent * 2 ^ (format_at s).scale)
     (quanta_at s.min_exp c.args.y.significand c.args.y.exponent) (datum_at s c.deliver.result.value)

@@ -90,8 +90,7 @@ deliver_counted_word-requires-clause-within c =
 pub returns-clause-stored : goal.returns-clause-stored
 returns-clause-stored c = c.deliver_counted_word.ensures.stored
 
-quotient : (c : After-word_quotient_of)
-    → c.word_quotient_of.result
+quotient : (c : After-word_quotient_of) → c.word_quotient_of.result
     ≡ odd_quotient (c.args.x.significand * 2 ^ c.places_up-up.result * 2 ^ (c.args.shape.precision + 1))
     c.args.y.significand
 quotient c =

@@ -27,8 +27,7 @@ returns-then-are_normal-clause-few c = λ a b h k p.
     k (rw e at p))
 
 pub returns-else-are_normal-clause-delivered : goal.returns-else-are_normal-clause-delivered
-returns-else-are_normal-clause-delivered c =
-    c.special.ensures.delivered truncated_quotient (λ n p. zero-div n)
+returns-else-are_normal-clause-delivered c = c.special.ensures.delivered truncated_quotient (λ n p. zero-div n)
 
 pub returns-else-are_normal-clause-steps : goal.returns-else-are_normal-clause-steps
 returns-else-are_normal-clause-steps c =

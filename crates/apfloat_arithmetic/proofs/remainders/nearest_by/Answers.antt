@@ -48,14 +48,12 @@ overflow_sub-other c =
     let d : ℕ = c.if-gap-eq1.divisor in
     let l : x % y < y =
     mod-lt x (divisor_pos c.args.precision c.args.y.significand c.args.y.place c.requires.operands.divisor.full) in
-    let k : s < d =
-    digits_less s d (2 ^ c.remaining_by-rest.result.magnitude.place) (x % y) y c.remaining_by-rest.ensures.rest
-    (divisor_there (goal.at.overflow_sub-other c).Joined-gap-eq1) l in
+    let k : s < d = digits_less s d (2 ^ c.remaining_by-rest.result.magnitude.place)
+    (x % y) y c.remaining_by-rest.ensures.rest (divisor_there (goal.at.overflow_sub-other c).Joined-gap-eq1) l in
     omega arith
 
 -- the digits at the place of the rest decide which multiple is nearest
-nearest_there : (state : Joined-gap-eq1)
-    → upper state.remaining_by-rest.result.magnitude.significand
+nearest_there : (state : Joined-gap-eq1) → upper state.remaining_by-rest.result.magnitude.significand
     (state.if-gap-eq1.divisor - state.remaining_by-rest.result.magnitude.significand) state.remaining_by-rest.result.odd
     ≡ upper (units_of state.args.x % units_of state.args.y)
     (units_of state.args.y - units_of state.args.x % units_of state.args.y)
@@ -79,10 +77,9 @@ returns-then-is_upper_nearest-clause-distance c =
     let y : ℕ = units_of c.args.y in
     let p : ℕ = c.remaining_by-rest.result.magnitude.place in
     let d : ℕ = c.if-gap-eq1.divisor in
-    less_scaled d c.remaining_by-rest.result.magnitude.significand (2 ^ p) ∙
-    ap (λ (z : ℕ). d * 2 ^ p - z) c.remaining_by-rest.ensures.rest ∙
-    ap (λ (z : ℕ). z - x % y)
-    (divisor_there (goal.at.returns-then-is_upper_nearest-clause-distance c).Joined-gap-eq1)
+    less_scaled d c.remaining_by-rest.result.magnitude.significand (2 ^ p)
+    ∙ ap (λ (z : ℕ). d * 2 ^ p - z) c.remaining_by-rest.ensures.rest
+    ∙ ap (λ (z : ℕ). z - x % y) (divisor_there (goal.at.returns-then-is_upper_nearest-clause-distance c).Joined-gap-eq1)
 
 pub returns-clause-past : goal.returns-clause-past
 returns-clause-past c =

@@ -34,9 +34,8 @@ returns-clause-odd c =
     let w : ℕ = 2 ^ c.args.y.place in
     let a : ℕ = c.args.x.significand * 2 ^ (c.args.x.place - c.args.y.place) in
     let e : x ≡ a * w = lowered (goal.at.returns-clause-odd c).After-rest_of_moved-left (omega arith) in
-    c.rest_of_moved-left.ensures.odd ∙
-    sym (ap (λ (z : ℕ). eqb (z % 2) 1)
-    (quotient_in x y a c.args.y.significand w (pow_pos c.args.y.place) e refl))
+    c.rest_of_moved-left.ensures.odd
+    ∙ sym (ap (λ (z : ℕ). eqb (z % 2) 1) (quotient_in x y a c.args.y.significand w (pow_pos c.args.y.place) e refl))
 
 pub returns-clause-fits : goal.returns-clause-fits
 returns-clause-fits c =

@@ -31,12 +31,10 @@ turn : (state : After-less_multiple-less)
 turn c =
     is_turn c.loop-rest.rest.significand c.loop-rest.rest.place c.args.y.significand c.args.y.place
     c.less_multiple-less.result.significand c.less_multiple-less.result.place
-    c.less_multiple-less.ensures.taken c.less_multiple-less.ensures.below
-    c.less_multiple-less.ensures.least
+    c.less_multiple-less.ensures.taken c.less_multiple-less.ensures.below c.less_multiple-less.ensures.least
 
 -- one iteration takes one binary one off the quotient
-one_digit : (state : After-less_multiple-less)
-    → count_ones (units_of state.loop-rest.rest / units_of state.args.y)
+one_digit : (state : After-less_multiple-less) → count_ones (units_of state.loop-rest.rest / units_of state.args.y)
     ≡ 1 + count_ones (units_of state.less_multiple-less.result / units_of state.args.y)
 one_digit c =
     turn_ones (units_of c.args.y) (units_of c.loop-rest.rest) (units_of c.less_multiple-less.result)
@@ -66,10 +64,9 @@ leaves_less c =
 
 pub returns-then-less-y-clause-rest : goal.returns-then-less-y-clause-rest
 returns-then-less-y-clause-rest c =
-    left_all (units_of c.args.y) (units_of c.less_multiple-less.result) (leaves_less c) ∙
-    sym (turn_rest (units_of c.args.y) (units_of c.loop-rest.rest) (units_of c.less_multiple-less.result) 0
-    (last c)) ∙
-    c.loop-rest.invariant.left
+    left_all (units_of c.args.y) (units_of c.less_multiple-less.result) (leaves_less c)
+    ∙ sym (turn_rest (units_of c.args.y) (units_of c.loop-rest.rest) (units_of c.less_multiple-less.result) 0 (last c))
+    ∙ c.loop-rest.invariant.left
 
 pub returns-then-less-y-clause-steps : goal.returns-then-less-y-clause-steps
 returns-then-less-y-clause-steps c =

@@ -8,8 +8,7 @@ invariant-loop-rest l = record {
   fits : l.rest.significand < 2 ^ l.precision;
   full : (l.rest.place ≡ l.y.place) ⊎ (2 ^ (l.precision - 1) ≤ l.rest.significand);
   left : units_of l.rest % units_of l.y ≡ units_of l.fn.x % units_of l.y;
-  counted : l.steps + count_ones (units_of l.rest / units_of l.y)
-      ≡ count_ones (units_of l.fn.x / units_of l.y);
+  counted : l.steps + count_ones (units_of l.rest / units_of l.y) ≡ count_ones (units_of l.fn.x / units_of l.y);
 }
 
 abbrev pub decreases-loop-rest : goal.decreases-loop-rest

@@ -10,5 +10,4 @@ returns-then-are_normal-clause-delivered c =
     c.requires.y c.truncated_number.ensures.answer
 
 pub returns-else-are_normal-clause-delivered : goal.returns-else-are_normal-clause-delivered
-returns-else-are_normal-clause-delivered c =
-    c.special.ensures.delivered truncated_quotient (λ n p. zero-div n)
+returns-else-are_normal-clause-delivered c = c.special.ensures.delivered truncated_quotient (λ n p. zero-div n)

@@ -24,12 +24,10 @@ returns-clause-delivered c =
     let unit : ℤ = last +ℤ pos (format_at s).scale in
     delivered_of_standing (format_at s) c.args.round
     (quanta_at s.min_exp c.args.x.significand c.args.x.exponent * 2 ^ (format_at s).scale) 1
-    (c.args.x.significand * 2 ^ (s.precision - 1 + c.halves_of-exponent.result.odd))
-    (2 ^ up unit) (2 ^ down unit) c.root_of-root.result.whole c.root_of-root.result.loss
-    (datum_at s c.deliver.result.value) (bits_of c.deliver.result.status) (lit< tt) (pow_pos (up unit))
-    (pow_pos (down unit))
+    (c.args.x.significand * 2 ^ (s.precision - 1 + c.halves_of-exponent.result.odd)) (2 ^ up unit)
+    (2 ^ down unit) c.root_of-root.result.whole c.root_of-root.result.loss (datum_at s c.deliver.result.value)
+    (bits_of c.deliver.result.status) (lit< tt) (pow_pos (up unit)) (pow_pos (down unit))
     (root_is s c.args.x.exponent half last c.args.x.significand (s.precision - 1 + c.halves_of-exponent.result.odd)
     c.halves_of-exponent.result.odd c.requires h refl v ∙
     ap (λ (x : ℕ). c.args.x.significand * 2 ^ (s.precision - 1 + c.halves_of-exponent.result.odd) * x)
-    (sym (square_whole (2 ^ up unit))))
-    c.root_of-root.ensures.stands (rw w at c.deliver.ensures.delivered)
+    (sym (square_whole (2 ^ up unit)))) c.root_of-root.ensures.stands (rw w at c.deliver.ensures.delivered)

@@ -13,9 +13,7 @@ returns-in-Zero-clause-delivered c =
     let n = quanta_at s.min_exp x.significand x.exponent in
     let h = number_stored s x c.requires.normal c.requires.x_stored in
     same_sum (format_at s) c.args.round (finite x.negative n) (datum_at s c.args.y) (datum_at s c.and.result.value)
-    (finite x.negative n) (finite c.args.y.negative 0) (finite x.negative n) (bits_of c.and.result.status)
-    ok_bits
+    (finite x.negative n) (finite c.args.y.negative 0) (finite x.negative n) (bits_of c.and.result.status) ok_bits
     refl (datum_is Zero s c.args.y c.in-Zero.is)
-    (ap (datum_at s) c.and.ensures.value ∙ datum_is Normal s x c.requires.normal)
-    (ap bits_of c.and.ensures.status)
+    (ap (datum_at s) c.and.ensures.value ∙ datum_is Normal s x c.requires.normal) (ap bits_of c.and.ensures.status)
     (sum_finite_zero (format_at s) c.args.round x.negative c.args.y.negative n h.1 h.0)

@@ -18,8 +18,7 @@ returns-in-Normal-clause-delivered c =
     (finite b 0) (finite y.negative n) (finite y.negative n) (bits_of c.and-in-Normal.result.status) ok_bits
     refl (datum_is Normal s y c.in-Normal.is)
     (ap (datum_at s) c.and-in-Normal.ensures.value ∙ datum_is Normal s y c.in-Normal.is)
-    (ap bits_of c.and-in-Normal.ensures.status)
-    (sum_zero_finite (format_at s) c.args.round b y.negative n h.1 h.0)
+    (ap bits_of c.and-in-Normal.ensures.status) (sum_zero_finite (format_at s) c.args.round b y.negative n h.1 h.0)
 
 pub returns-in-Zero-clause-delivered : goal.returns-in-Zero-clause-delivered
 returns-in-Zero-clause-delivered c =
@@ -28,9 +27,7 @@ returns-in-Zero-clause-delivered c =
     let s = c.args.shape in
     let sign = zero_sum_sign c.args.round b y.negative in
     let v = rw c.sign_of_zero-negative.ensures at c.zero_of.ensures.datum in
-    same_sum (format_at s) c.args.round (finite b 0) (datum_at s y) (datum_at s c.and-in-Zero.result.value)
-    (finite b 0) (finite y.negative 0) (finite (zero_sign s.nonfinite sign) 0)
-    (bits_of c.and-in-Zero.result.status) ok_bits
+    same_sum (format_at s) c.args.round (finite b 0) (datum_at s y) (datum_at s c.and-in-Zero.result.value) (finite b 0)
+    (finite y.negative 0) (finite (zero_sign s.nonfinite sign) 0) (bits_of c.and-in-Zero.result.status) ok_bits
     refl (datum_is Zero s y c.in-Zero.is) (ap (datum_at s) c.and-in-Zero.ensures.value ∙ v)
-    (ap bits_of c.and-in-Zero.ensures.status)
-    (sum_zeros (format_at s) c.args.round b y.negative)
+    (ap bits_of c.and-in-Zero.ensures.status) (sum_zeros (format_at s) c.args.round b y.negative)

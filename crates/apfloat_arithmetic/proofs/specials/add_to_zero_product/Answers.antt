@@ -17,8 +17,7 @@ returns-in-Normal-clause-delivered c = λ b d l m e h.
     same_fused (format_at s) c.args.round (finite b l) (finite d m) (datum_at s z) (datum_at s c.and.result.value)
     (finite z.negative n) (finite z.negative n) (bits_of c.and.result.status) ok_bits
     (datum_is Normal s z c.in-Normal.is) (ap (datum_at s) c.and.ensures.value ∙ datum_is Normal s z c.in-Normal.is)
-    (ap bits_of c.and.ensures.status)
-    (fused_zero_finite (format_at s) c.args.round b d z.negative l m n h t.1 t.0)
+    (ap bits_of c.and.ensures.status) (fused_zero_finite (format_at s) c.args.round b d z.negative l m n h t.1 t.0)
 
 pub returns-in-Zero-clause-delivered : goal.returns-in-Zero-clause-delivered
 returns-in-Zero-clause-delivered c = λ b d l m e h.

@@ -67,5 +67,4 @@ returns-clause-delivered c =
     total.result.negative c.sign_of_odd_total-negative.result total.result.significand
     (record { rounded = r.rounded; is = r.is }) z other in
     subst (λ (b : Bool). IsDelivered (format_at s) c.args.round b (magnitude exact) 1
-    (datum_at s c.deliver_word.result.value) (bits_of c.deliver_word.result.status)) e
-    (d (magnitude exact) r.rounded)
+    (datum_at s c.deliver_word.result.value) (bits_of c.deliver_word.result.status)) e (d (magnitude exact) r.rounded)

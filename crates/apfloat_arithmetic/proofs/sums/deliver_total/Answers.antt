@@ -18,9 +18,8 @@ returns-clause-delivered c = λ amount parts p h.
     let z = rw c.sign_of_zero-of_zero.ensures at c.sign_of_odd_total-negative.ensures.zero in
     let some : 0 < parts * 2 ^ up unit = mul-pos p (pow_pos (up unit)) in
     let e : c.sign_of_odd_total-negative.result ≡ sign_of of_zero (signed total.negative amount) =
-    odd_sign (2 ^ (s.precision + 1)) of_zero total.negative c.sign_of_odd_total-negative.result total.significand
-    amount (2 ^ down unit) (parts * 2 ^ up unit) (pow_pos (down unit)) some h z
-    c.sign_of_odd_total-negative.ensures.other in
+    odd_sign (2 ^ (s.precision + 1)) of_zero total.negative c.sign_of_odd_total-negative.result total.significand amount
+    (2 ^ down unit) (parts * 2 ^ up unit) (pow_pos (down unit)) some h z c.sign_of_odd_total-negative.ensures.other in
     subst₂ (λ (b : Bool) (n : ℕ). IsDelivered (format_at s) c.args.round b n parts
     (datum_at s c.deliver_u128.result.value) (bits_of c.deliver_u128.result.status)) e
     (sym (magnitude_signed total.negative amount)) (d amount parts p h)

@@ -1,6 +1,5 @@
 use Rattle.std.proofs.Common.{Ok, Err, sym, ◌∙◌, subst}
 use Rattle.apfloat_arrays.specs.{declared.widths.Extended.TheVariants.Packed, Widths.width_of}
-use Rattle.apfloat_arrays.proofs.stored_lemmas.ByModeOnce.{AreOnce}
 use Rattle.coded_calls.specs.{declared.facts.Facts.Facts, Facts.SameFacts}
 use Rattle.coded_calls.proofs.{AugmentedOnce.augmented_calls_once, ExportsOnce.reply_once, FactsOnce.facts_of_once}
 use Rattle.coded_calls.proofs.{FactsOnce.same_facts, FlaglessOnce.flagless_reply_once}
@@ -8,14 +7,9 @@ use Rattle.coded_calls.proofs.IeeeOnce.{EachHasOne, ieee_reply_once, in_another_
 use Rattle.coded_calls.proofs.{InstructionsOnce.instruction_reply_once, MachineOnce.machine_reply_once}
 use Rattle.coded_calls.proofs.P3109Once.{p3109_reply_once}
 use Rattle.apfloat_c.specs.Facts.{AreFactsOnce}
-use Rattle.apfloat_c.proofs.ArraysOnce.{converted_array_once, mapped_array_once}
-use Rattle.apfloat_c.proofs.BlocksOnce.{dequantized_call_once, packed_call_once, quantized_call_once}
-use Rattle.apfloat_c.proofs.BlocksOnce.{unpacked_call_once}
 use Rattle.apfloat_c.proofs.DigitsOnce.{count_given_once, digits_once, hex_put_once, rounded_hex_put_once}
-use Rattle.apfloat_c.proofs.ExactSums.{dot_blocks_call_once, reduced_call_once}
 use Rattle.apfloat_c.proofs.{FlaggedReadings.decimal_read_once, PairsOnce.pair_calls_once}
-use Rattle.apfloat_c.proofs.{ParsedOnce.parsed_once, StorageModesOnce.mode_array_once, StorageModesOnce.mode_reply_once}
-use Rattle.apfloat_c.proofs.StorageOnce.{operation_reply_once, storage_reply_once}
+use Rattle.apfloat_c.proofs.ParsedOnce.{parsed_once}
 use Rattle.apfloat_c.proofs.TextsOnce.{error_text_once, text_once}
 use Rattle.apfloat_c.proofs.one_answer.one_answer.Goals as goal
 
@@ -38,13 +32,6 @@ returns c =
       root = each.root;
     } in
     let pairs = c.operations_have_one_answer-2.ensures in
-    let once : AreOnce =
-    record {
-      elements = c.conversions_by_mode_have_one_answer.ensures;
-      e3m4 = c.e3m4_conversions_by_mode_have_one_answer.ensures;
-      scales = c.scales_by_mode_have_one_answer.ensures;
-      unsigned = c.unsigned_conversions_by_mode_have_one_answer.ensures;
-    } in
     record {
       reply = reply_once;
       parsed = parsed_once;
@@ -66,16 +53,4 @@ returns c =
       p3109 = p3109_reply_once c.projections_by_mode_have_one_answer.ensures;
       facts = facts_once;
       error = error_text_once;
-      converted = converted_array_once;
-      mapped = mapped_array_once;
-      reduced = reduced_call_once;
-      block_dots = dot_blocks_call_once c.block_dots_have_one_answer.ensures;
-      stored = storage_reply_once;
-      operated = operation_reply_once c.stored_results_have_one_answer.ensures;
-      stored_by_mode = mode_reply_once once;
-      array_by_mode = mode_array_once once;
-      quantized = quantized_call_once;
-      dequantized = dequantized_call_once;
-      packed = packed_call_once c.packed_codes_have_one_answer.ensures;
-      unpacked = unpacked_call_once c.packed_codes_have_one_answer.ensures;
     }

@@ -23,12 +23,10 @@ deliver_counted_u128-answer-requires-clause-within c =
     }
 
 pub deliver_counted_u128-answer-requires-clause-fits : goal.deliver_counted_u128-answer-requires-clause-fits
-deliver_counted_u128-answer-requires-clause-fits c =
-    rw c.significand_of.ensures c.requires.operand.fits
+deliver_counted_u128-answer-requires-clause-fits c = rw c.significand_of.ensures c.requires.operand.fits
 
 pub deliver_counted_u128-answer-requires-clause-full : goal.deliver_counted_u128-answer-requires-clause-full
-deliver_counted_u128-answer-requires-clause-full c =
-    rw c.significand_of.ensures c.requires.operand.full
+deliver_counted_u128-answer-requires-clause-full c = rw c.significand_of.ensures c.requires.operand.full
 
 pub returns-clause-stored : goal.returns-clause-stored
 returns-clause-stored c = c.deliver_counted_u128-answer.ensures.stored
@@ -37,17 +35,15 @@ pub returns-clause-converted : goal.returns-clause-converted
 returns-clause-converted c =
     let s = c.args.from in
     let t = c.args.into in
-    let ex = exponent_word s c.args.x.significand c.args.x.exponent c.requires in
-    let v = rw ex at c.last_exponent.ensures.value in
+    let v = rw (exponent_word s c.args.x.significand c.args.x.exponent c.requires) at c.last_exponent.ensures.value in
     let w = to_z-of_z w32 c.last_exponent.result (record { sfits = c.last_exponent.type_inv }) in
     let g = rw (w, c.significand_of.ensures) at c.deliver_counted_u128-answer.ensures.delivered in
     let k = scale_is s in
-    let k' = scale_is t in
     let a : ℕ = quanta_at s.min_exp c.args.x.significand c.args.x.exponent in
     record {
       is_delivered = g (a * 2 ^ (format_at t).scale) (2 ^ (format_at s).scale) (pow_pos (format_at s).scale)
           (converted_is (s.precision - 1) (format_at s).scale (t.precision - 1) (format_at t).scale s.min_exp
-          t.min_exp c.args.x.exponent c.last_exponent.result c.args.x.significand a k k' v c.requires.whole);
+          t.min_exp c.args.x.exponent c.last_exponent.result c.args.x.significand a k (scale_is t) v c.requires.whole);
       loses_is = c.ne.ensures;
     }
 
@@ -55,10 +51,9 @@ pub returns-then-has-clause-converted : goal.returns-then-has-clause-converted
 returns-then-has-clause-converted c =
     let s = c.args.from in
     let t = c.args.into in
-    let v = ap (datum_at t) c.and.ensures.value ∙ c.widened.ensures.datum in
     let m = subst (λ (d : Datum). IsMember (format_at t) d) c.widened.ensures.datum
     (member_is t c.widened.result c.widened.ensures.stored) in
     same_converted (format_at s) (format_at t) c.args.round c.args.x.negative
     (quanta_at s.min_exp c.args.x.significand c.args.x.exponent) _ _ _
-    (quanta_some s c.args.x.significand c.args.x.exponent c.requires) c.widened.ensures.same v m
-    (ap bits_of c.and.ensures.status)
+    (quanta_some s c.args.x.significand c.args.x.exponent c.requires) c.widened.ensures.same
+    (ap (datum_at t) c.and.ensures.value ∙ c.widened.ensures.datum) m (ap bits_of c.and.ensures.status)

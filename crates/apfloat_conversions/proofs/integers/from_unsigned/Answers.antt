@@ -1,6 +1,5 @@
 use Rattle.std.proofs.Common.{◌≡◌, ℕ, ◌+◌, ◌-◌, ◌*◌, ◌^◌, ◌<◌, false, subst, sym, ap, ◌∙◌, arith, ℤ, pos, ◌+ℤ◌, ◌-ℤ◌}
-use Rattle.std.proofs.Common.{◌≤◌, w32}
-use Rattle.std.proofs.lemmas.{Int.ints, Int.to_z-of_z, Nat.pow-add}
+use Rattle.std.proofs.{Common.◌≤◌, Common.w32, lemmas.Int.ints, lemmas.Int.to_z-of_z, lemmas.Nat.pow-add}
 use Rattle.apfloat_model.proofs.rounding.Laws.{zero_delivered}
 use Rattle.apfloat_model.specs.rounding.Standing.{up, down}
 use Rattle.apfloat_rounding.specs.Shapes.{format_at}
@@ -19,8 +18,7 @@ moved_units : (number scale places up down : ℕ) → scale + down ≡ places + 
 moved_units number scale places up down e =
     let a : 2 ^ scale * 2 ^ down ≡ 2 ^ places * 2 ^ up =
     sym (pow-add 2 scale down) ∙ ap (λ (x : ℕ). 2 ^ x) e ∙ pow-add 2 places up in
-    let b : number * (2 ^ scale * 2 ^ down) ≡ number * (2 ^ places * 2 ^ up) = ap (λ (x : ℕ). number * x) a in
-    omega (arith, b)
+    omega (arith, ap (λ (x : ℕ). number * x) a)
 
 balanced_units : (count scale : ℕ) (e : ℤ) → count ≤ 128 → e ≡ pos count -ℤ pos 128
     → scale + down (e +ℤ pos scale) ≡ 128 - count + up (e +ℤ pos scale)
@@ -44,7 +42,6 @@ returns-clause-delivered c =
     let g = rw w at c.deliver_counted_u128.ensures.delivered in
     let unit : ℤ = c.aligned_exponent.result +ℤ pos scale in
     let a = c.aligned-significand.ensures.value in
-    g (c.args.number * 2 ^ scale) 1 (omega arith)
-    (moved_units c.args.number scale (128 - count) (up unit) (down unit)
+    g (c.args.number * 2 ^ scale) 1 (omega arith) (moved_units c.args.number scale (128 - count) (up unit) (down unit)
     (balanced_units count scale c.aligned_exponent.result c.digits-count.ensures.bound c.aligned_exponent.ensures)
     ∙ ap (λ (x : ℕ). x * (1 * 2 ^ up unit)) (sym a))

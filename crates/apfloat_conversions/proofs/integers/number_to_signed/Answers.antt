@@ -1,6 +1,5 @@
 use Rattle.std.specs.Int.{w128}
-use Rattle.std.proofs.Common.{◌≡◌, arith, to_z, of_z}
-use Rattle.std.proofs.lemmas.Int.{to_z-of_z}
+use Rattle.std.proofs.{Common.◌≡◌, Common.arith, Common.to_z, Common.of_z, lemmas.Int.to_z-of_z}
 use Rattle.apfloat_rounding.specs.{Shapes.format_at, Stored.quanta_at}
 use Rattle.apfloat_rounding.proofs.StoredBack.{quanta_some}
 use Rattle.apfloat_conversions.proofs.ToSigned.{limited_signed}
@@ -16,10 +15,7 @@ pub magnitude_within-magnitude-requires : goal.magnitude_within-magnitude-requir
 magnitude_within-magnitude-requires c = c.requires.normal
 
 pub with_sign-requires : goal.with_sign-requires
-with_sign-requires c =
-    let a = c.magnitude_within-magnitude.ensures.fits in
-    let b = c.signed_limit.ensures.fits in
-    omega (arith, a, b)
+with_sign-requires c = omega (arith, c.magnitude_within-magnitude.ensures.fits, c.signed_limit.ensures.fits)
 
 pub returns : goal.returns
 returns c =

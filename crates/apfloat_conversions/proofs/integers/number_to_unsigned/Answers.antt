@@ -22,7 +22,4 @@ returns-clause-whole c =
     (rw c.limit_of.ensures.value at c.magnitude_within.ensures.limited)
 
 pub returns-clause-fits : goal.returns-clause-fits
-returns-clause-fits c =
-    let a = c.magnitude_within.ensures.fits in
-    let b = c.limit_of.ensures.fits in
-    omega (arith, a, b)
+returns-clause-fits c = omega (arith, c.magnitude_within.ensures.fits, c.limit_of.ensures.fits)

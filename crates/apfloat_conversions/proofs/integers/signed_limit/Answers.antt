@@ -11,7 +11,6 @@ limit_fits false end less m e = omega (arith, m, e)
 
 pub returns-clause-fits : goal.returns-clause-fits
 returns-clause-fits c =
-    let high = c.requires.high in
-    let short : c.args.width - 1 ≤ 127 = omega (arith, high) in
+    let short : c.args.width - 1 ≤ 127 = omega (arith, c.requires.high) in
     let most : c.power_of_two.result ≤ 2 ^ 127 = rw c.power_of_two.ensures (pow-le-pow_right two_pos short) in
     limit_fits c.args.negative c.power_of_two.result c.below_power.result most c.below_power.ensures

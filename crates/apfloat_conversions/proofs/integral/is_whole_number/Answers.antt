@@ -18,15 +18,12 @@ returns-then-exponent-ge0 c =
     let s = c.args.shape in
     let m = c.args.x.significand in
     let x = c.args.x.exponent in
-    let n = c.requires in
-    let a = quanta_at s.min_exp m x in
     let r = c.last_exponent-exponent.result in
     let w : to_z w32 (of_z w32 c.last_exponent-exponent.result) ≡ c.last_exponent-exponent.result =
     to_z-of_z w32 c.last_exponent-exponent.result (record { sfits = c.last_exponent-exponent.type_inv }) in
     let g = c.if-exponent-ge0.true in
-    let e = whole_places s m x r n c.last_exponent-exponent.ensures.value
-    (omega (arith, ints, g, w)) in
-    whole_multiple (m * 2 ^ up r) a (2 ^ (format_at s).scale) e
+    let e = whole_places s m x r c.requires c.last_exponent-exponent.ensures.value (omega (arith, ints, g, w)) in
+    whole_multiple (m * 2 ^ up r) (quanta_at s.min_exp m x) (2 ^ (format_at s).scale) e
 
 pub round_at_dot-requires-clause-last : goal.round_at_dot-requires-clause-last
 round_at_dot-requires-clause-last c =

@@ -1,4 +1,4 @@
-use Rattle.std.proofs.Common.{◌≡◌, ◌-◌, ◌*◌, ◌^◌, ◌<◌, ◌≤◌, sym, subst, arith, ℕ, to_z}
+use Rattle.std.proofs.Common.{◌≡◌, ◌-◌, ◌*◌, ◌^◌, ◌≤◌, sym, subst, arith, ℕ, to_z}
 use Rattle.std.proofs.{Common.of_z, Common.w32, lemmas.Int.ints, lemmas.Int.to_z-of_z, lemmas.Nat.pow_pos}
 use Rattle.apfloat_model.specs.{formats.Format.largest, rounding.Standing.up}
 use Rattle.apfloat_model.proofs.general.Powers.{twice_half}
@@ -35,8 +35,7 @@ returns-then-exponent-ge0-clause-delivered c =
     let w : to_z w32 (of_z w32 c.last_exponent-exponent.result) ≡ c.last_exponent-exponent.result =
     to_z-of_z w32 c.last_exponent-exponent.result (record { sfits = c.last_exponent-exponent.type_inv }) in
     let g = c.if-exponent-ge0.true in
-    let e = whole_places s m x r n c.last_exponent-exponent.ensures.value
-    (omega (arith, ints, g, w)) in
+    let e = whole_places s m x r n c.last_exponent-exponent.ensures.value (omega (arith, ints, g, w)) in
     rw (c.and.ensures.value, c.and.ensures.status, c.requires.number)
     (integral_stays (format_at s) c.args.round c.args.x.negative a (m * 2 ^ up r) (quanta_some s m x n) e)
 
@@ -55,20 +54,16 @@ round_at_dot-whole-requires-clause-small c = let g = c.if-exponent-ge0.false in 
 pub from_quanta-requires-clause-fits : goal.from_quanta-requires-clause-fits
 from_quanta-requires-clause-fits c =
     let s = c.args.shape in
-    let h = c.round_at_dot-whole.ensures.bound in
     let three = c.args.shape.parameters.precision_low in
     let t : 2 * 2 ^ (s.precision - 1) ≡ 2 ^ s.precision = twice_half s.precision (omega (arith, three)) in
-    let p : 0 < 2 ^ (s.precision - 1) = pow_pos (s.precision - 1) in
-    omega (arith, h, t, p)
+    omega (arith, c.round_at_dot-whole.ensures.bound, t, pow_pos (s.precision - 1))
 
 pub from_quanta-requires-clause-within : goal.from_quanta-requires-clause-within
 from_quanta-requires-clause-within c =
     let s = c.args.shape in
     let h = c.round_at_dot-whole.ensures.bound in
-    let r = scale_in_span s in
-    subst (λ (k : ℕ). c.round_at_dot-whole.result.magnitude * 2 ^ k ≤ largest (format_at s))
-    (sym c.scale.ensures.value)
-    (half_within s c.round_at_dot-whole.result.magnitude (format_at s).scale h (omega (arith, r)))
+    subst (λ (k : ℕ). c.round_at_dot-whole.result.magnitude * 2 ^ k ≤ largest (format_at s)) (sym c.scale.ensures.value)
+    (half_within s c.round_at_dot-whole.result.magnitude (format_at s).scale h (omega (arith, scale_in_span s)))
 
 pub returns-clause-delivered : goal.returns-clause-delivered
 returns-clause-delivered c =

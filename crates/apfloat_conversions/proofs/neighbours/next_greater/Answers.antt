@@ -32,10 +32,8 @@ stays : (state : goal.After-struct_told-then-significand-power_of_two-1)
 stays c =
     let s = c.args.shape in
     let ex = exponent_word s c.args.x.significand c.args.x.exponent c.requires.normal in
-    let t = c.if-significand-power_of_two.true in
-    let e = c.power_of_two.ensures in
     after_stays s c.args.x.significand c.step.result c.args.x.exponent c.requires.normal
-    (rw ex at c.step.ensures) (omega (arith, t, e))
+    (rw ex at c.step.ensures) (omega (arith, c.if-significand-power_of_two.true, c.power_of_two.ensures))
 
 pub returns-then-significand-power_of_two-clause-stored : goal.returns-then-significand-power_of_two-clause-stored
 returns-then-significand-power_of_two-clause-stored c =
@@ -57,10 +55,9 @@ carries : (state : goal.After-one_higher)
 carries c =
     let s = c.args.shape in
     let ex = exponent_word s c.args.x.significand c.args.x.exponent c.requires.normal in
-    let f = c.if-significand-power_of_two.false in
     let e = c.power_of_two.ensures in
     after_carries s c.args.x.significand c.step.result c.integer_bit.result c.args.x.exponent c.one_higher.result
-    c.requires.normal c.requires.below (rw ex at c.step.ensures) (omega (arith, f, e))
+    c.requires.normal c.requires.below (rw ex at c.step.ensures) (omega (arith, c.if-significand-power_of_two.false, e))
     c.integer_bit.ensures (rw ex at c.one_higher.ensures)
 
 pub returns-else-significand-power_of_two-clause-stored : goal.returns-else-significand-power_of_two-clause-stored

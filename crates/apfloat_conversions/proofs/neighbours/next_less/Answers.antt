@@ -30,26 +30,23 @@ pub power_of_two-requires : goal.power_of_two-requires
 power_of_two-requires c = omega (arith, c.args.shape.parameters.precision_high)
 
 pub step-requires-2-clause-greatest : goal.step-requires-2-clause-greatest
-step-requires-2-clause-greatest c =
-    omega (arith, ints, c.requires.operand.greatest, c.one_lower-exponent.ensures)
+step-requires-2-clause-greatest c = omega (arith, ints, c.requires.operand.greatest, c.one_lower-exponent.ensures)
 
 pub overflow_sub-result : goal.overflow_sub-result
 overflow_sub-result c =
     let s = c.args.shape in
-    let ex = exponent_word s c.args.x.significand c.args.x.exponent c.requires in
-    step_below s c.args.x.significand c.step.result c.args.x.exponent
-    c.requires.operand.least c.requires.operand.full (rw ex at c.step.ensures)
+    step_below s c.args.x.significand c.step.result c.args.x.exponent c.requires.operand.least c.requires.operand.full
+    (rw (exponent_word s c.args.x.significand c.args.x.exponent c.requires) at c.step.ensures)
 
 stays : (state : goal.After-struct_told-then-x-integer_bit-1)
     → IsBefore state.args.shape (quanta_at state.args.shape.min_exp state.args.x.significand state.args.x.exponent)
     (state.args.x.significand - state.step.result) state.args.x.exponent
 stays c =
     let s = c.args.shape in
-    let ex = exponent_word s c.args.x.significand c.args.x.exponent c.requires in
     let t = c.if-x-integer_bit.true in
     let e = c.integer_bit.ensures in
     before_stays s c.args.x.significand c.step.result c.args.x.exponent c.requires
-    (rw ex at c.step.ensures) (omega (arith, t, e))
+    (rw (exponent_word s c.args.x.significand c.args.x.exponent c.requires) at c.step.ensures) (omega (arith, t, e))
 
 pub returns-then-x-integer_bit-clause-stored : goal.returns-then-x-integer_bit-clause-stored
 returns-then-x-integer_bit-clause-stored c =
@@ -85,24 +82,20 @@ low : (state : goal.After-step-2)
     → ((state.args.shape.min_exp +ℤ pos 1) -ℤ pos state.args.shape.precision) ≤ℤ state.one_lower-exponent.result
 low c =
     let s = c.args.shape in
-    let ex = exponent_word s c.args.x.significand c.args.x.exponent c.requires in
-    let r = rw ex at c.one_lower-exponent.ensures in
+    let r = rw (exponent_word s c.args.x.significand c.args.x.exponent c.requires) at c.one_lower-exponent.ensures in
     let f = c.if-x-least_exponent.false in
-    let n = c.least_exponent.ensures in
     subst (λ (z : ℤ). ((s.min_exp +ℤ pos 1) -ℤ pos s.precision) ≤ℤ z) (sym r)
     (room_below ((s.min_exp +ℤ pos 1) -ℤ pos s.precision) c.args.x.exponent c.requires.operand.least
-    (λ e. f (ap (of_z w32) (e ∙ sym n))))
+    (λ e. f (ap (of_z w32) (e ∙ sym c.least_exponent.ensures))))
 
 pub overflow_sub-result-2 : goal.overflow_sub-result-2
 overflow_sub-result-2 c =
     let s = c.args.shape in
-    let three = c.args.shape.parameters.precision_low in
     let ey : to_z w32 (of_z w32 c.one_lower-exponent.result) ≡ c.one_lower-exponent.result =
     to_z-of_z w32 c.one_lower-exponent.result (record { sfits = c.one_lower-exponent.type_inv }) in
-    let p = c.power_of_two.ensures in
-    let t = twice_half s.precision (omega (arith, three)) in
+    let t = twice_half s.precision (omega (arith, c.args.shape.parameters.precision_low)) in
     step_below s c.power_of_two.result c.step-2.result c.one_lower-exponent.result (low c)
-    (omega (arith, p, t)) (rw ey at c.step-2.ensures)
+    (omega (arith, c.power_of_two.ensures, t)) (rw ey at c.step-2.ensures)
 
 lowers : (state : goal.After-step-2)
     → IsBefore state.args.shape (quanta_at state.args.shape.min_exp state.args.x.significand state.args.x.exponent)

@@ -1,5 +1,4 @@
-use Rattle.std.proofs.Common.{false, ◌≡◌, eqb, arith}
-use Rattle.std.proofs.lemmas.Bool.{ne_eqb}
+use Rattle.std.proofs.{Common.false, Common.◌≡◌, Common.eqb, Common.arith, lemmas.Bool.ne_eqb}
 use Rattle.apfloat_rounding.specs.{Shapes.format_at, Stored.quanta_at}
 use Rattle.apfloat_rounding.proofs.{StoredBack.quanta_some, ShapeExponents.exponent_word, ShapeExponents.scale_is}
 use Rattle.apfloat_conversions.proofs.Nexts.{logarithm_is}
@@ -11,9 +10,7 @@ returns-in-Normal c =
     let m = c.args.x.significand in
     let e = c.args.x.exponent in
     let n = rw c.in-Normal.is at c.requires in
-    let p = quanta_some s m e n in
-    let z : eqb (quanta_at s.min_exp m e) 0 ≡ false = ne_eqb _ 0 (λ q. omega (arith, p, q)) in
+    let z : eqb (quanta_at s.min_exp m e) 0 ≡ false = ne_eqb _ 0 (λ q. omega (arith, quanta_some s m e n, q)) in
     let w = exponent_word s m e n in
-    rw (c.in-Normal.is, z, w)
-    (logarithm_is (format_at s) s.precision s.min_exp s.max_exp e m (quanta_at s.min_exp m e)
+    rw (c.in-Normal.is, z, w) (logarithm_is (format_at s) s.precision s.min_exp s.max_exp e m (quanta_at s.min_exp m e)
     c.args.shape.parameters.precision_low (scale_is s) n.operand n.whole)

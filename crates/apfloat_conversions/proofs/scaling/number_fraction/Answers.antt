@@ -8,17 +8,15 @@ use Rattle.apfloat_conversions.proofs.Nexts.{fraction_quanta, fraction_same}
 use Rattle.apfloat_conversions.proofs.scaling.number_fraction.Goals as goal
 
 pub returns-clause-stored : goal.returns-clause-stored
-returns-clause-stored c =
-    fraction_number c.args.shape c.args.x.significand c.args.x.exponent c.requires
+returns-clause-stored c = fraction_number c.args.shape c.args.x.significand c.args.x.exponent c.requires
 
 pub returns-clause-fraction : goal.returns-clause-fraction
 returns-clause-fraction c =
     let s = c.args.shape in
     let m = c.args.x.significand in
-    let ex = exponent_word s m c.args.x.exponent c.requires in
     let er : to_z w32 (of_z w32 c.one_higher.result) ≡ c.one_higher.result =
     to_z-of_z w32 c.one_higher.result (record { sfits = c.one_higher.type_inv }) in
-    let v = rw ex at c.one_higher.ensures in
+    let v = rw (exponent_word s m c.args.x.exponent c.requires) at c.one_higher.ensures in
     let q = fraction_quanta s.min_exp m s.parameters.min_exp_high in
     let b = fraction_size s m c.args.x.exponent c.requires in
     rw er (record {

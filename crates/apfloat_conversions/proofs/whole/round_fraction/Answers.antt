@@ -8,8 +8,7 @@ use Rattle.apfloat_conversions.proofs.whole.round_fraction.Goals.{After-shift_ri
 use Rattle.apfloat_conversions.proofs.whole.round_fraction.Goals as goal
 
 pub round_in_word-requires-clause-short : goal.round_in_word-requires-clause-short
-round_in_word-requires-clause-short c =
-    fits_longer c.args.significand c.args.precision 62 c.requires.fits (omega arith)
+round_in_word-requires-clause-short c = fits_longer c.args.significand c.args.precision 62 c.requires.fits (omega arith)
 
 pub overflow_add-result : goal.overflow_add-result
 overflow_add-result c =
@@ -26,20 +25,17 @@ stands : (state : After-shift_right-kept) (amount parts : ℕ) → 0 < parts
     → StandsFor state.shift_right-kept.result.significand state.shift_right-kept.result.loss amount parts
 stands c amount parts p e =
     cut_whole_stands c.args.significand c.shift_right-kept.result.significand c.args.places amount parts
-    c.shift_right-kept.result.loss e
-    (c.shift_right-kept.ensures.stands (c.args.significand * parts) parts p refl)
+    c.shift_right-kept.result.loss e (c.shift_right-kept.ensures.stands (c.args.significand * parts) parts p refl)
 
 pub returns-then-moves_up-clause-picked : goal.returns-then-moves_up-clause-picked
-returns-then-moves_up-clause-picked c = λ amount parts p e.
-    picked_at c.args.round c.args.negative _ amount parts _ _ p
+returns-then-moves_up-clause-picked c = λ amount parts p e. picked_at c.args.round c.args.negative _ amount parts _ _ p
     (stands (goal.at.returns-then-moves_up-clause-picked c).After-shift_right-kept amount parts p e)
     c.is_exact-exact.ensures.yes c.is_exact-exact.ensures.no
     (kept_moved c.args.round c.args.negative c.shift_right-kept.result.loss c.shift_right-kept.result.significand
     c.moves_up.result c.moves_up.ensures c.if-moves_up.true)
 
 pub returns-else-moves_up-clause-picked : goal.returns-else-moves_up-clause-picked
-returns-else-moves_up-clause-picked c = λ amount parts p e.
-    picked_at c.args.round c.args.negative _ amount parts _ _ p
+returns-else-moves_up-clause-picked c = λ amount parts p e. picked_at c.args.round c.args.negative _ amount parts _ _ p
     (stands (goal.at.returns-else-moves_up-clause-picked c).After-shift_right-kept amount parts p e)
     c.is_exact-exact.ensures.yes c.is_exact-exact.ensures.no
     (kept_stayed c.args.round c.args.negative c.shift_right-kept.result.loss c.shift_right-kept.result.significand

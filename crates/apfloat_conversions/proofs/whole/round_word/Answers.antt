@@ -14,8 +14,7 @@ top c =
 
 pub round_fraction-requires-clause-fits : goal.round_fraction-requires-clause-fits
 round_fraction-requires-clause-fits c =
-    rw (top c)
-    (top_fits c.args.shape.precision c.args.x.significand c.requires.short c.requires.normal.operand.fits)
+    rw (top c) (top_fits c.args.shape.precision c.args.x.significand c.requires.short c.requires.normal.operand.fits)
 
 pub returns : goal.returns
 returns c =
@@ -24,9 +23,8 @@ returns c =
     let e = c.args.x.exponent in
     let n = c.requires.normal in
     let k = rw (exponent_word s m e n) at c.steps_between-places.ensures in
-    let p = word_places s m c.steps_between-places.result e n c.requires.short k in
     c.round_fraction.ensures.picked (quanta_at s.min_exp m e) (2 ^ (format_at s).scale) (pow_pos (format_at s).scale)
-    (rw (top (goal.at.returns c).After-from) p)
+    (rw (top (goal.at.returns c).After-from) (word_places s m c.steps_between-places.result e n c.requires.short k))
 
 pub steps_between-places-requires-clause-above : goal.steps_between-places-requires-clause-above
 steps_between-places-requires-clause-above c =

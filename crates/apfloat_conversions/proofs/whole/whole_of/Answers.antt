@@ -45,12 +45,11 @@ integer_of-requires-clause-near c =
 pub returns-then-x-ge128 : goal.returns-then-x-ge128
 returns-then-x-ge128 c =
     let s = c.args.shape in
-    let g = c.if-x-ge128.true in
     let p = c.args.shape.parameters.precision_high in
     let n = c.requires in
     too_large c.args.round c.args.x.negative (s.precision - 1) (format_at s).scale s.min_exp c.args.x.exponent
     c.args.x.significand (quanta_at s.min_exp c.args.x.significand c.args.x.exponent)
-    (omega (arith, p)) (scale_is s) n.operand.full (omega (arith, ints, g)) n.whole
+    (omega (arith, p)) (scale_is s) n.operand.full (omega (arith, ints, c.if-x-ge128.true)) n.whole
 
 pub returns-then-exponent-ge0 : goal.returns-then-exponent-ge0
 returns-then-exponent-ge0 c =
@@ -62,8 +61,7 @@ returns-then-exponent-ge0 c =
     to_z-of_z w32 c.last_exponent-exponent.result (record { sfits = c.last_exponent-exponent.type_inv }) in
     let k = rw w at c.steps_between.ensures in
     let e = places_up (s.precision - 1) (format_at s).scale s.min_exp c.args.x.exponent
-    c.last_exponent-exponent.result c.args.x.significand a c.steps_between.result (scale_is s)
-    v k c.requires.whole in
+    c.last_exponent-exponent.result c.args.x.significand a c.steps_between.result (scale_is s) v k c.requires.whole in
     let p = pow_pos (format_at s).scale in
     record {
       magnitude_is = c.integer_of.ensures ∙

@@ -12,9 +12,7 @@ fits_half number places some few =
     omega (arith, most, few)
 
 pub checked_division-parts-requires-clause-some : goal.checked_division-parts-requires-clause-some
-checked_division-parts-requires-clause-some c =
-    rw c.power_of_ten-unit.ensures
-    (power_pos 10 c.args.places (lit< tt))
+checked_division-parts-requires-clause-some c = rw c.power_of_ten-unit.ensures (power_pos 10 c.args.places (lit< tt))
 
 pub checked_division-parts-requires-clause-narrow : goal.checked_division-parts-requires-clause-narrow
 checked_division-parts-requires-clause-narrow c =
@@ -23,18 +21,15 @@ checked_division-parts-requires-clause-narrow c =
 
 pub checked_division-parts-requires-clause-fits : goal.checked_division-parts-requires-clause-fits
 checked_division-parts-requires-clause-fits c =
-    rw c.power_of_ten-unit.ensures
-    (fits_half c.args.number c.args.places (omega arith) (omega arith))
+    rw c.power_of_ten-unit.ensures (fits_half c.args.number c.args.places (omega arith) (omega arith))
 
 pub returns-then-number-clause-whole : goal.returns-then-number-clause-whole
 returns-then-number-clause-whole c =
-    rw (← c.power_of_ten-unit.ensures)
-    (c.from.ensures ∙ c.checked_division-parts.ensures.quotient)
+    rw (← c.power_of_ten-unit.ensures) (c.from.ensures ∙ c.checked_division-parts.ensures.quotient)
 
 pub returns-then-number-clause-rest : goal.returns-then-number-clause-rest
 returns-then-number-clause-rest c =
-    rw (← c.power_of_ten-unit.ensures)
-    (c.from-then-number.ensures ∙ c.checked_division-parts.ensures.rest)
+    rw (← c.power_of_ten-unit.ensures) (c.from-then-number.ensures ∙ c.checked_division-parts.ensures.rest)
 
 pub returns-then-places-gt38-clause-whole : goal.returns-then-places-gt38-clause-whole
 returns-then-places-gt38-clause-whole c =

@@ -8,5 +8,4 @@ pub returns-clause-bytes : goal.returns-clause-bytes
 returns-clause-bytes c =
     let exact : to_z w32 (of_z w32 c.args.decimal.exponent) ≡ c.args.decimal.exponent = omega (arith, ints) in
     text_and_zeros c.put_text.new.bytes (decimal_text c.args.decimal) c.put_text.result 64
-    (rw exact at c.put_text.ensures.text)
-    c.put_text.ensures.zeros (omega arith) (omega arith)
+    (rw exact at c.put_text.ensures.text) c.put_text.ensures.zeros (omega arith) (omega arith)

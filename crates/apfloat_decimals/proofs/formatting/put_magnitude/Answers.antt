@@ -18,15 +18,13 @@ text_is : (c : After-is_plain) (plain : Bool) → c.is_plain.result ≡ plain
 text_is c plain is =
     let exact = to_z-of_z w32 c.args.exponent c.ranges.exponent in
     rw exact
-    (magnitude_by c.args.digits c.args.exponent plain c.if-digits-eq0.false
-    (sym (rw exact at c.is_plain.ensures) ∙ is))
+    (magnitude_by c.args.digits c.args.exponent plain c.if-digits-eq0.false (sym (rw exact at c.is_plain.ensures) ∙ is))
 
 -- it has room
 room_is : (c : After-is_plain) (plain : Bool) → c.is_plain.result ≡ plain
     → let e = to_z w32 (of_z w32 c.args.exponent) in
     c.args.at + length (if plain then plain_text c.args.digits e else scientific_text c.args.digits e) ≤ 64
-room_is c plain is =
-    subst (λ (text : List ℕ). c.args.at + length text ≤ 64) (sym (text_is c plain is)) c.requires.room
+room_is c plain is = subst (λ (text : List ℕ). c.args.at + length text ≤ 64) (sym (text_is c plain is)) c.requires.room
 
 pub put_plain-requires-clause-room : goal.put_plain-requires-clause-room
 put_plain-requires-clause-room c =

@@ -9,5 +9,4 @@ put_sign-at-requires-clause-room c =
 
 pub returns : goal.returns
 returns c =
-    put_same (first_of (search rules, grind (arith, common_steps)))
-    (put_then c.put_sign-at.ensures c.put_word.ensures)
+    put_same (first_of (search rules, grind (arith, common_steps))) (put_then c.put_sign-at.ensures c.put_word.ensures)

@@ -23,8 +23,7 @@ overflow_mul-number-else-count-le10 c =
 
 pub store_eighteen-requires-clause-few : goal.store_eighteen-requires-clause-few
 store_eighteen-requires-clause-few c =
-    rw c.power_of_ten-else-count-le10.ensures
-    (moved_few 18 c.args.count c.args.number c.requires.most c.requires.few)
+    rw c.power_of_ten-else-count-le10.ensures (moved_few 18 c.args.count c.args.number c.requires.most c.requires.few)
 
 pub returns-else-count-le10-clause-taken : goal.returns-else-count-le10-clause-taken
 returns-else-count-le10-clause-taken c =

@@ -6,15 +6,13 @@ use Rattle.apfloat_decimals.proofs.parsing.followed_by.Goals as goal
 
 pub returns-in_default : goal.returns-in_default
 returns-in_default c =
-    let past =
-    number_past c.args.digits.now c.loop-i.i c.args.number c.loop-i.all c.requires c.loop-i-test.true
+    let past = number_past c.args.digits.now c.loop-i.i c.args.number c.loop-i.all c.requires c.loop-i-test.true
     c.loop-i.invariant in
     omega (arith, past, c.in_default.ensures)
 
 pub returns-in_default-checked_add : goal.returns-in_default-checked_add
 returns-in_default-checked_add c =
-    let past =
-    number_past c.args.digits.now c.loop-i.i c.args.number c.loop-i.all c.requires c.loop-i-test.true
+    let past = number_past c.args.digits.now c.loop-i.i c.args.number c.loop-i.all c.requires c.loop-i-test.true
     c.loop-i.invariant in
     omega (arith, past, c.in_default-checked_add.ensures, c.in-Some.ensures.1, c.from-digit.ensures)
 

@@ -13,8 +13,7 @@ pub digits_of-requires-clause-whole : goal.digits_of-requires-clause-whole
 digits_of-requires-clause-whole c = first_digits c.args.body.now _ c.split_digits.ensures.digits
 
 pub digits_of-requires-clause-fraction : goal.digits_of-requires-clause-fraction
-digits_of-requires-clause-fraction c =
-    fraction_digits c.split_digits.result.1.now _ c.split_fraction.ensures.digits
+digits_of-requires-clause-fraction c = fraction_digits c.split_digits.result.1.now _ c.split_fraction.ensures.digits
 
 -- the text spells its digits times the power of ten
 spelled : (c : After-digits_of) → IsDecimalText c.args.body.now

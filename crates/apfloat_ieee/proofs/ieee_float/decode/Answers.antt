@@ -16,12 +16,10 @@ returns g c =
     let f = format_of g.S.Flagged in
     let l = layout_of g.S.Flagged in
     let d = rw c.shape_of.ensures at c.decode.ensures.datum in
-    let read : c.packed.result ≡ datum_of f l c.args.bits =
-    c.packed.ensures ∙
+    let read : c.packed.result ≡ datum_of f l c.args.bits = c.packed.ensures ∙
     subst (λ (k : Layout). datum_at (shape_of g.S.Flagged) c.decode.result ≡ datum_of f k c.args.bits)
     c.widths_of.ensures.value d in
-    let back : f.explicit_integer_bit ≡ false → c.args.bits < 2 ^ l.bits
-    → IsEncodedBy f l c.args.bits c.packed.result =
+    let back : f.explicit_integer_bit ≡ false → c.args.bits < 2 ^ l.bits → IsEncodedBy f l c.args.bits c.packed.result =
     λ e h.
     record {
       below = h;

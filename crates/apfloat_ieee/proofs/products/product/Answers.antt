@@ -8,8 +8,7 @@ returns-clause-opposite g c =
     let d = rw c.shape_of.ensures at c.multiply.ensures.delivered in
     let p : IsProduct (format_of g.S.Flagged) c.args.round c.args.x c.args.y c.answered.result.value
     (bits_of c.answered.result.status) =
-    rw (c.unpacked.ensures.datum, c.unpacked-2.ensures.datum, c.answered.ensures.value, c.answered.ensures.status)
-    d in
+    rw (c.unpacked.ensures.datum, c.unpacked-2.ensures.datum, c.answered.ensures.value, c.answered.ensures.status) d in
     opposite_product (format_of g.S.Flagged) c.args.round c.args.x c.args.y c.answered.result.value
     (bits_of c.answered.result.status)
     (largest_some (format_of g.S.Flagged) g.S.Flagged.lawful.parameters.precision_low) p

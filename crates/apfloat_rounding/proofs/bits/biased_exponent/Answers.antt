@@ -25,10 +25,8 @@ in_word number low count h =
 pub returns : goal.returns
 returns c =
     let t = trailing_bits (format_at c.args.shape) in
-    let e = c.args.widths.exponent_bits in
     elim c.if-widths-le64.branch [
       | then-widths-le64 w ↦
-          let b : t + e ≤ 64 = omega (arith, c.requires.bits, w.if-widths-le64.true) in
           rw (
             c.low_digits-2.ensures,
             w.upper-is,
@@ -36,6 +34,6 @@ returns c =
             w.low_digits.ensures,
             c.trailing_width-width.ensures.value,
           )
-          (in_word c.args.bits t e b)
+          (in_word c.args.bits t c.args.widths.exponent_bits (omega (arith, c.requires.bits, w.if-widths-le64.true)))
       | else-widths-le64 w ↦ rw (c.low_digits-2.ensures, w.upper-is, c.trailing_width-width.ensures.value) refl
     ]

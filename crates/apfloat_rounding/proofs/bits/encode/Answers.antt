@@ -10,8 +10,7 @@ returns-clause-encoded c =
 
 pub returns-clause-only : goal.returns-clause-only
 returns-clause-only c = λ other h.
-    let e = fields_encode (format_at c.args.shape) (layout_at c.args.widths)
-    (fields_at c.fields_of_value-fields.result) (datum_at c.args.shape c.args.x) c.requires.interchange
-    c.fields_of_value-fields.ensures in
+    let e = fields_encode (format_at c.args.shape) (layout_at c.args.widths) (fields_at c.fields_of_value-fields.result)
+    (datum_at c.args.shape c.args.x) c.requires.interchange c.fields_of_value-fields.ensures in
     rw c.join.ensures (encoded_once (format_at c.args.shape) (layout_at c.args.widths)
     (datum_at c.args.shape c.args.x) other _ c.requires.interchange h e)

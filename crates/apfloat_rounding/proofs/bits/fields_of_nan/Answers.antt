@@ -23,5 +23,4 @@ returns-in-NanNegativeZero c =
 pub returns-in_default : goal.returns-in_default
 returns-in_default c =
     rw c.greatest_exponent.ensures (nan_fields_of (format_at c.args.shape) (layout_at c.args.widths) c.args.x.negative
-    c.args.x.significand c.requires.interchange c.in_default.not-NanNegativeZero
-    c.requires.nan.member.significand_is)
+    c.args.x.significand c.requires.interchange c.in_default.not-NanNegativeZero c.requires.nan.member.significand_is)

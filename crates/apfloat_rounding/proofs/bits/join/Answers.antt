@@ -15,7 +15,6 @@ returns c =
     let s : ℕ = cond c.args.fields.negative 1 0 in
     let w : c.args.widths.exponent_bits + trailing_bits (format_at c.args.shape) + 1 ≤ 128 =
     omega (arith, c.requires.interchange.bits, c.requires.interchange.within) in
-    let a = shl_whole s 1 e 128 (short c.args.fields.negative) (omega (arith, w)) in
     let x : cond c.args.fields.negative 1 0 * 2 ^ c.args.widths.exponent_bits + c.args.fields.biased_exponent
     < 2 ^ suc c.args.widths.exponent_bits =
     let y = mul-add-lt s (2 ^ e) c.args.fields.biased_exponent 2 (short c.args.fields.negative)
@@ -25,7 +24,7 @@ returns c =
     rw (
       c.sign_bit.ensures,
       c.trailing_width.ensures.value,
-      a,
+      shl_whole s 1 e 128 (short c.args.fields.negative) (omega (arith, w)),
       c.from.ensures,
       or_shifted s e c.args.fields.biased_exponent c.requires.within.biased_exponent,
       b,

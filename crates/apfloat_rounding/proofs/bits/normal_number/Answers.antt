@@ -19,8 +19,7 @@ returns-clause-stored c = c.from_full_quanta.ensures.stored
 pub overflow_add-integer_bit : goal.overflow_add-integer_bit
 overflow_add-integer_bit c =
     let p : c.args.shape.precision - 1 ≤ 124 = omega (arith, c.args.shape.parameters.precision_high) in
-    let h : 2 ^ (c.args.shape.precision - 1) ≤ 2 ^ 124 = pow-le-pow_right two_pos p in
-    record { fits = omega (arith, h, c.integer_bit.ensures, c.requires.trailing) }
+    record { fits = omega (arith, pow-le-pow_right two_pos p, c.integer_bit.ensures, c.requires.trailing) }
 
 pub returns-clause-datum : goal.returns-clause-datum
 returns-clause-datum c =

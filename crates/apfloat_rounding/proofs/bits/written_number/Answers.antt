@@ -1,4 +1,4 @@
-use Rattle.std.proofs.Common.{◌^◌, ◌<◌, arith}
+use Rattle.std.proofs.Common.{arith}
 use Rattle.apfloat_model.proofs.{bits.EncodedOnce.explicit_kind, formats.Ranges.ieee_within}
 use Rattle.apfloat_rounding.specs.{Shapes.format_at, Encoded.layout_at}
 use Rattle.apfloat_rounding.proofs.bits.written_number.Goals as goal
@@ -27,7 +27,6 @@ pub from_full_quanta-requires-clause-within :
 from_full_quanta-requires-clause-within c =
     let k = explicit_kind c.args.shape.nonfinite c.args.shape.explicit_integer_bit c.requires.interchange.explicit
     c.requires.explicit in
-    let w : c.args.fields.trailing < 2 ^ c.args.shape.precision =
-    rw c.requires.explicit at c.requires.within.trailing in
     ieee_within (format_at c.args.shape) (layout_at c.args.widths) c.args.fields.trailing
-    c.args.fields.biased_exponent c.requires.interchange k w c.requires.within.biased_exponent c.requires.number
+    c.args.fields.biased_exponent c.requires.interchange k
+    (rw c.requires.explicit at c.requires.within.trailing) c.requires.within.biased_exponent c.requires.number

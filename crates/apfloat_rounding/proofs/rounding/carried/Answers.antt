@@ -14,6 +14,5 @@ returns-then-significand-power_of_two-clause-value c =
 
 pub returns-then-significand-power_of_two-clause-fits : goal.returns-then-significand-power_of_two-clause-fits
 returns-then-significand-power_of_two-clause-fits c =
-    let t : 2 * 2 ^ (c.args.precision - 1) ≡ 2 ^ c.args.precision = twice_half c.args.precision c.requires.some in
     let p : 0 < 2 ^ (c.args.precision - 1) = pow_pos (c.args.precision - 1) in
-    omega (arith, t, p, c.power_of_two-then-significand-power_of_two.ensures)
+    omega (arith, twice_half c.args.precision c.requires.some, p, c.power_of_two-then-significand-power_of_two.ensures)

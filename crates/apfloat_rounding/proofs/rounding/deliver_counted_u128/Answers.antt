@@ -8,15 +8,13 @@ use Rattle.apfloat_rounding.specs.Shapes.{format_at}
 use Rattle.apfloat_rounding.proofs.rounding.deliver_counted_u128.Goals as goal
 
 -- the unit, counted from the quantum
-in_quanta : (c : After-unit_place-unit) (amount parts : ℕ)
-    → StandsFor c.args.significand ExactlyZero
+in_quanta : (c : After-unit_place-unit) (amount parts : ℕ) → StandsFor c.args.significand ExactlyZero
     (amount * 2 ^ down (c.args.exponent +ℤ pos (format_at c.args.shape).scale))
     (parts * 2 ^ up (c.args.exponent +ℤ pos (format_at c.args.shape).scale))
     → StandsFor c.args.significand ExactlyZero (amount * 2 ^ down (to_z w32 (of_z w32 c.unit_place-unit.result)))
     (parts * 2 ^ up (to_z w32 (of_z w32 c.unit_place-unit.result)))
 in_quanta c amount parts h =
-    let e = to_z-of_z w32 c.args.exponent c.ranges.exponent in
-    let v = rw e at c.unit_place-unit.ensures.value in
+    let v = rw (to_z-of_z w32 c.args.exponent c.ranges.exponent) at c.unit_place-unit.ensures.value in
     let w : to_z w32 (of_z w32 c.unit_place-unit.result) ≡ c.unit_place-unit.result =
     to_z-of_z w32 c.unit_place-unit.result (record { sfits = c.unit_place-unit.type_inv }) in
     subst (λ (x : ℤ). StandsFor c.args.significand ExactlyZero (amount * 2 ^ down x) (parts * 2 ^ up x))
@@ -40,8 +38,7 @@ cut_at_quantum-cut-requires-clause-fine c =
 pub returns-then-shape-le59-clause-delivered : goal.returns-then-shape-le59-clause-delivered
 returns-then-shape-le59-clause-delivered c = λ amount parts u h.
     let precision = c.args.shape.precision in
-    let l = c.if-shape-le59.true in
-    let j : c.args.shape.precision + 1 ≤ 61 = omega (arith, l) in
+    let j : c.args.shape.precision + 1 ≤ 61 = omega (arith, c.if-shape-le59.true) in
     let k : 2 ^ (c.args.shape.precision + 1) ≤ 2 ^ 61 = pow-le-pow_right two_pos j in
     let g = in_quanta (goal.at.returns-then-shape-le59-clause-delivered c).After-unit_place-unit amount parts h in
     let o = c.in_word.ensures.odd amount parts u g in
@@ -49,6 +46,4 @@ returns-then-shape-le59-clause-delivered c = λ amount parts u h.
     c.round_below.ensures.delivered amount parts u x.0 (λ r. x.1)
 
 pub returns-clause-delivered : goal.returns-clause-delivered
-returns-clause-delivered c =
-    let e = to_z-of_z w32 c.args.exponent c.ranges.exponent in
-    rw e at c.deliver.ensures.delivered
+returns-clause-delivered c = rw (to_z-of_z w32 c.args.exponent c.ranges.exponent) at c.deliver.ensures.delivered

@@ -21,15 +21,13 @@ returns-then-shape c = λ amount parts p x g f.
     ∙ ap (λ n. ltb c.args.cut.significand n) (sym c.integer_bit.ensures)
 
 pub returns-then-shape-2 : goal.returns-then-shape-2
-returns-then-shape-2 c = λ amount parts p x g f.
-    unbounded_is (format_at c.args.shape) c.args.mode c.args.negative amount parts
-    (c.args.after * 2 ^ c.args.cut.place) c.if-shape.false c.if-shape-2.true
+returns-then-shape-2 c = λ amount parts p x g f. unbounded_is (format_at c.args.shape)
+    c.args.mode c.args.negative amount parts (c.args.after * 2 ^ c.args.cut.place) c.if-shape.false c.if-shape-2.true
     ∙ (rw (c.remade.ensures, c.remade-then-shape-2.ensures) at c.rounds_below_normal.ensures) amount parts p x
     (g (read_halves (format_at c.args.shape) c.if-shape.false c.if-shape-2.true))
 
 pub returns : goal.returns
-returns c = λ amount parts p x g f.
-    picked_is (format_at c.args.shape) c.args.mode c.args.negative amount parts (c.args.after * 2 ^ c.args.cut.place)
-    c.if-shape.false c.if-shape-2.false
+returns c = λ amount parts p x g f. picked_is (format_at c.args.shape) c.args.mode c.args.negative amount parts
+    (c.args.after * 2 ^ c.args.cut.place) c.if-shape.false c.if-shape-2.false
     ∙ sym (tiny_after (2 ^ (c.args.shape.precision - 1)) c.args.after c.args.cut.place f)
     ∙ ap (λ n. ltb c.args.after n) (sym c.integer_bit-2.ensures)

@@ -14,9 +14,8 @@ use Rattle.apfloat_rounding.proofs.rounding.keep.Goals as goal
 
 pub returns-then-significand-eq0-clause-cut : goal.returns-then-significand-eq0-clause-cut
 returns-then-significand-eq0-clause-cut c = λ amount parts u h.
-    let n : c.args.unit ≤ℤ pos 0 → ⊥ = omega (arith, ints) in
     let z = exact_zero c.args.significand c.args.precision c.args.loss (c.args.unit ≤ℤ pos 0)
-    c.if-significand-eq0.true c.requires.fine n in
+    c.if-significand-eq0.true c.requires.fine (omega (arith, ints)) in
     as_exact c.args.precision 0 0 c.args.loss amount parts z
     (zero_kept c.args.precision c.args.significand (up c.args.unit) (down c.args.unit) c.args.loss amount parts
     c.requires.some u c.if-significand-eq0.true z h)
@@ -28,10 +27,9 @@ returns-then-unit-place-clause-cut c = λ amount parts u h.
     let covers = rw e at c.kept_place-place.ensures.covers in
     let reached = rw e at c.kept_place-place.ensures.reached in
     let steps = rw e at c.steps_down.ensures in
-    let j : 0 < c.steps_down.result = omega (arith, ints) in
     let z = exact_shift c.args.significand c.digits.result c.steps_down.result c.kept_place-place.result
     (up c.args.unit) (down c.args.unit) c.args.precision c.args.loss (c.args.unit ≤ℤ pos 0)
-    c.digits.ensures.below j covers steps c.requires.fine n in
+    c.digits.ensures.below (omega (arith, ints)) covers steps c.requires.fine n in
     as_exact c.args.precision _ c.kept_place-place.result c.args.loss amount parts z
     (shift_kept c.args.precision c.args.significand c.digits.result c.steps_down.result
     c.kept_place-place.result (up c.args.unit) (down c.args.unit) c.args.loss amount parts c.requires.some
@@ -41,10 +39,8 @@ returns-then-unit-place-clause-cut c = λ amount parts u h.
 -- the unit is the place
 same_place : (c : After-quarters) → 0 + up c.args.unit ≡ c.kept_place-place.result + down c.args.unit
 same_place c =
-    let e = to_z-of_z w32 c.args.unit c.ranges.unit in
-    let steps = rw e at c.steps_up-steps.ensures in
-    let z = c.if-steps-eq0.true in
-    omega (arith, steps, z)
+    let steps = rw (to_z-of_z w32 c.args.unit c.ranges.unit) at c.steps_up-steps.ensures in
+    omega (arith, steps, c.if-steps-eq0.true)
 
 pub returns-then-steps-eq0-clause-fits : goal.returns-then-steps-eq0-clause-fits
 returns-then-steps-eq0-clause-fits c =
@@ -72,10 +68,8 @@ steps : (c : After-shift_right-halves)
     → (c.steps_up-steps.result + up c.args.unit ≡ c.kept_place-place.result + down c.args.unit)
     × (c.shift_right-halves.result.significand / 2 ≡ c.args.significand / 2 ^ c.steps_up-steps.result)
 steps c =
-    let e = to_z-of_z w32 c.args.unit c.ranges.unit in
-    let z = c.if-steps-eq0.false in
-    let k : c.steps_up-steps.result - 1 + 1 ≡ c.steps_up-steps.result = omega (arith, z) in (
-      rw e at c.steps_up-steps.ensures,
+    let k : c.steps_up-steps.result - 1 + 1 ≡ c.steps_up-steps.result = omega (arith, c.if-steps-eq0.false) in (
+      rw (to_z-of_z w32 c.args.unit c.ranges.unit) at c.steps_up-steps.ensures,
       ap (λ (x : ℕ). x / 2) c.shift_right-halves.ensures.quotient
           ∙ shr-shr c.args.significand (c.steps_up-steps.result - 1) 1
           ∙ ap (λ (x : ℕ). c.args.significand / 2 ^ x) k,
@@ -94,9 +88,8 @@ returns-clause-cut c = λ amount parts u h.
     (2 ^ (n - 1) * (parts * 2 ^ up c.args.unit)) (mul-pos (pow_pos (n - 1)) v) c.quarters-2.ensures.few
     c.quarters-2.ensures.same g in
     let t : 2 * 2 ^ (c.steps_up-steps.result - 1) ≡ 2 ^ c.steps_up-steps.result = twice_half n (omega (arith, z)) in
-    let t' : 2 * (2 ^ (c.steps_up-steps.result - 1) * (parts * 2 ^ up c.args.unit))
-    ≡ 2 ^ c.steps_up-steps.result * (parts * 2 ^ up c.args.unit) =
-    omega arith ∙ ap (λ (x : ℕ). x * (parts * 2 ^ up c.args.unit)) t in
+    let t' : 2 * (2 ^ (c.steps_up-steps.result - 1) * (parts * 2 ^ up c.args.unit)) ≡ 2 ^ c.steps_up-steps.result
+    * (parts * 2 ^ up c.args.unit) = omega arith ∙ ap (λ (x : ℕ). x * (parts * 2 ^ up c.args.unit)) t in
     rw c.last_digit.ensures
     (cut_kept c.args.precision c.args.significand (halves / 2) c.digits.result n c.kept_place-place.result
     (up c.args.unit) (down c.args.unit) (loss_at (4 * (halves % 2) + c.quarters-2.result) 4) amount parts
@@ -113,16 +106,14 @@ returns-clause-finely c = λ f amount parts u h.
     let halves = c.shift_right-halves.result.significand in
     let v : 0 < parts * 2 ^ up c.args.unit = mul-pos u (pow_pos (up c.args.unit)) in
     let g = c.shift_right-halves.ensures.stands (amount * 2 ^ down c.args.unit) (parts * 2 ^ up c.args.unit) v h in
-    let e = to_z-of_z w32 c.args.unit c.ranges.unit in
     let full = cut_full c.args.precision c.args.significand (halves / 2) c.digits.result n c.kept_place-place.result
     (up c.args.unit) (down c.args.unit) c.requires.some c.digits.ensures.full
-    (rw e at c.kept_place-place.ensures.reached) s.0 s.1 in
+    (rw (to_z-of_z w32 c.args.unit c.ranges.unit) at c.kept_place-place.ensures.reached) s.0 s.1 in
     rw c.last_digit.ensures
     (λ o m.
     let w = at_quantum c.args.precision (halves / 2) c.kept_place-place.result full o in
-    let k : c.steps_up-steps.result - 1 + 1 + up c.args.unit ≡ 0 + down c.args.unit = omega (arith, s.0, w, z) in
     eighths_finely halves c.quarters-2.result c.shift_right-halves.result.loss amount parts (n - 1) (up c.args.unit)
-    (down c.args.unit) c.quarters-2.ensures.few c.quarters-2.ensures.same m k g)
+    (down c.args.unit) c.quarters-2.ensures.few c.quarters-2.ensures.same m (omega (arith, s.0, w, z)) g)
 
 pub returns-then-unit-place-clause-fits : goal.returns-then-unit-place-clause-fits
 returns-then-unit-place-clause-fits c =
@@ -141,16 +132,14 @@ returns-then-unit-place-clause-full c =
 
 pub returns-clause-fits : goal.returns-clause-fits
 returns-clause-fits c =
-    let e = to_z-of_z w32 c.args.unit c.ranges.unit in
     let s = steps (goal.at.returns-clause-fits c).After-shift_right-halves in
     cut_fits c.args.precision c.args.significand (c.shift_right-halves.result.significand / 2) c.digits.result
     c.steps_up-steps.result c.kept_place-place.result (up c.args.unit) (down c.args.unit) c.digits.ensures.below
-    (rw e at c.kept_place-place.ensures.covers) s.0 s.1
+    (rw (to_z-of_z w32 c.args.unit c.ranges.unit) at c.kept_place-place.ensures.covers) s.0 s.1
 
 pub returns-clause-full : goal.returns-clause-full
 returns-clause-full c =
-    let e = to_z-of_z w32 c.args.unit c.ranges.unit in
     let s = steps (goal.at.returns-clause-full c).After-shift_right-halves in
     cut_full c.args.precision c.args.significand (c.shift_right-halves.result.significand / 2) c.digits.result
     c.steps_up-steps.result c.kept_place-place.result (up c.args.unit) (down c.args.unit) c.requires.some
-    c.digits.ensures.full (rw e at c.kept_place-place.ensures.reached) s.0 s.1
+    c.digits.ensures.full (rw (to_z-of_z w32 c.args.unit c.ranges.unit) at c.kept_place-place.ensures.reached) s.0 s.1

@@ -4,5 +4,4 @@ use Rattle.apfloat_rounding.proofs.rounding.moves_up.Goals as goal
 
 pub returns : goal.returns
 returns c =
-    c.moves_past.ensures
-    ∙ ap (λ (x : Loss). rounds_up c.args.mode c.args.negative x c.args.odd) c.quarters.ensures.same
+    c.moves_past.ensures ∙ ap (λ (x : Loss). rounds_up c.args.mode c.args.negative x c.args.odd) c.quarters.ensures.same

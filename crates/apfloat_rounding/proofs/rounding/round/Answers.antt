@@ -11,8 +11,7 @@ use Rattle.apfloat_rounding.proofs.rounding.round.Goals as goal
 -- the picked significand has all digits above the lowest place
 picked_full : (c : After-pick_with_status-picked)
     → (c.args.cut.place ≡ 0) ⊎ (2 ^ (c.args.shape.precision - 1) ≤ c.pick_with_status-picked.result.significand)
-picked_full c =
-    ⊎_elim (λ z. inl z) (λ f. inr (le_trans f c.pick_with_status-picked.ensures.above)) c.requires.full
+picked_full c = ⊎_elim (λ z. inl z) (λ f. inr (le_trans f c.pick_with_status-picked.ensures.above)) c.requires.full
 
 pub returns-then-stays_within-clause-delivered : goal.returns-then-stays_within-clause-delivered
 returns-then-stays_within-clause-delivered c = λ amount parts u h g.
@@ -43,9 +42,8 @@ returns-then-is_past-clause-delivered c = λ amount parts u h g.
     (rounds_up c.args.mode c.args.negative loss (eqb (m % 2) 1)) refl
     (c.carried-point.ensures.value ∙ ap (λ (x : ℕ). x * 2 ^ c.args.cut.place) c.pick_with_status-picked.ensures.value)
     u h.0 h.1 in
-    let a = sym c.is_past.ensures ∙ c.if-is_past.true in
-    delivered_past f c.args.mode c.args.negative amount parts p _ _ is a c.overflowed.ensures.answer.value_is
-    c.overflowed.ensures.answer.status_is
+    delivered_past f c.args.mode c.args.negative amount parts p _ _ is (sym c.is_past.ensures ∙ c.if-is_past.true)
+    c.overflowed.ensures.answer.value_is c.overflowed.ensures.answer.status_is
 
 pub returns-clause-delivered : goal.returns-clause-delivered
 returns-clause-delivered c = λ amount parts u h g.
@@ -65,6 +63,5 @@ returns-clause-delivered c = λ amount parts u h g.
     c.pick_with_status-picked.result.tiny _ _ u refl
     (v ∙ ap (λ (x : ℕ). x * 2 ^ place) c.pick_with_status-picked.ensures.value) a h.0 h.1
     (subst (λ (x : ℕ). is_tiny f c.args.mode c.args.negative amount parts x ≡ c.pick_with_status-picked.result.tiny)
-    (sym v) t)
-    (ap (datum_at c.args.shape) c.and-2.ensures.value ∙ c.from_full_quanta.ensures.datum)
+    (sym v) t) (ap (datum_at c.args.shape) c.and-2.ensures.value ∙ c.from_full_quanta.ensures.datum)
     (λ z. s ∙ c.pick_with_status-picked.ensures.exact z) (λ n. s ∙ c.pick_with_status-picked.ensures.inexact n)

@@ -22,15 +22,12 @@ returns-clause-delivered c = λ amount parts u h g.
     let p = q * 2 ^ place in
     let s = ap bits_of c.and.ensures.status in
     let k : c.pick_with_status-picked.result.significand * 2 ^ c.args.cut.place
-    ≡ c.pick_with_status-picked.result.significand * 2 ^ 0 =
-    ap (λ (x : ℕ). q * 2 ^ x) c.requires.place in
+    ≡ c.pick_with_status-picked.result.significand * 2 ^ 0 = ap (λ (x : ℕ). q * 2 ^ x) c.requires.place in
     let e : c.pick_with_status-picked.result.significand
     ≡ c.pick_with_status-picked.result.significand * 2 ^ c.args.cut.place = omega (arith, k) in
-    let l = c.requires.fits in
-    let b = c.pick_with_status-picked.ensures.bound in
     let w = half_within f c.args.shape.parameters.precision_low in
     let i : c.pick_with_status-picked.result.significand * 2 ^ c.args.cut.place ≤ largest (format_at c.args.shape) =
-    omega (arith, k, l, b, w) in
+    omega (arith, k, c.requires.fits, c.pick_with_status-picked.ensures.bound, w) in
     delivered_within f c.args.mode c.args.negative m place amount parts p rest half
     (rounds_up c.args.mode c.args.negative (loss_at rest half) (eqb (m % 2) 1))
     c.pick_with_status-picked.result.tiny _ _ u refl

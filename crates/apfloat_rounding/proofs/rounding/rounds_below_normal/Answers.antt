@@ -1,4 +1,4 @@
-use Rattle.std.proofs.Common.{◌≡◌, ◌+◌, ◌-◌, ◌*◌, ◌^◌, ◌<◌, true, ap, sym, ◌∙◌, not, arith, ℕ}
+use Rattle.std.proofs.Common.{◌≡◌, ◌-◌, ◌*◌, ◌<◌, true, ap, sym, ◌∙◌, not, arith, ℕ}
 use Rattle.std.proofs.lemmas.Nat.{pow_pos}
 use Rattle.apfloat_model.specs.rounding.Enclosure.{rounds_up}
 use Rattle.apfloat_rounding.specs.Cuts.{loss_at}
@@ -8,9 +8,8 @@ use Rattle.apfloat_rounding.proofs.rounding.rounds_below_normal.Goals as goal
 
 pub returns-then-cut-last : goal.returns-then-cut-last
 returns-then-cut-last c = λ amount parts p x g.
-    off_last c.args.shape.precision c.args.cut.significand c.args.cut.place amount parts
-    (c.integer_bit-last.result - 1) c.args.mode c.args.negative p (ap (λ n. n - 1) c.integer_bit-last.ensures)
-    c.if-cut-last.true x.0
+    off_last c.args.shape.precision c.args.cut.significand c.args.cut.place amount parts (c.integer_bit-last.result - 1)
+    c.args.mode c.args.negative p (ap (λ n. n - 1) c.integer_bit-last.ensures) c.if-cut-last.true x.0
 
 pub returns-then-cut : goal.returns-then-cut
 returns-then-cut c = λ amount parts p x g.
@@ -28,16 +27,12 @@ returns c = λ amount parts p x g.
     let e = ap (λ n. n - 1) c.integer_bit-last.ensures in
     let n = c.if-cut-last.false in
     let l : c.args.cut.half < c.args.cut.rest = c.if-cut.false in
-    let some = c.args.shape.parameters.precision_low in
-    let w : 0 < 2 ^ (c.args.shape.precision - 1) = pow_pos (precision - 1) in
-    let one : c.args.cut.significand + 1 ≡ 2 ^ (c.args.shape.precision - 1) =
-    omega (arith, n, w, c.integer_bit-last.ensures) in
     let j = last_by_more precision m c.args.cut.place amount parts (c.integer_bit-last.result - 1)
     (loss_at rest half) e n (loss_more rest half l) x.0 x.1 in
-    let b = c.requires.rest in
     let d : 2 * c.args.cut.half - c.args.cut.rest ≡ c.args.cut.half - (c.args.cut.rest - c.args.cut.half) =
-    omega (arith, l, b) in
+    omega (arith, l, c.requires.rest) in
     just_below_half precision m rest half amount parts (c.integer_bit-last.result - 1) c.args.mode c.args.negative
-    (omega (arith, some)) e n j (g one l)
+    (omega (arith, c.args.shape.parameters.precision_low)) e n j
+    (g (omega (arith, n, pow_pos (precision - 1), c.integer_bit-last.ensures)) l)
     ∙ ap not (ap (λ (y : ℕ). rounds_up c.args.mode c.args.negative (loss_at (rest - half) y) true) d
     ∙ sym c.moves_past.ensures)

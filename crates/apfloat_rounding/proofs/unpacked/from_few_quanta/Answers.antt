@@ -12,9 +12,7 @@ use Rattle.apfloat_rounding.proofs.unpacked.from_few_quanta.Goals as goal
 fits : (state : After-digits) → state.args.quanta < 2 ^ state.args.shape.precision
 fits c =
     let t = twice_half c.args.shape.precision (omega (arith, c.args.shape.parameters.precision_low)) in
-    let p : 0 < 2 ^ (c.args.shape.precision - 1) = pow_pos (c.args.shape.precision - 1) in
-    let f = c.requires.few in
-    omega (arith, t, p, f)
+    omega (arith, t, pow_pos (c.args.shape.precision - 1), c.requires.few)
 
 at_most : (state : After-digits) → state.digits.result ≤ state.args.shape.precision
 at_most c =
@@ -49,8 +47,7 @@ moved_up c =
     }
 
 pub returns-else-quanta-eq0-clause-stored : goal.returns-else-quanta-eq0-clause-stored
-returns-else-quanta-eq0-clause-stored c =
-    moved_up_normal c.args.shape c.args.quanta c.digits.result 0 _ _ (moved_up c)
+returns-else-quanta-eq0-clause-stored c = moved_up_normal c.args.shape c.args.quanta c.digits.result 0 _ _ (moved_up c)
 
 pub returns-else-quanta-eq0-clause-datum : goal.returns-else-quanta-eq0-clause-datum
 returns-else-quanta-eq0-clause-datum c =

@@ -27,8 +27,7 @@ full c =
 
 pub returns-clause-stored : goal.returns-clause-stored
 returns-clause-stored c =
-    moved_up_normal c.args.shape c.args.significand c.args.shape.precision c.args.place _ _
-    (full c)
+    moved_up_normal c.args.shape c.args.significand c.args.shape.precision c.args.place _ _ (full c)
 
 pub returns-clause-datum : goal.returns-clause-datum
 returns-clause-datum c =

@@ -9,12 +9,10 @@ overflow_sub-shift c =
     digits_le c.args.significand c.digits.result c.args.shape.precision c.requires.fits c.digits.ensures.full
 
 is_moved_up : (state : goal.After-exponent_at)
-    → IsMovedUp state.args.shape state.args.significand state.digits.result state.args.place
-    state.moved_up.result
+    → IsMovedUp state.args.shape state.args.significand state.digits.result state.args.place state.moved_up.result
     (to_z w32 (of_z w32 state.exponent_at.result))
 is_moved_up c =
-    let l = digits_le c.args.significand c.digits.result c.args.shape.precision c.requires.fits
-    c.digits.ensures.full in
+    let l = digits_le c.args.significand c.digits.result c.args.shape.precision c.requires.fits c.digits.ensures.full in
     let e = to_z-of_z w32 c.exponent_at.result (record { sfits = c.exponent_at.type_inv }) in
     record {
       fits = c.requires.fits;
@@ -29,8 +27,7 @@ is_moved_up c =
 
 pub moved_up-requires-clause-fits : goal.moved_up-requires-clause-fits
 moved_up-requires-clause-fits c =
-    let l = digits_le c.args.significand c.digits.result c.args.shape.precision c.requires.fits
-    c.digits.ensures.full in
+    let l = digits_le c.args.significand c.digits.result c.args.shape.precision c.requires.fits c.digits.ensures.full in
     fits_shifted c.args.significand c.digits.result (c.args.shape.precision - c.digits.result)
     c.args.shape.precision c.digits.ensures.below (omega (arith, l))
 

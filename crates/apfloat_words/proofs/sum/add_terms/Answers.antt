@@ -13,8 +13,7 @@ sum_of-total-requires-clause-above c = c.in_order_of_exponents.ensures.order
 
 pub sum_of-total-requires-clause-high : goal.sum_of-total-requires-clause-high
 sum_of-total-requires-clause-high c =
-    of_high (λ (t : Term). IsWithin exponent_bound t.exponent) _ _ _ _
-    c.in_order_of_exponents.ensures.same c.requires.x
+    of_high (λ (t : Term). IsWithin exponent_bound t.exponent) _ _ _ _ c.in_order_of_exponents.ensures.same c.requires.x
     c.requires.y
 
 pub sum_of-total-requires-clause-low : goal.sum_of-total-requires-clause-low
@@ -37,10 +36,8 @@ exponent_is : (c : After-sum_of-total)
     → to_z w32 (of_z w32 c.sum_of-total.result.exponent) ≡ c.sum_of-total.result.exponent
 exponent_is c =
     let same = c.in_order_of_exponents.ensures.same in
-    let h = of_high (λ (t : Term). IsWithin exponent_bound t.exponent) _ _ _ _ same c.requires.x
-    c.requires.y in
-    let l = of_low (λ (t : Term). IsWithin exponent_bound t.exponent) _ _ _ _ same c.requires.x
-    c.requires.y in
+    let h = of_high (λ (t : Term). IsWithin exponent_bound t.exponent) _ _ _ _ same c.requires.x c.requires.y in
+    let l = of_low (λ (t : Term). IsWithin exponent_bound t.exponent) _ _ _ _ same c.requires.x c.requires.y in
     omega (arith, ints, h.low, h.high, l.low, l.high, c.sum_of-total.ensures.near, c.sum_of-total.ensures.far)
 
 pub returns-clause-zero : goal.returns-clause-zero
@@ -51,24 +48,21 @@ returns-clause-zero c = λ s l.
 pub returns-clause-coarser : goal.returns-clause-coarser
 returns-clause-coarser c = λ e.
     let same = c.in_order_of_exponents.ensures.same in
-    let l = c.sum_of-total.ensures.coarser
-    (like_in_order Bool (λ (t : Term). t.negative) _ _ _ _ same e) in
+    let l = c.sum_of-total.ensures.coarser (like_in_order Bool (λ (t : Term). t.negative) _ _ _ _ same e) in
     rw (exponent_is (goal.at.returns-clause-coarser c).After-sum_of-total)
     (greater_first _ _ _ _ _ same c.in_order_of_exponents.ensures.order l)
 
 pub returns-clause-level : goal.returns-clause-level
 returns-clause-level c = λ e.
     let same = c.in_order_of_exponents.ensures.same in
-    let l = c.sum_of-total.ensures.level
-    (like_in_order ℤ (λ (t : Term). t.exponent) _ _ _ _ same e) in
+    let l = c.sum_of-total.ensures.level (like_in_order ℤ (λ (t : Term). t.exponent) _ _ _ _ same e) in
     rw (exponent_is (goal.at.returns-clause-level c).After-sum_of-total)
     (l ∙ of_high (λ (t : Term). t.exponent ≡ c.args.x.exponent) _ _ _ _ same refl (sym e))
 
 pub returns-clause-halved : goal.returns-clause-halved
 returns-clause-halved c = λ n d.
     let same = c.in_order_of_exponents.ensures.same in
-    let l = c.sum_of-total.ensures.halved
-    (λ p. n (like_out_of_order Bool (λ (t : Term). t.negative) _ _ _ _ same p))
+    let l = c.sum_of-total.ensures.halved (λ p. n (like_out_of_order Bool (λ (t : Term). t.negative) _ _ _ _ same p))
     (λ p. d (like_out_of_order ℤ (λ (t : Term). t.exponent) _ _ _ _ same p)) in
     rw (exponent_is (goal.at.returns-clause-halved c).After-sum_of-total)
     (greater_first _ _ _ _ _ same c.in_order_of_exponents.ensures.order l)

@@ -15,9 +15,8 @@ returns-then-is_exact-clause-is c =
     c.shift_right-shifted.result.loss c.shift_right-shifted.ensures.stands in
     even_difference c.level-then-is_exact.result.flipped c.level-then-is_exact.result.significand
     c.shift_right-shifted.result.significand c.args.high c.args.low c.args.gap c.shift_right-shifted.result.loss
-    c.level-then-is_exact.result.loss p
-    (c.is_exact.ensures.yes c.if-is_exact.true) c.level-then-is_exact.ensures.exact h
-    c.level-then-is_exact.ensures.balances
+    c.level-then-is_exact.result.loss p (c.is_exact.ensures.yes c.if-is_exact.true)
+    c.level-then-is_exact.ensures.exact h c.level-then-is_exact.ensures.balances
 
 pub returns-then-shifted-double-clause-is : goal.returns-then-shifted-double-clause-is
 returns-then-shifted-double-clause-is c =

@@ -40,8 +40,7 @@ returns-clause-stands c = λ base l.
     let r = apart_stands base c.args.high.exponent c.args.low.exponent c.exponent_apart.result c.args.high.negative
     c.args.low.negative c.apart-difference.result.flipped c.args.high.significand c.args.low.significand
     c.steps_between-gap.result c.apart-difference.result.significand c.apart-difference.result.loss l g d
-    (unlike c.args.high.negative c.args.low.negative c.if-high-low.false)
-    c.apart-difference.ensures.is in
+    (unlike c.args.high.negative c.args.low.negative c.if-high-low.false) c.apart-difference.ensures.is in
     rw w (subst (λ (x : Bool). StandsForSigned base
     (counted base c.args.high.negative c.args.high.exponent c.args.high.significand +ℤ counted base
     c.args.low.negative c.args.low.exponent c.args.low.significand) x c.exponent_apart.result

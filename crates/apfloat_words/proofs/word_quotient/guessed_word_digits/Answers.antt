@@ -5,8 +5,7 @@ use Rattle.apfloat_words.proofs.LongDivisions.{IsNear, guess_small, near_below, 
 use Rattle.apfloat_words.proofs.word_quotient.guessed_word_digits.Goals.{Start, After-less_word_divisor}
 use Rattle.apfloat_words.proofs.word_quotient.guessed_word_digits.Goals as goal
 
-is_near : (state : Start)
-    → IsNear state.args.rest state.args.divisor (2 ^ state.args.places) state.args.guess
+is_near : (state : Start) → IsNear state.args.rest state.args.divisor (2 ^ state.args.places) state.args.guess
 is_near c = record {
   below = c.requires.below;
   some = pow_pos c.args.places;
@@ -27,8 +26,7 @@ less_word_divisor-requires-clause-rest c =
     let b = near_below _ _ _ _ (2 ^ 64) (is_near c) (pow_pos 64) (omega (arith, n)) in
     omega (arith, b, n)
 
-once : (state : After-less_word_divisor)
-    → (state.less_word_divisor.result.rest < state.args.divisor)
+once : (state : After-less_word_divisor) → (state.less_word_divisor.result.rest < state.args.divisor)
     × (state.less_word_divisor.result.digits < 2 ^ state.args.places)
     × (state.less_word_divisor.result.digits * state.args.divisor + state.less_word_divisor.result.rest
     ≡ state.args.rest * 2 ^ state.args.places)
@@ -36,8 +34,7 @@ once c =
     let n = c.requires.narrow in
     near_digits c.args.rest c.args.divisor (2 ^ c.args.places) c.args.guess (2 ^ 64)
     c.less_word_divisor.result.digits c.less_word_divisor.result.rest (is_near c.before) (pow_pos 64)
-    (omega (arith, n)) c.less_word_divisor.ensures.below
-    c.less_word_divisor.ensures.above
+    (omega (arith, n)) c.less_word_divisor.ensures.below c.less_word_divisor.ensures.above
 
 pub returns-clause-left : goal.returns-clause-left
 returns-clause-left c = (once c).0

@@ -14,8 +14,7 @@ has_digits c =
       narrow = c.requires.narrow;
     }
 
-whole : (state : After-digits-up)
-    → state.args.divisor * 2 ^ (62 - state.digits-up.result) % 2 ^ 64
+whole : (state : After-digits-up) → state.args.divisor * 2 ^ (62 - state.digits-up.result) % 2 ^ 64
     ≡ state.args.divisor * 2 ^ (62 - state.digits-up.result)
 whole c = up_whole _ _ 62 64 (has_digits c) (omega arith)
 

@@ -5,8 +5,7 @@ use Rattle.commands.proofs.reply.command.Goals as goal
 
 pub returns-then-words-lt4-clause-reply : goal.returns-then-words-lt4-clause-reply
 returns-then-words-lt4-clause-reply c =
-    only_count (map string_bytes c.args.words.now) _ (length-map c.args.words.now string_bytes)
-    c.then-words-lt4.either
+    only_count (map string_bytes c.args.words.now) _ (length-map c.args.words.now string_bytes) c.then-words-lt4.either
 
 pub returns-clause-reply : goal.returns-clause-reply
 returns-clause-reply c =

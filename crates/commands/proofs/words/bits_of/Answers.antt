@@ -16,6 +16,5 @@ without_prefix (Some x) bytes h = rw h.0 h.1
 pub returns : goal.returns
 returns c =
     let digits = without_prefix c.strip_prefix.result c.as_bytes-bytes.result c.strip_prefix.ensures.cases in
-    c.bits_of_digits.ensures
-    ∙ ap (bits_of_digits c.args.width)
+    c.bits_of_digits.ensures ∙ ap (bits_of_digits c.args.width)
     (ap (λ (b : Bor (List ℕ)). b.now) c.unwrap_or.ensures ∙ digits ∙ ap after_0x c.as_bytes-bytes.ensures.value)

@@ -8,7 +8,6 @@ use Rattle.exact_reductions.proofs.reductions.dot_in.Goals as goal
 pub returns : goal.returns
 returns g c =
     let f = format_of g.S.Flagged in
-    subst
-    (λ (t : Tally). IsTotal f c.args.round t c.rounded.result.value (bits_of c.rounded.result.status))
+    subst (λ (t : Tally). IsTotal f c.args.round t c.rounded.result.value (bits_of c.rounded.result.status))
     (from_none _ _ (tally (product_terms f c.args.x.now c.args.y.now)) c.new-sum.ensures c.add_products.ensures)
     c.rounded.ensures

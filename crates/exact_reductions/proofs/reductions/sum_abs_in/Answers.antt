@@ -8,7 +8,6 @@ use Rattle.exact_reductions.proofs.reductions.sum_abs_in.Goals as goal
 pub returns : goal.returns
 returns g c =
     let f = format_of g.S.Flagged in
-    subst
-    (λ (t : Tally). IsTotal f c.args.round t c.rounded.result.value (bits_of c.rounded.result.status))
+    subst (λ (t : Tally). IsTotal f c.args.round t c.rounded.result.value (bits_of c.rounded.result.status))
     (from_none _ _ (tally (magnitude_terms f c.args.x.now)) c.new-sum.ensures c.add_magnitudes.ensures)
     c.rounded.ensures

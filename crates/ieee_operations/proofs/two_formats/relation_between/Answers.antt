@@ -6,6 +6,5 @@ use Rattle.ieee_operations.proofs.two_formats.relation_between.Goals as goal
 
 pub returns-in-Zero : goal.returns-in-Zero
 returns-in-Zero g c =
-    c.partial_cmp.ensures ∙ ap (λ z. compared z c.args.y) c.zero.ensures
-    ∙ zero_ordered (format_of g.S.Flagged) (format_of g.T.Flagged) c.args.x c.args.y
-    (sym c.category.ensures.category ∙ c.in-Zero.is)
+    c.partial_cmp.ensures ∙ ap (λ z. compared z c.args.y) c.zero.ensures ∙ zero_ordered (format_of g.S.Flagged)
+    (format_of g.T.Flagged) c.args.x c.args.y (sym c.category.ensures.category ∙ c.in-Zero.is)

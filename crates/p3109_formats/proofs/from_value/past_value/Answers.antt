@@ -8,8 +8,7 @@ use Rattle.p3109_formats.proofs.from_value.past_value.Goals as goal
 pub returns-then-leads-clause-datum : goal.returns-then-leads-clause-datum
 returns-then-leads-clause-datum c =
     let d = c.args.format in
-    c.past.ensures.datum
-    ∙ sym (ap (λ (b : Bool). cond b (past_value d c.args.negative)
+    c.past.ensures.datum ∙ sym (ap (λ (b : Bool). cond b (past_value d c.args.negative)
     (finite c.args.negative (point d.precision (largest_index d)))) c.if-leads.true)
 
 -- the largest number is not zero, so it keeps its sign
@@ -18,6 +17,5 @@ returns-clause-datum c =
     let d = c.args.format in
     (rw c.largest_index.ensures at c.number.ensures.datum)
     ∙ number_signed d.precision (largest_index d) c.args.negative c.requires.lawful.precision_low
-    (largest_some d c.requires.lawful)
-    ∙ sym (ap (λ (b : Bool). cond b (past_value d c.args.negative)
+    (largest_some d c.requires.lawful) ∙ sym (ap (λ (b : Bool). cond b (past_value d c.args.negative)
     (finite c.args.negative (point d.precision (largest_index d)))) c.if-leads.false)

@@ -21,8 +21,7 @@ returns c = λ amount parts some h.
     (up number.unit) (down number.unit) c.args.mode c.args.bits _ c.requires.some some c.requires.low
     c.requires.high (rw e at c.kept_place-place.ensures.covers) (rw e at c.kept_place-place.ensures.reached)
     (rw e at c.steps_up-places.ensures) h
-    (λ n m more is.
-    ap (λ (k : ℕ). leb c.power_of_two.result (k + c.from-2.result)) c.from.ensures
+    (λ n m more is. ap (λ (k : ℕ). leb c.power_of_two.result (k + c.from-2.result)) c.from.ensures
     ∙ ap (λ (k : ℕ). leb c.power_of_two.result (c.parts_of-parts.result + k)) c.from-2.ensures
     ∙ ap (λ (k : ℕ). leb k (c.parts_of-parts.result + c.args.bits.random)) c.power_of_two.ensures
     ∙ ap (λ (k : ℕ). leb (2 ^ c.args.bits.digits) (k + c.args.bits.random)) (c.parts_of-parts.ensures n m more is))

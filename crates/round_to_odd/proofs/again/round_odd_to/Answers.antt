@@ -7,9 +7,8 @@ use Rattle.round_to_odd.proofs.again.round_odd_to.Goals as goal
 
 pub returns-clause-once : goal.returns-clause-once
 returns-clause-once g c = λ room negative amount parts nonzero some odd.
-    let ranges = ranges_of (constants_of g.T.Flagged) g.T.Flagged.lawful in
     rounded_once (format_of g.S.Flagged) (format_of g.T.Flagged) c.args.round negative amount parts c.args.first
-    c.and.result ranges.precision_low room nonzero some odd
+    c.and.result (ranges_of (constants_of g.T.Flagged) g.T.Flagged.lawful).precision_low room nonzero some odd
     (record {
       again = bits_of c.convert_r-again.result.status;
       loses_info = c.convert_r-again.new.loses_info;

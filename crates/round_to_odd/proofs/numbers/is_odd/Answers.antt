@@ -8,8 +8,7 @@ use Rattle.round_to_odd.proofs.numbers.is_odd.{Given.Over, Goals.After-digits_be
 use Rattle.round_to_odd.proofs.numbers.is_odd.Goals as goal
 
 -- how many digits are below the quantum
-below_is : (g : Over) → (state : After-digits_below_quantum g)
-    → state.digits_below_quantum.result
+below_is : (g : Over) → (state : After-digits_below_quantum g) → state.digits_below_quantum.result
     ≡ down (state.number-number.result.exponent +ℤ pos (format_of g.S.Flagged).scale)
 below_is g c =
     let within = c.number-number.ensures.within in
@@ -25,22 +24,17 @@ is_odd_above-requires g c =
     let f = format_of g.S.Flagged in
     let number = c.number-number in
     let law = g.S.Flagged.lawful.parameters in
-    let some = law.precision_low in
-    let few = law.precision_high in
-    let below = below_is g (goal.at.is_odd_above-requires g c).After-digits_below_quantum in
     let least = few_below f.precision (quanta_of c.args.x) number.result.significand
-    (number.result.exponent +ℤ pos f.scale) (omega (arith, some)) c.requires.some number.ensures.fits
+    (number.result.exponent +ℤ pos f.scale) (omega (arith, law.precision_low)) c.requires.some number.ensures.fits
     number.ensures.number in
-    omega (arith, below, least, few)
+    omega (arith, below_is g (goal.at.is_odd_above-requires g c).After-digits_below_quantum, least, law.precision_high)
 
 pub returns : goal.returns
 returns g c = λ above next.
     let f = format_of g.S.Flagged in
     let number = c.number-number in
     let some = g.S.Flagged.lawful.parameters.precision_low in
-    c.is_odd_above.ensures
-    ∙ ap (λ (n : ℕ). eqb (number.result.significand / 2 ^ n % 2) 1)
+    c.is_odd_above.ensures ∙ ap (λ (n : ℕ). eqb (number.result.significand / 2 ^ n % 2) 1)
     (below_is g (goal.at.returns g c).After-digits_below_quantum)
-    ∙ odd_read f.precision (quanta_of c.args.x) number.result.significand above
-    (number.result.exponent +ℤ pos f.scale) (omega (arith, some)) number.ensures.fits number.ensures.full
-    number.ensures.number next
+    ∙ odd_read f.precision (quanta_of c.args.x) number.result.significand above (number.result.exponent +ℤ pos f.scale)
+    (omega (arith, some)) number.ensures.fits number.ensures.full number.ensures.number next

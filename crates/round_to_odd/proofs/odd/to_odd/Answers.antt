@@ -11,12 +11,11 @@ pub returns-then-intersects-clause-odd : goal.returns-then-intersects-clause-odd
 returns-then-intersects-clause-odd g c = λ amount parts some d.
     let f = format_of g.S.Flagged in
     let ranges = ranges_of (constants_of g.S.Flagged) g.S.Flagged.lawful in
-    let flag : has_flag (bits_of c.args.answer.status) inexact_bit ≡ true =
-    sym (c.intersects.ensures tt) ∙ c.if-intersects.true in
     odd_of_truncated f c.args.negative amount parts c.args.answer c.and.result ranges.precision_low some d
     (record {
       status_is = ap bits_of c.and.ensures.status;
-      value_is = match_true _ _ _ flag (rw c.and.ensures.value c.made_odd.ensures);
+      value_is = match_true _ _ _ (sym (c.intersects.ensures tt) ∙ c.if-intersects.true)
+          (rw c.and.ensures.value c.made_odd.ensures);
     })
 
 pub returns-else-intersects-clause-odd : goal.returns-else-intersects-clause-odd

@@ -11,8 +11,7 @@ returns-then-is_zero g c =
     zero_projected (format_of g.S.Semantics) d c.args.round c.args.of_zero c.args.odd.value _ _ _
     (sym c.is_zero.ensures ∙ c.if-is_zero.true)
     (ap (datum_of d) c.and.ensures.value ∙ c.with_sign.ensures
-    ∙ ap (λ (n : ℕ). finite c.args.of_zero n) (zero_point d.precision))
-    (ap bits_of c.and.ensures.status)
+    ∙ ap (λ (n : ℕ). finite c.args.of_zero n) (zero_point d.precision)) (ap bits_of c.and.ensures.status)
 
 pub returns-then-is_finite : goal.returns-then-is_finite
 returns-then-is_finite g c =
@@ -25,7 +24,5 @@ returns-else-is_finite g c =
     value_projected (format_of g.S.Semantics) (constants_of g.F.StorageFormat) c.args.round c.args.of_zero
     c.args.odd.value (bits_of c.args.odd.status) (bits_of c.from_value-answer.result.status)
     c.and-else-is_finite.result.value (bits_of c.and-else-is_finite.result.status) c.from_value-answer.new.loses_info
-    (sym c.is_zero.ensures ∙ c.if-is_zero.false)
-    (rw c.and-else-is_finite.ensures.value c.from_value-answer.ensures)
-    (ap bits_of c.and-else-is_finite.ensures.status
-    ∙ rw (sym c.is_finite.ensures ∙ c.if-is_finite.false) refl)
+    (sym c.is_zero.ensures ∙ c.if-is_zero.false) (rw c.and-else-is_finite.ensures.value c.from_value-answer.ensures)
+    (ap bits_of c.and-else-is_finite.ensures.status ∙ rw (sym c.is_finite.ensures ∙ c.if-is_finite.false) refl)

@@ -30,15 +30,13 @@ exact_finite element g scale code value flag e = (ap is_finite e.value_is, ap is
 
 -- the value in quanta of g
 exact_quanta : (element : ElementFormat) (g : Format) (scale code : ℕ) (value : Datum) (flag : ℕ)
-    → IsExactlyScaled element g scale code value flag
-    → quanta_of value * 2 ^ ((format_of_element element).scale + 127)
+    → IsExactlyScaled element g scale code value flag → quanta_of value * 2 ^ ((format_of_element element).scale + 127)
     ≡ quanta_of (element_datum element code) * 2 ^ (scale + g.scale)
 exact_quanta element g scale code value flag e =
     let into : ℕ = (format_of_element element).scale + 127 in
     let split : 2 ^ (scale + g.scale) ≡ 2 ^ scale * 2 ^ g.scale = pow-add 2 scale g.scale in
     let whole : e.number * 2 ^ scale * 2 ^ g.scale ≡ e.number * (2 ^ scale * 2 ^ g.scale) = omega arith in
-    ap (λ (x : Datum). quanta_of x * 2 ^ into) e.value_is ∙ e.same ∙ whole
-    ∙ ap (λ (k : ℕ). e.number * k) (sym split)
+    ap (λ (x : Datum). quanta_of x * 2 ^ into) e.value_is ∙ e.same ∙ whole ∙ ap (λ (k : ℕ). e.number * k) (sym split)
     ∙ ap (λ (x : Datum). quanta_of x * 2 ^ (scale + g.scale)) (sym e.element_is)
 
 -- what the proof of a block has of it
@@ -55,13 +53,11 @@ known_block : (element : ElementFormat) (g : Format) (scale : ℕ) (codes : List
     → AreElementsInPlaces (λ code value status. IsExactlyScaled element g scale code value status) codes values flags
     → IsKnownBlock element g scale codes values
 known_block element g scale codes values flags narrow all =
-    let Holds : ℕ → Datum → ℕ
-    → Type 0 = λ code value status. IsExactlyScaled element g scale code value status in
+    let Holds : ℕ → Datum → ℕ → Type 0 = λ code value status. IsExactlyScaled element g scale code value status in
     let size = all.same_size in
     let count = all.flags_size in
     let numbers : (k d : ℕ) → k < length codes
-    → IsElementNumber element (quanta_of (element_datum element (get_or codes k d))) =
-    λ k d l.
+    → IsElementNumber element (quanta_of (element_datum element (get_or codes k d))) = λ k d l.
     let t = there Holds codes values flags k (get_or codes k d) all (slice_get-get_or codes k d l) in
     element_number element (get_or codes k d) (narrow k d l)
     (exact_finite element g scale (get_or codes k d) t.value t.status t.holds).1 in
@@ -106,14 +102,12 @@ again_element element g mode scale other more codes values flags place code agai
 pub quantized_again : IsQuantizedAgain
 quantized_again element g mode scale codes before again values counts block below narrow exact has q =
     let f = format_of_element element in
-    let Exact : ℕ → Datum → ℕ
-    → Type 0 = λ code value status. IsExactlyScaled element g scale code value status in
+    let Exact : ℕ → Datum → ℕ → Type 0 = λ code value status. IsExactlyScaled element g scale code value status in
     let all = exact.in_places in
     let b = known_block element g scale codes values exact.flags narrow all in
     let numbers : IsBlockOfNumbers Floor element g mode values again block =
     MatchBool-at_true (IsBlockOfNumbers Floor element g mode values again block)
-    (IsBlockOfNan nan_code values again block)
-    b.finite_is q.2 in
+    (IsBlockOfNan nan_code values again block) b.finite_is q.2 in
     let greatest : ℕ = greatest_element element codes in
     let within = below_end element greatest b.number.within in
     let least : scale ≤ 254 = omega (arith, below) in
@@ -126,11 +120,9 @@ quantized_again element g mode scale codes before again values counts block belo
     let size = all.same_size in
     let written_size = written.same_size in
     let count = written.flags_size in
-    let kept : (place code other status : ℕ) → slice_get codes place ≡ Some code
-    → slice_get again place ≡ Some other
-    → slice_get numbers.elements.flags place ≡ Some status
-    → IsKept element scale block.scale code other status × (other < 2 ^ width element) =
-    λ place code other status at at_other at_status.
+    let kept : (place code other status : ℕ) → slice_get codes place ≡ Some code → slice_get again place ≡ Some other
+    → slice_get numbers.elements.flags place ≡ Some status → IsKept element scale block.scale code other status
+    × (other < 2 ^ width element) = λ place code other status at at_other at_status.
     let t = there Exact codes values exact.flags place code all at in
     let quotient = written.each place t.value other status t.at at_other at_status in (
       again_element element g mode scale block.scale more codes values exact.flags place code other status t.value

@@ -23,12 +23,10 @@ same_quotient y n into quantum scale other more sum e =
     a ∙ ap (λ (k : ℕ). y * k) (sym left) ∙ e ∙ ap (λ (k : ℕ). n * k * 2 ^ quantum) right ∙ b
 
 pub kept_element : (element : ElementFormat) (g : Format) (mode : Round) (scale other more code again : ℕ)
-    (value : Datum) (flag status : ℕ) → other + more ≡ scale
-    → (exact : IsExactlyScaled element g scale code value flag)
+    (value : Datum) (flag status : ℕ) → other + more ≡ scale → (exact : IsExactlyScaled element g scale code value flag)
     → IsQuotientBy element g mode (2 ^ other) (2 ^ 127) value again status
     → IsOnGrid (format_of_element element).precision exact.number
-    → exact.number * 2 ^ more ≤ largest (format_of_element element)
-    → IsKept element scale other code again status
+    → exact.number * 2 ^ more ≤ largest (format_of_element element) → IsKept element scale other code again status
 kept_element element g mode scale other more code again value flag status sum exact q grid within =
     let f = format_of_element element in
     let b = exact.negative in
@@ -37,8 +35,7 @@ kept_element element g mode scale other more code again value flag status sum ex
     let point : ℕ = n * 2 ^ more in
     let amount : ℕ = y * 2 ^ f.scale * 2 ^ 127 in
     let parts : ℕ = 2 ^ g.scale * 2 ^ other in
-    let q' = subst
-    (λ (x : Datum). IsQuotientBy element g mode (2 ^ other) (2 ^ 127) x again status) exact.value_is q in
+    let q' = subst (λ (x : Datum). IsQuotientBy element g mode (2 ^ other) (2 ^ 127) x again status) exact.value_is q in
     let h : IsElement element mode b amount parts again status = q'.1 in
     let some : 0 < parts = mul-pos (pow_pos g.scale) (pow_pos other) in
     let is : amount ≡ point * parts = same_quotient y n f.scale g.scale scale other more sum exact.same in
@@ -57,8 +54,7 @@ kept_element element g mode scale other more code again value flag status sum ex
       again_is = h.value_is ∙ ap (λ (p : ℕ). saturated_value f b p) pick ∙ rw off refl;
       same = let z : n * 2 ^ more * 2 ^ other ≡ n * (2 ^ other * 2 ^ more) = omega arith in
           z ∙ ap (λ (k : ℕ). n * k) (sym power);
-      status_is = h.status_is ∙ ap (λ (p : ℕ). delivered_status f mode b amount parts p) picks
-          ∙ sym exactly.status_is;
+      status_is = h.status_is ∙ ap (λ (p : ℕ). delivered_status f mode b amount parts p) picks ∙ sym exactly.status_is;
     }
 
 -- an element that is quantized once more by the same scale has the same number
@@ -66,7 +62,5 @@ pub same_element : (element : ElementFormat) (scale other code again status : �
     → IsKept element scale other code again status → element_datum element again ≡ element_datum element code
 same_element element scale other code again status e k =
     let same : k.moved * 2 ^ scale ≡ k.number * 2 ^ scale = ap (λ (n : ℕ). k.moved * 2 ^ n) (sym e) ∙ k.same in
-    k.again_is
-    ∙ ap (λ (n : ℕ). finite k.negative n)
-    (eq_of_mul-eq-mul_right (2 ^ scale) (pow_pos scale) k.moved k.number same)
-    ∙ sym k.element_is
+    k.again_is ∙ ap (λ (n : ℕ). finite k.negative n)
+    (eq_of_mul-eq-mul_right (2 ^ scale) (pow_pos scale) k.moved k.number same) ∙ sym k.element_is

@@ -71,10 +71,8 @@ max_scaled p q r s a b some e f =
 
 -- if all values are their elements times one factor, the greatest of them is too
 pub scaled_greatest : (element : ElementFormat) (a b : ℕ) (codes : List ℕ) (values : List Datum) (flags : List ℕ)
-    → 0 < b
-    → AreElementsInPlaces
-    (λ code value status. quanta_of value * a ≡ quanta_of (element_datum element code) * b) codes values
-    flags
+    → 0 < b → AreElementsInPlaces
+    (λ code value status. quanta_of value * a ≡ quanta_of (element_datum element code) * b) codes values flags
     → greatest_magnitude values * a ≡ greatest_element element codes * b
 scaled_greatest element a b [] [] flags some all = omega arith
 scaled_greatest element a b [] (y ∷ ys) flags some all = let s = all.same_size in absurd (omega (arith, s))
@@ -84,8 +82,7 @@ scaled_greatest element a b (x ∷ xs) (y ∷ ys) (s ∷ ss) some all =
     max_scaled (quanta_of y) (greatest_magnitude ys) (quanta_of (element_datum element x)) (greatest_element element xs)
     a b some (all.each 0 x y s refl refl refl)
     (scaled_greatest element a b xs ys ss some
-    (rest_in_places
-    (λ code value status. quanta_of value * a ≡ quanta_of (element_datum element code) * b) x xs y ys s
+    (rest_in_places (λ code value status. quanta_of value * a ≡ quanta_of (element_datum element code) * b) x xs y ys s
     ss all))
 
 -- all are finite
@@ -105,14 +102,11 @@ pub greatest_has : (element : ElementFormat) (P : ℕ → Type 0) (codes : List 
 greatest_has element P [] none all = none
 greatest_has element P (x ∷ xs) none all =
     let first : P (quanta_of (element_datum element x)) = all 0 x (omega arith) in
-    let rest = greatest_has element P xs none
-    (λ k d l. all (suc k) d (omega (arith, l))) in
+    let rest = greatest_has element P xs none (λ k d l. all (suc k) d (omega (arith, l))) in
     let m = quanta_of (element_datum element x) in
     let n = greatest_element element xs in
-    ⊎_elim
-    (λ (l : m < n). subst P (let e : n ≡ max m n = grind (arith, l) in e) rest)
-    (λ (l : n ≤ m). subst P (let e : m ≡ max m n = grind (arith, l) in e) first)
-    (cases_lt m n)
+    ⊎_elim (λ (l : m < n). subst P (let e : n ≡ max m n = grind (arith, l) in e) rest)
+    (λ (l : n ≤ m). subst P (let e : m ≡ max m n = grind (arith, l) in e) first) (cases_lt m n)
 
 -- no element is greater
 pub at_most_element : (element : ElementFormat) (codes : List ℕ) (i code : ℕ) → slice_get codes i ≡ Some code

@@ -34,15 +34,12 @@ lowered_number element g scale greatest magnitude other least some within same s
     let bounds = log2_bounds greatest some in
     let high : greatest < 2 ^ (place + 1) = omega (arith, bounds, twice_power place) in
     let log = s.is_logarithm in
-    let at : log.place + (f.scale + 127) ≡ place + (scale + g.scale) =
-    same_place magnitude greatest log.place place (f.scale + 127)
-    (scale + g.scale) log.low log.high bounds.0 high same in
+    let at : log.place + (f.scale + 127) ≡ place + (scale + g.scale) = same_place magnitude greatest log.place place
+    (f.scale + 127) (scale + g.scale) log.low log.high bounds.0 high same in
     let top : place ≤ end = exponent_between greatest place end bounds.0 within in
     let lower : ℕ = end - place in
-    let code : other ≡ scale - lower =
-    s.code_is
-    ∙ ap (λ (e : ℤ). min (up (e -ℤ pos (max_exp element) +ℤ pos 127)) 254) log.is
-    ∙ clamped_again log.place g.scale (max_exp element) scale lower (omega (arith, at, top)) least in
+    let code : other ≡ scale - lower = s.code_is ∙ ap (λ (e : ℤ). min (up (e -ℤ pos (max_exp element) +ℤ pos 127)) 254)
+    log.is ∙ clamped_again log.place g.scale (max_exp element) scale lower (omega (arith, at, top)) least in
     let more : ℕ = scale - other in
     let few : more ≤ lower = omega (arith, code) in
     let ends : place + lower + 1 ≡ end + 1 = omega (arith, top) in

@@ -22,13 +22,10 @@ pub record IsShortElement (element : ElementFormat) : Type 0 where
       ≤ (2 ^ (format_of_element element).precision - 1) * 2 ^ (format_of_element element).span
 
 short_from : (element : ElementFormat) → 0 < (format_of_element element).precision
-    → (format_of_element element).precision ≤ 4
-    → (format_of_element element).scale ≤ 16 → max_exp element ≤ 15 → 2 ≤ max_exp element
-    → (format_of_element element).precision + (format_of_element element).span
-    ≡ (format_of_element element).scale + max_exp element + 1
-    → largest (format_of_element element)
-    ≤ (2 ^ (format_of_element element).precision - 1) * 2 ^ (format_of_element element).span
-    → IsShortElement element
+    → (format_of_element element).precision ≤ 4 → (format_of_element element).scale ≤ 16 → max_exp element ≤ 15
+    → 2 ≤ max_exp element → (format_of_element element).precision + (format_of_element element).span
+    ≡ (format_of_element element).scale + max_exp element + 1 → largest (format_of_element element)
+    ≤ (2 ^ (format_of_element element).precision - 1) * 2 ^ (format_of_element element).span → IsShortElement element
 short_from element z a b c d e f =
     record { full = z; digits = a; quantum = b; exponents = c; exponents_low = d; ends = e; most = f }
 

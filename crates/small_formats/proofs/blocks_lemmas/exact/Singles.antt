@@ -66,9 +66,8 @@ finite_either : (test negative : Bool) (m n : ℕ) → is_finite (cond test (fin
 finite_either true negative m n = refl
 finite_either false negative m n = refl
 
-quotient_finite : (element : ElementFormat) (f : Format) (mode : Round) (divisor unit : ℕ) (x : Datum)
-    (code status : ℕ) → IsQuotientBy element f mode divisor unit x code status
-    → is_finite (element_datum element code) ≡ true
+quotient_finite : (element : ElementFormat) (f : Format) (mode : Round) (divisor unit : ℕ) (x : Datum) (code status : ℕ)
+    → IsQuotientBy element f mode divisor unit x code status → is_finite (element_datum element code) ≡ true
 quotient_finite element f mode divisor unit x code status q =
     let g = format_of_element element in
     ap is_finite q.1.value_is ∙ finite_either (ltb (largest g) q.1.pick) (is_negative x) (largest g) q.1.pick
@@ -88,13 +87,11 @@ pub exact_from_singles : IsExactFromSingles
 exact_from_singles element mode other singles values old before codes block counts members q number d =
     let f = format_with single_constants in
     let b = of_numbers element f mode singles codes block number q.2 in
-    let top = block_scale element (greatest_magnitude singles) block.scale
-    (greatest_within f singles members) b.scale_is
-    in
+    let top =
+    block_scale element (greatest_magnitude singles) block.scale (greatest_within f singles members) b.scale_is in
     let written = b.elements.in_places in
     let size = written.same_size in
-    let finite_codes : (k d : ℕ) → k < length codes
-    → is_finite (element_datum element (get_or codes k d)) ≡ true =
+    let finite_codes : (k d : ℕ) → k < length codes → is_finite (element_datum element (get_or codes k d)) ≡ true =
     λ k d l.
     let x = some_at singles k (omega (arith, l, size)) in
     let s = some_at b.elements.flags k (omega (arith, l, size, written.flags_size)) in

@@ -6,8 +6,7 @@ use Rattle.small_formats.proofs.cuts.parts_of_rest.Goals as goal
 pub returns-then-places-digits-clause-value : goal.returns-then-places-digits-clause-value
 returns-then-places-digits-clause-value c =
     few_below c.args.number c.args.places c.args.digits c.low_digits.result c.requires.few c.if-places-digits.true
-    c.low_digits.ensures
-    ∙ sym (few_parts c.args.number c.args.places c.args.digits c.if-places-digits.true)
+    c.low_digits.ensures ∙ sym (few_parts c.args.number c.args.places c.args.digits c.if-places-digits.true)
 
 pub returns-then-places-digits-clause-below : goal.returns-then-places-digits-clause-below
 returns-then-places-digits-clause-below c =
@@ -19,6 +18,5 @@ returns-then-places-digits-clause-below c =
 
 pub returns-else-places-digits-clause-value : goal.returns-else-places-digits-clause-value
 returns-else-places-digits-clause-value c =
-    c.low_digits-else-places-digits.ensures
-    ∙ ap (λ n. n % 2 ^ c.args.digits) c.shift_right-shifted.ensures.quotient
+    c.low_digits-else-places-digits.ensures ∙ ap (λ n. n % 2 ^ c.args.digits) c.shift_right-shifted.ensures.quotient
     ∙ sym (many_parts_at c.args.number c.args.places c.args.digits (omega (arith, c.if-places-digits.false)))

@@ -12,6 +12,5 @@ returns g c =
     let parts = 2 ^ (format_of g.S.Semantics).scale in
     let picked = rw (c.scale.ensures.value, c.PRECISION.ensures) at c.pick_value-picked.ensures in
     let delivered = (rw c.ieee_mode.ensures at c.deliver_pick.ensures) amount parts picked.exact_is in
-    saturated_by d c.args.mode c.args.negative amount parts c.pick_value-picked.result.index
-    c.deliver_pick.result.value (bits_of c.deliver_pick.result.status) c.pick_value-picked.result.exact
-    g.F.StorageFormat.lawful picked delivered
+    saturated_by d c.args.mode c.args.negative amount parts c.pick_value-picked.result.index c.deliver_pick.result.value
+    (bits_of c.deliver_pick.result.status) c.pick_value-picked.result.exact g.F.StorageFormat.lawful picked delivered

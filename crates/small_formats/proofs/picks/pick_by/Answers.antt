@@ -19,6 +19,5 @@ returns c = λ amount parts u h.
     amount parts (up c.args.unit) (down c.args.unit) c.moved_index.result kept.loss c.takes_next-moves.result
     c.is_exact.result c.requires.some u (rw e at c.cut-kept.ensures.places) c.cut-kept.ensures.quotient h both.0
     both.1 (rw c.index_of-below.ensures.value at c.takes_next-moves.ensures)
-    (c.moved_index.ensures
-    ∙ ap (λ (n : ℕ). cond c.takes_next-moves.result (n + 1) n) c.index_of-below.ensures.value)
+    (c.moved_index.ensures ∙ ap (λ (n : ℕ). cond c.takes_next-moves.result (n + 1) n) c.index_of-below.ensures.value)
     c.is_exact.ensures.yes c.is_exact.ensures.no

@@ -24,6 +24,5 @@ returns c = λ amount parts u h.
     picked_at c.args.precision c.args.mode c.args.negative c.cut_number-kept.result.significand
     c.cut_number-kept.result.place amount parts c.moved_index.result c.cut_number-kept.result.loss
     c.moves_up-moves.result c.is_exact.result c.requires.some u kept.0 kept.1 c.moves_up-moves.ensures
-    (c.moved_index.ensures
-    ∙ ap (λ n. cond c.moves_up-moves.result (n + 1) n) c.index_of-below.ensures.value)
+    (c.moved_index.ensures ∙ ap (λ n. cond c.moves_up-moves.result (n + 1) n) c.index_of-below.ensures.value)
     c.is_exact.ensures.yes c.is_exact.ensures.no

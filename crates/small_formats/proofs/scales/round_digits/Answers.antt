@@ -53,9 +53,8 @@ returns-then-picked-from c = λ amount parts u h.
     scale_past c.args.mode amount parts c.moved_code-picked.result c.past.result.value (bits_of c.past.result.status)
     (picked_code_is c.args.mode amount parts c.code_at-low.result c.moved_code-picked.result
     c.shift_right-first.result.loss c.takes_next-moves.result u stands (moved_at after amount parts u h)
-    c.moved_code-picked.ensures)
-    (omega (arith, c.from.ensures, c.if-picked-from.true)) (rw mode at c.past.ensures.value)
-    (rw mode at c.past.ensures.status)
+    c.moved_code-picked.ensures) (omega (arith, c.from.ensures, c.if-picked-from.true))
+    (rw mode at c.past.ensures.value) (rw mode at c.past.ensures.status)
 
 pub returns-else-picked-from : goal.returns-else-picked-from
 returns-else-picked-from c = λ amount parts u h.

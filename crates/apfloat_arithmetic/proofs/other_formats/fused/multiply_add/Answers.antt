@@ -28,8 +28,7 @@ returns-in-Number-y-2-clause-sum c = λ left right addend hx hy hz.
     of_infinity (λ (e : Extended). IsFusedSumOf (format_at s) c.args.round e right addend v i) s
     c.in-Infinity.negative left (subst (λ (o : Operand). StandsFor s left o) c.in-Infinity.is hx)
     (of_number (λ (e : Extended). IsFusedSumOf (format_at s) c.args.round (infinity c.in-Infinity.negative) e
-    addend v i)
-    s c.in-Number-y-2.right right (subst (λ (o : Operand). StandsFor s right o) c.in-Number-y-2.is hy)
+    addend v i) s c.in-Number-y-2.right right (subst (λ (o : Operand). StandsFor s right o) c.in-Number-y-2.is hy)
     (λ m k h. sum m k c.args.round addend h hz))
 
 pub returns-in-Infinity-y-2-clause-sum : goal.returns-in-Infinity-y-2-clause-sum

@@ -36,5 +36,4 @@ returns-clause-quotient c = λ m s n t hx hy.
     (datum_at c.args.into c.deliver.result.value) (bits_of c.deliver.result.status)) c.product_sign.ensures
     (d (m * 2 ^ (t + g.scale)) (n * 2 ^ s) (mul-pos some (pow_pos s))
     (quotient_amount 126 s t g.scale x.exponent y.exponent e c.divide_u128-quotient.result.whole
-    c.divide_u128-quotient.result.loss x.significand y.significand m n hx hy v
-    c.divide_u128-quotient.ensures.stands))
+    c.divide_u128-quotient.result.loss x.significand y.significand m n hx hy v c.divide_u128-quotient.ensures.stands))

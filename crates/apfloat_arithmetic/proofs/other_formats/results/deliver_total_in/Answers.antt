@@ -20,8 +20,7 @@ returns-clause-delivered c = λ exact places t.
     let negative = total.negative in
     let scaled : signed negative amount ≡ (exact *ℤ pos units) =
     signed_scaled negative (magnitude exact) units ∙ ap (λ (z : ℤ). z *ℤ pos units) t.is in
-    let d =
-    c.deliver_total.ensures.delivered amount (2 ^ places) (pow_pos places)
+    let d = c.deliver_total.ensures.delivered amount (2 ^ places) (pow_pos places)
     (to_odd_least (2 ^ 126) (2 ^ (s.precision + 1)) total.significand _ _ least
     (in_target (2 ^ 126) total.significand (magnitude exact) places (format_at s).scale total.exponent t.rounded)) in
     let v = datum_at s c.deliver_total.result.value in

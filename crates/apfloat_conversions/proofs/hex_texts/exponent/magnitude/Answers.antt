@@ -8,7 +8,5 @@ pub loop-left-preserved : goal.loop-left-preserved
 loop-left-preserved c =
     let i = parted (λ (l : List ℕ). IsCounted c.args.digits.now l c.loop-left.number) c.loop-left.left.now
     c.in-len1-up.len_at_least c.loop-left.invariant in
-    let h = c.if-not-is_decimal.ensures in
-    let v = c.digit_value.ensures.value in
-    count_goes c.args.digits.now _ _ c.loop-left.number c.with_digit-number.result (sym h)
-    (rw v at c.with_digit-number.ensures.saturated) c.with_digit-number.ensures.fits i
+    count_goes c.args.digits.now _ _ c.loop-left.number c.with_digit-number.result (sym c.if-not-is_decimal.ensures)
+    (rw c.digit_value.ensures.value at c.with_digit-number.ensures.saturated) c.with_digit-number.ensures.fits i

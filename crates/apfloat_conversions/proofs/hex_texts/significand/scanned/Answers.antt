@@ -17,8 +17,7 @@ pub returns-in_err-with_dot : goal.returns-in_err-with_dot
 returns-in_err-with_dot c =
     let s = c.with_digits.ensures c.args.rest.now (c.none.ensures c.args.rest.now) in
     refused_by c.from_residual.result c.in_err-with_dot.field-0.0 _ _ c.from_residual.ensures.1
-    (c.in_err-with_dot.ensures c.args.rest.now _
-    (at_dot c.args.rest.now _ _ c.in-46.len_at_least (omega arith) s))
+    (c.in_err-with_dot.ensures c.args.rest.now _ (at_dot c.args.rest.now _ _ c.in-46.len_at_least (omega arith) s))
 
 pub with_digits-requires-in-46 : goal.with_digits-requires-in-46
 with_digits-requires-in-46 c =

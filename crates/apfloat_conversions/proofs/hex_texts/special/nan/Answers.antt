@@ -1,4 +1,4 @@
-use Rattle.std.proofs.Common.{◌≡◌, ℕ, Bool, true, false, if◌then◌else◌, List, take, drop, Option, Some, None, refl}
+use Rattle.std.proofs.Common.{◌≡◌, ℕ, Bool, true, false, if◌then◌else◌, List, take, drop, Option, None, refl}
 use Rattle.std.proofs.{Common.rules, lemmas.List.take_rest}
 use Rattle.apfloat_model.specs.texts.Digits.{begins}
 use Rattle.apfloat_model.specs.texts.Specials.{is_s, is_nan_name, named_nan, payload_of, with_payload}
@@ -25,12 +25,11 @@ returns-in_err-payload_after_name-in-115 c = λ negative.
 pub returns-in_err-payload_after_name-in_default : goal.returns-in_err-payload_after_name-in_default
 returns-in_err-payload_after_name-in_default c = λ negative.
     let s : begins is_s c.args.body.now ≡ false = search rules in
-    let p : None ≡ named_payload c.args.body.now = c.in_err-payload_after_name-in_default.ensures in
     rw (
       s,
       c.from_residual-in_err-payload_after_name-in_default.ensures,
       named_is negative false c.args.body.now,
-      ← p,
+      ← c.in_err-payload_after_name-in_default.ensures,
     ) refl
 
 pub returns-in_ok-payload_after_name-in-115 : goal.returns-in_ok-payload_after_name-in-115
@@ -42,6 +41,4 @@ returns-in_ok-payload_after_name-in-115 c = λ negative.
 pub returns-in_ok-payload_after_name-in_default : goal.returns-in_ok-payload_after_name-in_default
 returns-in_ok-payload_after_name-in_default c = λ negative.
     let s : begins is_s c.args.body.now ≡ false = search rules in
-    let p : Some c.in_ok-payload_after_name-in_default.field-0 ≡ named_payload c.args.body.now =
-    c.in_ok-payload_after_name-in_default.ensures in
-    rw (s, named_is negative false c.args.body.now, ← p) refl
+    rw (s, named_is negative false c.args.body.now, ← c.in_ok-payload_after_name-in_default.ensures) refl

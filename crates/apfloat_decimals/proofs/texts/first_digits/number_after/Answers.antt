@@ -24,12 +24,10 @@ loop-i-preserved c =
     let fits : (c.loop-i.number * 10 + (x - 48) + 1) * 10 ^ (length digits - i - 1) ≤ most =
     digit_fits c.loop-i.number (x - 48) (length digits - i) most few some c.loop-i.invariant.fits in
     let next : number_from c.args.first (take (i + 1) digits)
-    ≡ number_from c.args.first (take i digits) * 10 + (x - 48) =
-    number_next digits i c.args.first c.loop-i-test.true
+    ≡ number_from c.args.first (take i digits) * 10 + (x - 48) = number_next digits i c.args.first c.loop-i-test.true
     ∙ ap (λ (v : ℕ). number_from c.args.first (take i digits) * 10 + v) (value_of_digit x d.1) in
     record {
-      number = c.with_digit-number.ensures
-          ∙ ap (λ (v : ℕ). v * 10 + (x - 48)) c.loop-i.invariant.number ∙ sym next;
+      number = c.with_digit-number.ensures ∙ ap (λ (v : ℕ). v * 10 + (x - 48)) c.loop-i.invariant.number ∙ sym next;
       fits = subst (λ (v : ℕ). (v + 1) * 10 ^ (length digits - (i + 1)) ≤ most) (sym c.with_digit-number.ensures)
           (subst (λ (v : ℕ). (c.loop-i.number * 10 + (x - 48) + 1) * 10 ^ v ≤ most) (sym one) fits);
     }

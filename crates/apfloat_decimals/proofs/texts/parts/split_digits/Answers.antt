@@ -16,7 +16,6 @@ stops c =
 
 pub returns : goal.returns
 returns c =
-    let split =
-    split_until c.args.text.now _ _ c.loop-count.count c.split_at.ensures.front c.split_at.ensures.back
+    let split = split_until c.args.text.now _ _ c.loop-count.count c.split_at.ensures.front c.split_at.ensures.back
     c.loop-count.invariant.digits (stops (goal.at.returns c).After-split_at) in
     record { digits = split.0; rest = split.1 }

@@ -23,8 +23,7 @@ returns-clause-digits c =
     c.split_at-2.ensures.front ∙ (ends (goal.at.returns-clause-digits c).After-split_number-number).1
 
 pub returns-clause-rest : goal.returns-clause-rest
-returns-clause-rest c =
-    c.split_at-2.ensures.back ∙ (ends (goal.at.returns-clause-rest c).After-split_number-number).2
+returns-clause-rest c = c.split_at-2.ensures.back ∙ (ends (goal.at.returns-clause-rest c).After-split_number-number).2
 
 pub returns-clause-number : goal.returns-clause-number
 returns-clause-number c =

@@ -15,7 +15,6 @@ returns-clause-same c = λ exact near.
     let narrow : to_z w32 (of_z w32 c.in_ok-unit.unit) ≡ c.in_ok-unit.unit = omega (arith, ints) in
     let low : neg_ℤ (pos 5020) ≤ℤ (pos 0 +ℤ c.unit_of.result) = omega (arith, ints, within, same) in
     let high : (pos 0 +ℤ c.unit_of.result) ≤ℤ pos 5020 = omega (arith, ints, within, same) in
-    let is : c.unit_of.result ≡ exact -ℤ pos c.args.places =
-    near_same 0 (exact -ℤ pos c.args.places) c.unit_of.result (omega arith)
-    (c.unit_of.ensures.near exact (rw given near)) low high in
+    let is : c.unit_of.result ≡ exact -ℤ pos c.args.places = near_same 0 (exact -ℤ pos c.args.places) c.unit_of.result
+    (omega arith) (c.unit_of.ensures.near exact (rw given near)) low high in
     rw narrow (same ∙ is)

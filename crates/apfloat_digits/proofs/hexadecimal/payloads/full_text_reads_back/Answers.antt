@@ -4,6 +4,5 @@ use Rattle.apfloat_digits.proofs.hexadecimal_lemmas.NanPayloads.{full_read_back}
 use Rattle.apfloat_digits.proofs.hexadecimal.payloads.full_text_reads_back.Goals as goal
 
 pub returns : goal.returns
-returns g c = λ mode x text answer kind implied member is read.
-    full_read_back (format_of g.S.Semantics) mode x text answer
-    (ranges_of (constants_of g.S.Semantics) g.S.Semantics.lawful) kind implied member is read
+returns g c = λ mode x text answer kind implied member is read. full_read_back (format_of g.S.Semantics)
+    mode x text answer (ranges_of (constants_of g.S.Semantics) g.S.Semantics.lawful) kind implied member is read

@@ -62,8 +62,7 @@ returns g c =
           c.is_exact.result first c.carried.result.exponent c.digits_of-number.ensures.first
           (cut_is g (goal.at.returns g c).After-shift_right-cut) c.moves_up-moves.ensures picked
           c.is_exact.ensures.yes c.is_exact.ensures.no (rw exact at c.carried.ensures.carried);
-      text_is = c.number_line.ensures.text
-          ∙ ap (λ (a : ℕ).
+      text_is = c.number_line.ensures.text ∙ ap (λ (a : ℕ).
           number_text c.args.negative a c.carried.result.places c.carried.result.fraction c.carried.result.exponent)
           c.carried.ensures.first
           ∙ ap (λ (p : ℕ). number_text c.args.negative 1 p c.carried.result.fraction c.carried.result.exponent)

@@ -13,8 +13,7 @@ use Rattle.apfloat_ieee.proofs.ieee_float.IeeeFloat.number.Goals as goal
 -- a stored number obeys the law of numbers
 normal_of : (s : Shape) (stored : Unpacked) (x : Datum) → IsStored s stored → stored.category ≡ category_of x
     → category_of x ≡ Normal → IsNormal s stored
-normal_of s stored x is same number =
-    subst (λ (k : Category). IsStoredBy k s stored) (same ∙ number) is
+normal_of s stored x is same number = subst (λ (k : Category). IsStoredBy k s stored) (same ∙ number) is
 
 -- its quanta are those of its datum
 quanta_is : (s : Shape) (stored : Unpacked) (x : Datum) → x ≡ datum_at s stored → stored.category ≡ category_of x

@@ -1,8 +1,8 @@
-use Rattle.std.proofs.Common.{◌≡◌, refl, arith, w32}
-use Rattle.std.proofs.lemmas.Int.{ints, to_z-of_z}
+use Rattle.std.proofs.{Common.◌≡◌, Common.refl, Common.arith, Common.w32, lemmas.Int.ints, lemmas.Int.to_z-of_z}
 use Rattle.apfloat_model.specs.rounding.Standing.{up, down}
-use Rattle.apfloat_rounding.proofs.{OddCuts.no_up, QuantumCuts.IsQuantumCut}
-use Rattle.apfloat_rounding.proofs.QuantumCuts.{quantum_fits, quantum_stands, quantum_encloses, quantum_finely}
+use Rattle.apfloat_model.proofs.arithmetic.Signs.{no_up}
+use Rattle.apfloat_rounding.proofs.QuantumCuts.{IsQuantumCut, quantum_fits, quantum_stands}
+use Rattle.apfloat_rounding.proofs.QuantumCuts.{quantum_encloses, quantum_finely}
 use Rattle.apfloat_rounding.proofs.rounding.denormal.cut_at_quantum.Goals.{After-word_power}
 use borrow.Author.Differences.{fits_in}
 use Rattle.apfloat_rounding.proofs.rounding.denormal.cut_at_quantum.Goals as goal

@@ -30,9 +30,7 @@ odd_for-requires c =
 
 pub returns-clause-fits : goal.returns-clause-fits
 returns-clause-fits c =
-    let f = kept_fits (goal.at.returns-clause-fits c).After-shift_right-kept in
-    let b = c.odd_for.ensures.bound in
-    omega (arith, f, b)
+    omega (arith, kept_fits (goal.at.returns-clause-fits c).After-shift_right-kept, c.odd_for.ensures.bound)
 
 pub returns-clause-odd : goal.returns-clause-odd
 returns-clause-odd c = λ amount parts p h.

@@ -2,8 +2,8 @@ use Rattle.std.proofs.Common.{◌≡◌, ℕ, ◌-◌, ◌*◌, ◌/◌, ◌%◌
 use Rattle.std.proofs.Math.Nat.{div-eq_of_lt, mod-eq_of_lt, pow-le-pow_right}
 use Rattle.std.proofs.lemmas.{Int.ints, Int.to_z-of_z, Nat.pow_pos}
 use Rattle.apfloat_model.specs.rounding.Standing.{up, down}
-use Rattle.apfloat_model.proofs.{general.Powers.two_pos, rounding.KeptDigits.fits_shifted}
-use Rattle.apfloat_rounding.proofs.{OddCuts.no_up, OddCuts.no_down, QuantumCuts.whole_down, QuantumCuts.whole_below}
+use Rattle.apfloat_model.proofs.{arithmetic.Signs.no_up, general.Powers.two_pos, rounding.KeptDigits.fits_shifted}
+use Rattle.apfloat_rounding.proofs.{OddCuts.no_down, QuantumCuts.whole_down, QuantumCuts.whole_below}
 use Rattle.apfloat_rounding.proofs.rounding.denormal.whole_quanta.Goals.{Else-significand-eq0}
 use borrow.Author.Differences.{fits_in}
 use Rattle.apfloat_rounding.proofs.rounding.denormal.whole_quanta.Goals as goal
@@ -16,8 +16,7 @@ returns-then-unit-lt0-clause-few c =
     let e = to_z-of_z w32 c.args.unit (fits_in w32 c.args.unit (omega (arith, ints, c.requires.within))) in
     ⊎_elim
     (λ (z : c.args.significand ≡ 0).
-    let p : 0 < 2 ^ c.places_below.result = pow_pos places in
-    let q : c.args.significand / 2 ^ c.places_below.result ≡ 0 = div-eq_of_lt (omega (arith, z, p)) in
+    let q : c.args.significand / 2 ^ c.places_below.result ≡ 0 = div-eq_of_lt (omega (arith, z, pow_pos places)) in
     omega (arith, q))
     (λ b.
     whole_below c.args.precision s c.args.digits (down unit) places c.requires.some c.requires.fits
@@ -36,34 +35,25 @@ returns-then-unit-lt0-clause-quanta c = λ amount h.
     (rw e at c.places_below.ensures.near) (rw e at c.places_below.ensures.far) (omega (arith, h, k))
 
 -- the significand moved up is below the smallest normalized value
-below : (c : Else-significand-eq0)
-    → c.args.significand * 2 ^ unsigned_abs c.args.unit < 2 ^ (c.args.precision - 1)
+below : (c : Else-significand-eq0) → c.args.significand * 2 ^ unsigned_abs c.args.unit < 2 ^ (c.args.precision - 1)
 below c =
     let n = no_down c.args.unit (omega (arith, ints, c.if-unit-lt0.false)) in
-    ⊎_elim
-    (λ (z : c.args.significand ≡ 0). absurd (omega (arith, z, c.if-significand-eq0.false)))
+    ⊎_elim (λ (z : c.args.significand ≡ 0). absurd (omega (arith, z, c.if-significand-eq0.false)))
     (λ b.
-    let u = n.0 in
-    let d = c.requires.some in
     fits_shifted c.args.significand c.args.digits (unsigned_abs c.args.unit) (c.args.precision - 1) c.requires.fits
-    (omega (arith, ints, b, u, d, c.if-unit-lt0.false)))
-    c.requires.below
+    (omega (arith, ints, b, n.0, c.requires.some, c.if-unit-lt0.false))) c.requires.below
 
 moved : (c : Else-significand-eq0)
     → c.args.significand * 2 ^ unsigned_abs c.args.unit % 2 ^ 64 ≡ c.args.significand * 2 ^ unsigned_abs c.args.unit
 moved c =
-    let s = c.requires.short in
-    let b = below c in
-    let l : c.args.precision - 1 ≤ 64 = omega (arith, s) in
-    let w : 2 ^ (c.args.precision - 1) ≤ 2 ^ 64 = pow-le-pow_right two_pos l in
-    mod-eq_of_lt (omega (arith, b, w))
+    let l : c.args.precision - 1 ≤ 64 = omega (arith, c.requires.short) in
+    mod-eq_of_lt (omega (arith, below c, pow-le-pow_right two_pos l))
 
 pub returns-else-significand-eq0-clause-few : goal.returns-else-significand-eq0-clause-few
 returns-else-significand-eq0-clause-few c =
     let state = (goal.at.returns-else-significand-eq0-clause-few c).Else-significand-eq0 in
     let e = to_z-of_z w32 c.args.unit (fits_in w32 c.args.unit (omega (arith, ints, c.requires.within))) in
-    let b = below state in
-    rw (e, moved state) (omega (arith, b))
+    rw (e, moved state) (omega (arith, below state))
 
 pub returns-else-significand-eq0-clause-quanta : goal.returns-else-significand-eq0-clause-quanta
 returns-else-significand-eq0-clause-quanta c = λ amount h.

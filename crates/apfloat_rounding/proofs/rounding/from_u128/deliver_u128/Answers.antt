@@ -9,16 +9,14 @@ use Rattle.apfloat_rounding.proofs.rounding.from_u128.deliver_u128.Goals as goal
 
 pub returns-then-unit-digits-clause-delivered : goal.returns-then-unit-digits-clause-delivered
 returns-then-unit-digits-clause-delivered c = λ amount parts p h.
-    let e = to_z-of_z w32 c.args.exponent c.ranges.exponent in
-    let v = rw e at c.unit_place-unit.ensures.value in
+    let v = rw (to_z-of_z w32 c.args.exponent c.ranges.exponent) at c.unit_place-unit.ensures.value in
     let w : to_z w32 (of_z w32 c.unit_place-unit.result) ≡ c.unit_place-unit.result =
     to_z-of_z w32 c.unit_place-unit.result (record { sfits = c.unit_place-unit.type_inv }) in
     let h' : IsRoundedToOdd (2 ^ (c.args.shape.precision + 1)) c.args.significand
     (amount * 2 ^ down (to_z w32 (of_z w32 c.unit_place-unit.result)))
     (parts * 2 ^ up (to_z w32 (of_z w32 c.unit_place-unit.result))) =
     subst (λ (x : ℤ). IsRoundedToOdd (2 ^ (c.args.shape.precision + 1)) c.args.significand (amount * 2 ^ down x)
-    (parts * 2 ^ up x))
-    (sym v ∙ sym w) h in
+    (parts * 2 ^ up x)) (sym v ∙ sym w) h in
     c.round.ensures.delivered amount parts p (c.cut_u128-cut.ensures.cut amount parts p h')
     (λ r. all_kept c.args.shape.precision c.cut_u128-cut.result amount parts c.cut_u128-cut.ensures.full)
 

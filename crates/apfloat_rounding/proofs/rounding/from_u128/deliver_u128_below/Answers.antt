@@ -11,8 +11,7 @@ returns-then-unit_place-geminus2-clause-delivered c = λ amount parts p h.
     let unit : ℤ = c.args.exponent +ℤ pos (format_at c.args.shape).scale in
     let e = to_z-of_z w32 c.args.exponent c.ranges.exponent in
     let v = rw e at c.unit_place.ensures.value in
-    let b = c.if-unit_place-geminus2.true in
-    let f = c.requires.exact (omega (arith, ints, b, v)) in
+    let f = c.requires.exact (omega (arith, ints, c.if-unit_place-geminus2.true, v)) in
     let r = rw e at c.deliver_any.ensures.delivered in
     r amount parts p
     (exact_if_short c.args.significand c.args.shape.precision (amount * 2 ^ down unit) (parts * 2 ^ up unit) f h)

@@ -13,8 +13,7 @@ returns-clause-full c =
 pub returns-clause-cut : goal.returns-clause-cut
 returns-clause-cut c = λ amount parts p h.
     let unit = c.args.unit in
-    let e = to_z-of_z w32 unit c.ranges.unit in
-    let r = rw e at c.full_place.ensures.reached in
+    let r = rw (to_z-of_z w32 unit c.ranges.unit) at c.full_place.ensures.reached in
     rw c.from.ensures
     (quarters_cut c.args.precision c.args.significand (up unit) (down unit) c.full_place.result amount parts
     c.requires.some c.requires.fits c.requires.full (omega (arith, r)) p h)

@@ -1,5 +1,4 @@
-use Rattle.std.proofs.Common.{◌-◌, arith, w32}
-use Rattle.std.proofs.lemmas.Int.{ints, to_z-of_z}
+use Rattle.std.proofs.{Common.◌-◌, Common.arith, Common.w32, lemmas.Int.ints, lemmas.Int.to_z-of_z}
 use borrow.Author.Differences.{fits_in}
 use Rattle.apfloat_model.specs.rounding.Standing.{up, down}
 use Rattle.apfloat_rounding.proofs.CutRests.{rest_below}
@@ -42,9 +41,8 @@ returns-clause-full c =
 
 pub returns-clause-rest : goal.returns-clause-rest
 returns-clause-rest c =
-    let l = c.requires.short in
     rest_below c.at_word_top-top.result (64 - c.args.precision) c.word_power.result c.low_of_word.result
-    (omega (arith, l)) c.word_power.ensures c.low_of_word.ensures
+    (omega (arith, c.requires.short)) c.word_power.ensures c.low_of_word.ensures
 
 pub returns-clause-cut : goal.returns-clause-cut
 returns-clause-cut c = λ amount parts p h.

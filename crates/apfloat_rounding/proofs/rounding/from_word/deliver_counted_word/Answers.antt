@@ -7,8 +7,7 @@ use Rattle.apfloat_rounding.proofs.rounding.from_word.deliver_counted_word.Goals
 pub returns-then-unit-geminus2-clause-delivered : goal.returns-then-unit-geminus2-clause-delivered
 returns-then-unit-geminus2-clause-delivered c = λ amount parts u h.
     let unit = c.unit_place-unit.result in
-    let e = to_z-of_z w32 c.args.exponent c.ranges.exponent in
-    let v = rw e at c.unit_place-unit.ensures.value in
+    let v = rw (to_z-of_z w32 c.args.exponent c.ranges.exponent) at c.unit_place-unit.ensures.value in
     let w : to_z w32 (of_z w32 unit) ≡ unit =
     to_z-of_z w32 unit (record { sfits = c.unit_place-unit.type_inv }) in
     let h' = subst (λ (x : ℤ). IsRoundedToOdd (2 ^ (c.args.shape.precision + 1)) c.args.significand
@@ -19,8 +18,7 @@ returns-then-unit-geminus2-clause-delivered c = λ amount parts u h.
 pub returns-clause-delivered : goal.returns-clause-delivered
 returns-clause-delivered c = λ amount parts u h.
     let unit = c.unit_place-unit.result in
-    let e = to_z-of_z w32 c.args.exponent c.ranges.exponent in
-    let v = rw e at c.unit_place-unit.ensures.value in
+    let v = rw (to_z-of_z w32 c.args.exponent c.ranges.exponent) at c.unit_place-unit.ensures.value in
     let w : to_z w32 (of_z w32 unit) ≡ unit =
     to_z-of_z w32 unit (record { sfits = c.unit_place-unit.type_inv }) in
     let h' = subst (λ (x : ℤ). IsRoundedToOdd (2 ^ (c.args.shape.precision + 1)) c.args.significand

@@ -24,16 +24,13 @@ returns-then-unit-digits-clause-delivered c = λ amount h.
     (amount * 2 ^ down (to_z w32 (of_z w32 c.unit_place-unit.result)))
     (1 * 2 ^ up (to_z w32 (of_z w32 c.unit_place-unit.result))) =
     subst (λ (x : ℤ). IsRoundedToOdd (2 ^ (c.args.shape.precision + 1)) c.args.significand (amount * 2 ^ down x)
-    (1 * 2 ^ up x))
-    (sym v ∙ sym w) h in
+    (1 * 2 ^ up x)) (sym v ∙ sym w) h in
     c.round.ensures.delivered amount 1 (omega arith) (c.cut_word-cut.ensures.cut amount 1 (omega arith) h')
     (λ r. all_kept c.args.shape.precision c.cut_word-cut.result amount 1 c.cut_word-cut.ensures.full)
 
 pub whole_quanta-quanta-requires-clause-below : goal.whole_quanta-quanta-requires-clause-below
 whole_quanta-quanta-requires-clause-below c =
-    let f = c.from.ensures in
-    let b = c.digits-digits.ensures.below in
-    let s : c.args.significand < 2 ^ c.digits-digits.result = rw f at b in
+    let s : c.args.significand < 2 ^ c.digits-digits.result = rw c.from.ensures at c.digits-digits.ensures.below in
     elim c.else-digits-gt0.branch [
       | else-digits-gt0-via-then-digits-gt0+else-unit-digits w ↦ inr (
           omega (
@@ -53,12 +50,9 @@ whole_quanta-quanta-requires-clause-below c =
 
 pub returns-clause-delivered : goal.returns-clause-delivered
 returns-clause-delivered c = λ amount h.
-    let e = to_z-of_z w32 c.args.exponent c.ranges.exponent in
-    let v = rw e at c.unit_place-unit.ensures.value in
+    let v = rw (to_z-of_z w32 c.args.exponent c.ranges.exponent) at c.unit_place-unit.ensures.value in
     let u = c.unit_place-unit.result in
-    let f = c.from.ensures in
-    let b = c.digits-digits.ensures.below in
-    let s : c.args.significand < 2 ^ c.digits-digits.result = rw f at b in
+    let s : c.args.significand < 2 ^ c.digits-digits.result = rw c.from.ensures at c.digits-digits.ensures.below in
     let d : (c.args.significand ≡ 0)
     ⊎ ((c.args.significand < 2 ^ c.digits-digits.result)
     × ((u +ℤ pos c.digits-digits.result) ≤ℤ pos c.args.shape.precision)) =
@@ -88,5 +82,4 @@ returns-clause-delivered c = λ amount h.
     let q = (rw w at c.whole_quanta-quanta.ensures.quanta) amount (omega (arith, g)) in
     whole_delivered (format_at c.args.shape) c.args.mode c.args.negative c.whole_quanta-quanta.result amount _ _
     c.args.shape.parameters.precision_low c.whole_quanta-quanta.ensures.few q
-    (ap (datum_at c.args.shape) c.and.ensures.value ∙ c.from_few_quanta.ensures.datum)
-    (ap bits_of c.and.ensures.status)
+    (ap (datum_at c.args.shape) c.and.ensures.value ∙ c.from_few_quanta.ensures.datum) (ap bits_of c.and.ensures.status)

@@ -1,25 +1,11 @@
-use Rattle.std.proofs.Common.{ℕ, Option, ap, ◌∙◌, subst}
-use Rattle.rustc_apfloat.specs.declared.Round.{Round}
-use Rattle.coded_calls.specs.{Instructions.IsDelivered, Instructions.constants_for, Instructions.mode_by}
-use Rattle.coded_calls.specs.MachineCalls.{IsMachineCallAnswer, machine_fault}
-use Rattle.coded_calls.proofs.MadeInstructions.{left_answered, left_by}
+use Rattle.coded_calls.proofs.FewerDigits.{all_left, fewer_left}
 use Rattle.coded_calls.proofs.instructions.Instruction.delivered.Goals as goal
 
-pub returns : goal.returns
-returns c =
-    let it = c.args.self in
-    let call = c.args.call in
-    let given = c.made-code.new.answer in
-    let got = left_answered it.machine it.format call
-    (IsMachineCallAnswer it.machine it.format c.mode-round.result call) c.args.answer.now given c.made-code.result
-    c.made-code.ensures c.if-code-ne-ANSWERED.false in
-    left_by (machine_fault it.machine it.format call) (IsDelivered it call c.args.rounding) c.args.answer.now
-    c.finish.new.answer got.0
-    (record {
-      given = given;
-      is_given = subst (λ (mode : Round). IsMachineCallAnswer it.machine it.format mode call given)
-          (c.mode-round.ensures
-          ∙ ap (λ (x : Option ℕ). mode_by (constants_for it.format) c.args.rounding x) c.whole_operand.ensures)
-          got.1;
-      is_finished = c.finish.ensures;
-    })
+pub returns-in-None : goal.returns-in-None
+returns-in-None c =
+    all_left c.args.self c.args.call c.args.rounding c.args.answer.now c.with_all_digits.new.answer
+    c.with_all_digits.result c.in-None.ensures c.with_all_digits.ensures
+
+pub returns-in-Some : goal.returns-in-Some
+returns-in-Some c =
+    fewer_left c.args.self c.args.call c.args.rounding c.args.answer.now c.in-Some.short c.in-Some.ensures

@@ -101,8 +101,7 @@ add_wide_number-requires g c =
 
 -- the tally of a product of so many units
 product_tally : (g : Over) → (state : After-product_sign-negative g) → (amount : ℕ)
-    → amount ≡ quanta_of state.args.x * quanta_of state.args.y
-    → number_tally state.product_sign-negative.result amount
+    → amount ≡ quanta_of state.args.x * quanta_of state.args.y → number_tally state.product_sign-negative.result amount
     ≡ tally_of (product (format_of g.S.Flagged) state.args.x state.args.y)
 product_tally g c amount units =
     let f = format_of g.S.Flagged in
@@ -113,9 +112,8 @@ product_tally g c amount units =
     let right = sym (finite_agrees y) ∙ sym c.is_finite-2.ensures
     ∙ (and_parts c.is_finite.result c.is_finite-2.result c.if-finite.true).1 in
     let sign : c.product_sign-negative.result ≡ product_sign (is_negative x) (is_negative y) =
-    c.product_sign-negative.ensures
-    ∙ ap (λ (s : Bool). product_sign s c.is_negative-then-finite.result) c.is_negative.ensures
-    ∙ ap (λ (s : Bool). product_sign (is_negative x) s) c.is_negative-then-finite.ensures in
+    c.product_sign-negative.ensures ∙ ap (λ (s : Bool). product_sign s c.is_negative-then-finite.result)
+    c.is_negative.ensures ∙ ap (λ (s : Bool). product_sign (is_negative x) s) c.is_negative-then-finite.ensures in
     ap (λ (s : Bool). number_tally s amount) sign
     ∙ ap (λ (n : ℕ). number_tally (product_sign (is_negative x) (is_negative y)) n) units
     ∙ sym (finite_product f x y left right)

@@ -32,8 +32,7 @@ both_added : (g : Over) → (state : After-add-2 g) → state.add-2.new.self
     ≡ with_amount state.args.negative (whole state.args.value * 2 ^ state.args.shift) state.self.inside.sides
 both_added g c =
     rw (c.add-2.ensures, c.add.ensures)
-    (amount_twice c.self.inside.sides c.args.negative _ _ _
-    (two_parts c.args.value.low c.args.value.high c.args.shift))
+    (amount_twice c.self.inside.sides c.args.negative _ _ _ (two_parts c.args.value.low c.args.value.high c.args.shift))
 
 pub invariant_of-self : goal.invariant_of-self
 invariant_of-self g c =

@@ -11,9 +11,8 @@ returns-then-is_ok g c =
     let answer = c.augmented_add.result in
     exact_product (format_of g.S.Flagged) c.args.x c.args.y c.args.near rest.value (bits_of rest.status)
     c.requires.product.left c.requires.product.right c.requires.near.is_finite
-    (rw c.neg.ensures at c.wide_mul_add_r-rest.ensures)
-    (c.is_ok.ensures.yes c.if-is_ok.true) answer.value.head answer.value.tail (bits_of answer.status)
-    c.augmented_add.ensures
+    (rw c.neg.ensures at c.wide_mul_add_r-rest.ensures) (c.is_ok.ensures.yes c.if-is_ok.true)
+    answer.value.head answer.value.tail (bits_of answer.status) c.augmented_add.ensures
 
 pub tiny_product-requires-clause-lost : goal.tiny_product-requires-clause-lost
 tiny_product-requires-clause-lost g c =

@@ -28,10 +28,8 @@ returns-then-is_nan g c =
     let h = rw c.nan.ensures at c.convert_r.ensures.converted in
     let none : 0 * 2 ^ (f.precision - 4) / 2 ^ 0 ≡ 0 = omega arith in
     nan_converted c.args.self f c.args.round c.args.code c.convert_r.result.value
-    (bits_of c.convert_r.result.status) _
-    (nan_at c.args.self c.args.code c.is_nan.ensures c.if-is_nan.true)
-    (h.value_is ∙ ap (λ (n : ℕ). nan (nan_sign f.nonfinite false) (quiet_significand f n)) none) h.status_is
-    h.loses_is
+    (bits_of c.convert_r.result.status) _ (nan_at c.args.self c.args.code c.is_nan.ensures c.if-is_nan.true)
+    (h.value_is ∙ ap (λ (n : ℕ). nan (nan_sign f.nonfinite false) (quiet_significand f n)) none) h.status_is h.loses_is
 
 pub returns-then-magnitude-largest_index : goal.returns-then-magnitude-largest_index
 returns-then-magnitude-largest_index g c =
@@ -50,10 +48,8 @@ returns-then-magnitude-largest_index g c =
 
 pub returns-then-magnitude-eq0 : goal.returns-then-magnitude-eq0
 returns-then-magnitude-eq0 g c =
-    zero_converted c.args.self (projected_format c.args.self)
-    (format_of g.T.Flagged) c.args.round c.args.code
+    zero_converted c.args.self (projected_format c.args.self) (format_of g.T.Flagged) c.args.round c.args.code
     c.convert_r-then-magnitude-eq0.result.value (bits_of c.convert_r-then-magnitude-eq0.result.status) _
-    (zero_at c.args.self c.args.code c.requires.lawful
-    c.requires.code c.is_nan.ensures c.if-is_nan.false
+    (zero_at c.args.self c.args.code c.requires.lawful c.requires.code c.is_nan.ensures c.if-is_nan.false
     (omega (arith, c.magnitude-magnitude.ensures.value, c.if-magnitude-eq0.true)))
     (rw c.zero.ensures at c.convert_r-then-magnitude-eq0.ensures.converted)

@@ -18,8 +18,7 @@ returns-in-NaN-clause-into g c =
 
 pub infinity_by-requires-clause-sign : goal.infinity_by-requires-clause-sign
 infinity_by-requires-clause-sign g c =
-    signed_if c.is_negative-negative.result c.args.self.signed
-    (sym c.lacks_sign.ensures ∙ c.if-lacks_sign.false)
+    signed_if c.is_negative-negative.result c.args.self.signed (sym c.lacks_sign.ensures ∙ c.if-lacks_sign.false)
 
 pub returns-in-Normal-clause-into : goal.returns-in-Normal-clause-into
 returns-in-Normal-clause-into g c =
@@ -32,5 +31,4 @@ returns-in-Normal-clause-into g c =
     (bits_of c.round_positive-answer.result.status) c.ne.result negative normal c.is_negative-negative.ensures
     (subst (λ (n : ℕ). IsProjectedBy d c.args.rule negative (n * 2 ^ (projected_format d).scale) (2 ^ f.scale)
     c.round_positive-answer.result.value (bits_of c.round_positive-answer.result.status)) quanta
-    c.round_positive-answer.ensures.rounded)
-    c.ne.ensures
+    c.round_positive-answer.ensures.rounded) c.ne.ensures

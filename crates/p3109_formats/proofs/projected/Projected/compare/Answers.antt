@@ -10,8 +10,7 @@ pub returns-then-is_nan : goal.returns-then-is_nan
 returns-then-is_nan g c =
     let d = projection_of g.F.Projection in
     let other = projected_datum d c.args.other in
-    sym (ap (λ (x : Datum). compared x other) (nan_at d c.args.self c.is_nan.ensures c.if-is_nan.true)
-    ∙ left_nan other)
+    sym (ap (λ (x : Datum). compared x other) (nan_at d c.args.self c.is_nan.ensures c.if-is_nan.true) ∙ left_nan other)
 
 pub returns-then-is_nan-2 : goal.returns-then-is_nan-2
 returns-then-is_nan-2 g c =

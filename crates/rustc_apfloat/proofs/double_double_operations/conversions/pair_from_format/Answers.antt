@@ -16,7 +16,6 @@ returns-clause-pair g c =
 
 pub returns-clause-exact : goal.returns-clause-exact
 returns-clause-exact g c =
-    exactly_from (format_of g.S.Flagged) c.args.x c.convert_r.result.value
-    (bits_of c.convert_r.result.status) c.convert_r.new.loses_info c.split_answer.result.value
-    (bits_of c.split_answer.result.status) c.convert_r.ensures.exact c.split_answer.ensures.value
-    (ap bits_of c.split_answer.ensures.status)
+    exactly_from (format_of g.S.Flagged) c.args.x c.convert_r.result.value (bits_of c.convert_r.result.status)
+    c.convert_r.new.loses_info c.split_answer.result.value (bits_of c.split_answer.result.status)
+    c.convert_r.ensures.exact c.split_answer.ensures.value (ap bits_of c.split_answer.ensures.status)

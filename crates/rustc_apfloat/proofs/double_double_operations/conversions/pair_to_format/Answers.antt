@@ -4,8 +4,7 @@ use Rattle.rustc_apfloat.proofs.double_double_operations.conversions.pair_to_for
 pub returns-then-is_finite_non_zero : goal.returns-then-is_finite_non_zero
 returns-then-is_finite_non_zero g c =
     by_sum _ c.args.round c.args.x _ _ _ _ _ c.parts_of-high.ensures.high c.parts_of-high.ensures.low
-    c.is_finite_non_zero.ensures
-    c.if-is_finite_non_zero.true c.add_to.ensures
+    c.is_finite_non_zero.ensures c.if-is_finite_non_zero.true c.add_to.ensures
 
 pub returns-else-is_finite_non_zero : goal.returns-else-is_finite_non_zero
 returns-else-is_finite_non_zero g c =

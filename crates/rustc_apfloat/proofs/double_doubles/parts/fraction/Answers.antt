@@ -14,12 +14,10 @@ overflow_sub-exponent c =
 
 pub returns-in-Normal : goal.returns-in-Normal
 returns-in-Normal c =
-    let h =
-    subst (λ (p : Pair). IsFrexp double p.high c.frexp_r-high.result c.frexp_r-high.new.exp) c.x.view_is
+    let h = subst (λ (p : Pair). IsFrexp double p.high c.frexp_r-high.result c.frexp_r-high.new.exp) c.x.view_is
     c.frexp_r-high.ensures in
     fraction_by_parts c.args.round c.args.x c.frexp_r-high.result c.scalbn_r.result c.frexp_r-high.new.exp
-    (to_z w32 (of_z w32 (pos 0 -ℤ to_z w32 (of_z w32 c.frexp_r-high.new.exp))))
-    (sym c.in-Normal.ensures.category) h
+    (to_z w32 (of_z w32 (pos 0 -ℤ to_z w32 (of_z w32 c.frexp_r-high.new.exp)))) (sym c.in-Normal.ensures.category) h
     (fraction_turned c.args.x.high c.frexp_r-high.result c.frexp_r-high.new.exp (sym c.in-Normal.ensures.category)
     c.in-Normal.ensures.high h)
     (subst (λ (p : Pair). IsScaling double c.args.round p.low

@@ -6,8 +6,7 @@ use Rattle.rustc_apfloat.proofs.double_doubles.products.product.Goals as goal
 pub returns-clause-product : goal.returns-clause-product
 returns-clause-product c =
     product_by_categories c.args.round c.args.x c.args.y _ _ _ _ c.category.ensures.category
-    c.category-2.ensures.category
-    c.product_of_categories.ensures
+    c.category-2.ensures.category c.product_of_categories.ensures
 
 pub returns-clause-error_free : goal.returns-clause-error_free
 returns-clause-error_free c e =

@@ -17,8 +17,7 @@ returns-then-not-is_finite_non_zero c =
     (subst₂ (λ (a : Datum) (b : Datum). IsProduct double c.args.round a b t flags)
     (ap (λ (p : Pair). p.high) c.x.view_is) (ap (λ (p : Pair). p.high) c.y.view_is) c.mul_r.ensures.product)
     (at_test c.args.round false (is_finite_non_zero t) (number_product c.args.x c.args.y t flags)
-    (ends (alone t) flags) _ _
-    (number_is t _ _ c.is_finite_non_zero.ensures c.if-not-is_finite_non_zero.true)
+    (ends (alone t) flags) _ _ (number_is t _ _ c.is_finite_non_zero.ensures c.if-not-is_finite_non_zero.true)
     (c.and.ensures.value ∙ c.alone.ensures, ap bits_of c.and.ensures.status))
 
 pub returns : goal.returns

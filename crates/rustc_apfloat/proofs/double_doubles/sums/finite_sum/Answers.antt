@@ -19,8 +19,7 @@ zero_without_sign false true = refl
 zero_without_sign false false = refl
 
 -- the language's test for +0 is that of the model
-is_positive_zero : (x : Datum)
-    → (is_zero_category (category_of x) && not (is_negative x)) ≡ same_datum x positive_zero
+is_positive_zero : (x : Datum) → (is_zero_category (category_of x) && not (is_negative x)) ≡ same_datum x positive_zero
 is_positive_zero (finite b n) = zero_without_sign b _
 is_positive_zero (infinite b) = refl
 is_positive_zero (nan b s) = refl

@@ -15,23 +15,19 @@ sum_at mode x y other value status e s = subst (λ (d : Datum). IsSum double mod
 
 difference_at : (mode : Round) (x y other value : Datum) (status : ℕ) → x ≡ other
     → IsDifference double mode x y value status → IsDifference double mode other y value status
-difference_at mode x y other value status e s =
-    subst (λ (d : Datum). IsDifference double mode d y value status) e s
+difference_at mode x y other value status e s = subst (λ (d : Datum). IsDifference double mode d y value status) e s
 
 -- the sums up to that of the high parts, and then what follows if it is finite or not
 from_sum : (mode : Round) (x y : Pair) (lows with_lesser z : Datum) (s t u : ℕ) (value : Bool) (answer : Pair)
-    (status : ℕ) → IsSum double mode y.low x.low lows s
-    → IsSum double mode lows (lesser x.high y.high) with_lesser t
+    (status : ℕ) → IsSum double mode y.low x.low lows s → IsSum double mode lows (lesser x.high y.high) with_lesser t
     → IsSum double mode with_lesser (greater x.high y.high) z u → value ≡ is_finite z
-    → Leads double mode (if value then sum_anew_low x y z (s ∪ t ∪ u)
-    else ends (alone z) (s ∪ t ∪ u)) answer status
+    → Leads double mode (if value then sum_anew_low x y z (s ∪ t ∪ u) else ends (alone z) (s ∪ t ∪ u)) answer status
     → Leads double mode (sum_anew x y) answer status
 from_sum mode x y lows with_lesser z s t u value answer status i j k e h =
     step lows s i
     (step with_lesser t j
     (step z u k
-    (at_test mode value (is_finite z) (sum_anew_low x y z (s ∪ t ∪ u))
-    (ends (alone z) (s ∪ t ∪ u)) answer status e h)))
+    (at_test mode value (is_finite z) (sum_anew_low x y z (s ∪ t ∪ u)) (ends (alone z) (s ∪ t ∪ u)) answer status e h)))
 
 pub returns-then-not-is_finite : goal.returns-then-not-is_finite
 returns-then-not-is_finite c =

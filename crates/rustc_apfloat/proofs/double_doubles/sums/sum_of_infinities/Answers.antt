@@ -10,7 +10,6 @@ pub returns-then-is_negative : goal.returns-then-is_negative
 returns-then-is_negative c mode =
     at_test mode true (same_sign (is_negative c.args.x.high) (is_negative c.args.y.high)) (ends c.args.x ok_bits)
     (ends (pair_nan_signed_as c.args.x) invalid_bit) _ _
-    (signs_are c.args.x c.args.y _ _ _
-    (c.is_negative.ensures ∙ ap (λ (p : Pair). is_negative p.high) c.x.view_is)
+    (signs_are c.args.x c.args.y _ _ _ (c.is_negative.ensures ∙ ap (λ (p : Pair). is_negative p.high) c.x.view_is)
     (c.is_negative-2.ensures ∙ ap (λ (p : Pair). is_negative p.high) c.y.view_is) c.if-is_negative.true)
     (c.and.ensures.value, ap bits_of c.and.ensures.status)

@@ -9,10 +9,9 @@ use Rattle.rustc_apfloat.proofs.double_doubles_lemmas.PairSteps.{infinite_is}
 use Rattle.rustc_apfloat.proofs.double_doubles.sums.sum_of_numbers.Goals as goal
 
 -- the sum of the high parts, and then what follows if it is infinite or not
-from_high : (mode : Round) (x y x_view y_view : Pair) (z : Datum) (flags : ℕ) (value : Bool) (answer : Pair)
-    (status : ℕ) → x_view ≡ x → y_view ≡ y → IsSum double mode x_view.high y_view.high z flags
-    → value ≡ is_infinite z
-    → Leads double mode (if value then sum_anew x y else finite_sum x y z flags) answer status
+from_high : (mode : Round) (x y x_view y_view : Pair) (z : Datum) (flags : ℕ) (value : Bool)
+    (answer : Pair) (status : ℕ) → x_view ≡ x → y_view ≡ y → IsSum double mode x_view.high y_view.high z flags
+    → value ≡ is_infinite z → Leads double mode (if value then sum_anew x y else finite_sum x y z flags) answer status
     → Leads double mode (sum_of_numbers x y) answer status
 from_high mode x y x_view y_view z flags value answer status i j s e h =
     step z flags

@@ -9,8 +9,7 @@ pub returns-clause-remainder : goal.returns-clause-remainder
 returns-clause-remainder c =
     wide_of_two (IsNearestRemainder wide) c.args.x c.args.y c.joined.result c.joined-2.result c.ieee_rem.result.value
     (bits_of c.ieee_rem.result.status) c.split_answer.result.value _ c.joined.ensures c.joined-2.ensures
-    c.ieee_rem.ensures
-    (ap bits_of c.split_answer.ensures.status) c.split_answer.ensures.value
+    c.ieee_rem.ensures (ap bits_of c.split_answer.ensures.status) c.split_answer.ensures.value
 
 pub returns-clause-exact : goal.returns-clause-exact
 returns-clause-exact c =

@@ -7,8 +7,7 @@ use Rattle.rustc_apfloat.proofs.double_doubles.wide.quotient.Goals as goal
 
 pub returns-clause-quotient : goal.returns-clause-quotient
 returns-clause-quotient c =
-    wide_of_two (IsQuotient wide c.args.round) c.args.x c.args.y c.joined.result c.joined-2.result
-    c.div_r.result.value
+    wide_of_two (IsQuotient wide c.args.round) c.args.x c.args.y c.joined.result c.joined-2.result c.div_r.result.value
     (bits_of c.div_r.result.status) c.split_answer.result.value _ c.joined.ensures c.joined-2.ensures c.div_r.ensures
     (ap bits_of c.split_answer.ensures.status) c.split_answer.ensures.value
 

@@ -8,5 +8,4 @@ pub returns : goal.returns
 returns c =
     wide_of_one (IsRoundToIntegral wide c.args.round) c.args.x c.joined.result c.round_to_integral.result.value
     (bits_of c.round_to_integral.result.status) c.split_answer.result.value _ c.joined.ensures
-    c.round_to_integral.ensures
-    (ap bits_of c.split_answer.ensures.status) c.split_answer.ensures.value
+    c.round_to_integral.ensures (ap bits_of c.split_answer.ensures.status) c.split_answer.ensures.value

@@ -16,8 +16,7 @@ returns g c =
     let code = c.args.code in
     let m : ℕ = point d.precision (magnitude_of d code) in
     let n : ℕ = m * 2 ^ (24 - (format_with d).scale) in
-    let exact =
-    subst (λ (k : ℕ). IsExactlyConverted (format_with d) (library_format half_constants) (datum_of d k)
+    let exact = subst (λ (k : ℕ). IsExactlyConverted (format_with d) (library_format half_constants) (datum_of d k)
     c.convert_r.result.value (bits_of c.convert_r.result.status) c.convert_r.new.loses_info)
     (c.from_bits.ensures ∙ mod-eq_of_lt c.requires.bits) c.convert_r.ensures.exact in
     let moved = moved_quanta m (format_with d).scale c.requires.quantum in

@@ -6,9 +6,7 @@ use Rattle.small_formats.proofs.blocks.elements.saturated.Goals as goal
 
 -- as `largest_of_sign` of apfloat_arrays
 pub returns-then-negative-clause-past : goal.returns-then-negative-clause-past
-returns-then-negative-clause-past g c = λ off.
-    c.neg.ensures
-    ∙ ap (negated (format_of g.T.Semantics).nonfinite) c.largest-largest.ensures
-    ∙ negated_some (format_of g.T.Semantics).nonfinite (largest (format_of g.T.Semantics))
+returns-then-negative-clause-past g c = λ off. c.neg.ensures ∙ ap (negated (format_of g.T.Semantics).nonfinite)
+    c.largest-largest.ensures ∙ negated_some (format_of g.T.Semantics).nonfinite (largest (format_of g.T.Semantics))
     (largest_some (format_of g.T.Semantics) g.T.Semantics.lawful.parameters.precision_low)
     ∙ ap (λ (b : Bool). finite b (largest (format_of g.T.Semantics))) (sym c.if-negative.true)

@@ -8,8 +8,7 @@ pub returns : goal.returns
 returns g c = λ amount parts u same.
     let t = format_of g.T.Semantics in
     let low = g.T.Semantics.lawful.parameters.precision_low in
-    let delivered =
-    quotient_across (format_of g.S.Semantics) (format_of g.R.Semantics) t c.args.round c.args.x c.args.y
+    let delivered = quotient_across (format_of g.S.Semantics) (format_of g.R.Semantics) t c.args.round c.args.x c.args.y
     c.divide-answer.result.value (bits_of c.divide-answer.result.status) amount parts (omega (arith, low))
     c.requires.finite c.requires.positive.is c.requires.positive.some c.divide-answer.ensures u same in
     rw (c.and.ensures.value, c.and.ensures.status)

@@ -22,8 +22,7 @@ returns-in-Normal-clause-value g c =
     let x = c.args.x in
     let some = normal_quanta x (sym c.category.ensures.category ∙ c.in-Normal.is) in
     let at = finite_magnitude (format_of g.S.Semantics).nonfinite x c.abs.result c.requires.finite some c.abs.ensures in
-    c.larger.ensures.value
-    ∙ ap (λ (n : ℕ). finite false (max n (quanta_of c.args.greatest))) (ap quanta_of at)
+    c.larger.ensures.value ∙ ap (λ (n : ℕ). finite false (max n (quanta_of c.args.greatest))) (ap quanta_of at)
 
 pub returns-in_default-clause-value : goal.returns-in_default-clause-value
 returns-in_default-clause-value g c =

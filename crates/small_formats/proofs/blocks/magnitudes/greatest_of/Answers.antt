@@ -43,6 +43,5 @@ loop-index-preserved g c =
 
 pub returns-clause-value : goal.returns-clause-value
 returns-clause-value g c =
-    c.loop-index.invariant.0
-    ∙ ap (λ (xs : List Datum). finite false (greatest_magnitude xs))
+    c.loop-index.invariant.0 ∙ ap (λ (xs : List Datum). finite false (greatest_magnitude xs))
     (take_all c.loop-index.index c.args.values.now (omega (arith, c.loop-index-test.false)))

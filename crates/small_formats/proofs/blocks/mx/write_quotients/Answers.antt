@@ -21,8 +21,7 @@ with-counts-requires g c =
     c.requires.positive.some refl) (omega (arith, c.loop-index-test.true))
 
 pub loop-index-init : goal.loop-index-init
-loop-index-init g c =
-    (c.requires.lengths, λ divisor unit p e. none_written _ c.args.values.now c.args.codes.now)
+loop-index-init g c = (c.requires.lengths, λ divisor unit p e. none_written _ c.args.values.now c.args.codes.now)
 
 pub loop-index-preserved : goal.loop-index-preserved
 loop-index-preserved g c =
@@ -49,6 +48,5 @@ loop-index-preserved g c =
     )
 
 pub returns : goal.returns
-returns g c = λ divisor unit p e.
-    all_written (c.loop-index.invariant.1 divisor unit p e)
+returns g c = λ divisor unit p e. all_written (c.loop-index.invariant.1 divisor unit p e)
     (omega (arith, c.loop-index-test.false, c.loop-index.auto.index-end)) c.loop-index.invariant.0

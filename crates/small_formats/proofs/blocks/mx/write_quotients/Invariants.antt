@@ -9,7 +9,6 @@ use Rattle.small_formats.proofs.blocks.mx.write_quotients.Given as goal
 abbrev pub invariant-loop-index : goal.invariant-loop-index
 invariant-loop-index g l =
     (length l.codes ≡ length l.values)
-    × ((divisor unit : ℕ) → 0 < divisor
-    → divisor * 2 ^ (format_of g.R.Semantics).scale ≡ quanta_of l.y * unit
+    × ((divisor unit : ℕ) → 0 < divisor → divisor * 2 ^ (format_of g.R.Semantics).scale ≡ quanta_of l.y * unit
     → AreWritten (IsQuotientBy l.element (format_of g.S.Semantics) l.round divisor unit) l.index l.values l.codes
     l.counts)

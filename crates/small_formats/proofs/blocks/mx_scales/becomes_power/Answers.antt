@@ -31,12 +31,10 @@ returns g c = λ within.
     (bits_of c.quotient_code-answer.result.status)) (ap is_negative c.requires.sign)
     (c.quotient_code-answer.ensures.code amount parts some
     (by_power (quanta_of x) (quanta_of c.power_of.result) t.scale f.scale next c.power_of.ensures.value)) in
-    let middle : (2 ^ (t.precision + 1) - 1) * 2 ^ top * parts
-    ≡ last_middle c.args.element * (2 ^ f.scale * 2 ^ c.args.scale) =
-    ap (λ (n : ℕ). (2 ^ (t.precision + 1) - 1) * 2 ^ top * (2 ^ f.scale * n)) (twice_power c.args.scale)
-    ∙ omega arith in
+    let middle : (2 ^ (t.precision + 1) - 1) * 2 ^ top * parts ≡ last_middle c.args.element
+    * (2 ^ f.scale * 2 ^ c.args.scale) = ap (λ (n : ℕ). (2 ^ (t.precision + 1) - 1) * 2 ^ top * (2 ^ f.scale * n))
+    (twice_power c.args.scale) ∙ omega arith in
     ap (λ (n : ℕ). eqb code n) c.power_code.ensures
     ∙ power_is c.args.element h.pick code c.quotient_code-answer.ensures.below h.value_is
     ∙ middle_pick t.precision top amount parts h.pick (short c.args.element).full (roomy c.args.element) some within
-    h.is_pick
-    ∙ ap (λ (n : ℕ). leb n (amount * 2 ^ (t.precision + 1))) middle
+    h.is_pick ∙ ap (λ (n : ℕ). leb n (amount * 2 ^ (t.precision + 1))) middle

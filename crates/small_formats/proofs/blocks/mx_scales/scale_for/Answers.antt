@@ -12,8 +12,7 @@ use Rattle.small_formats.proofs.blocks.mx_scales.scale_for.Goals as goal
 
 pub returns-then-is_zero-clause-value : goal.returns-then-is_zero-clause-value
 returns-then-is_zero-clause-value g c =
-    match_true _ _ _
-    (sym (zero_test c.args.greatest c.requires.sign) ∙ sym c.is_zero.ensures ∙ c.if-is_zero.true) refl
+    match_true _ _ _ (sym (zero_test c.args.greatest c.requires.sign) ∙ sym c.is_zero.ensures ∙ c.if-is_zero.true) refl
 
 -- the exponent of the greatest magnitude
 record HasExponent (g : Over) (c : After-ilogb g) : Type 0 where
@@ -23,8 +22,7 @@ record HasExponent (g : Over) (c : After-ilogb g) : Type 0 where
 exponent : (g : Over) → (c : After-ilogb g) → HasExponent g c
 exponent g c =
     let f = format_of g.S.Semantics in
-    let positive =
-    positive_of f c.args.greatest c.requires.sign
+    let positive = positive_of f c.args.greatest c.requires.sign
     (sym (zero_test c.args.greatest c.requires.sign) ∙ sym c.is_zero.ensures ∙ c.if-is_zero.false) c.requires.member in
     let log = logarithm_of f c.args.greatest c.ilogb.result positive c.ilogb.ensures in
     record {

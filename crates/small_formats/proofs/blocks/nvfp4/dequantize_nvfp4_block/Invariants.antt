@@ -8,6 +8,5 @@ use Rattle.small_formats.proofs.blocks.nvfp4.dequantize_nvfp4_block.Given as goa
 -- the values before the index
 abbrev pub invariant-loop-index : goal.invariant-loop-index
 invariant-loop-index g l =
-    (length l.values ≡ length l.codes)
-    × AreWritten (IsNvScaled (format_of g.G.Flagged) l.round (quanta_of l.tensor) l.scale) l.index l.codes l.values
-    l.counts
+    (length l.values ≡ length l.codes) × AreWritten
+    (IsNvScaled (format_of g.G.Flagged) l.round (quanta_of l.tensor) l.scale) l.index l.codes l.values l.counts

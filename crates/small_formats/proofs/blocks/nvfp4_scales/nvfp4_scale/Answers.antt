@@ -19,5 +19,4 @@ returns-clause-divisor g c =
     (quanta_of c.args.greatest) c.code_for.result c.is_zero.result scale.result c.code_for.ensures.below
     (c.is_zero.ensures ∙ zero_test c.args.greatest c.requires.sign) c.code_for.ensures.zero c.code_for.ensures.some
     scale.ensures.positive.some scale.ensures.value in
-    ap (λ (n : ℕ). n * quanta_of c.args.tensor * 2 ^ 1074) chosen.divisor_is
-    ∙ sym c.joint_scale-divisor.ensures.value
+    ap (λ (n : ℕ). n * quanta_of c.args.tensor * 2 ^ 1074) chosen.divisor_is ∙ sym c.joint_scale-divisor.ensures.value

@@ -45,5 +45,4 @@ returns-clause-value g c =
     (c.saturated_quotient-quotient.ensures (q * 2 ^ 158) parts
     (mul-pos (pow_pos scale) (mul-pos (lit≤ tt) c.requires.tensor.some))
     (sixth_ratio q (quanta_of c.joint_scale-divisor.result) (quanta_of c.six.result) scale t 158 9 1074
-    c.six.ensures.value c.joint_scale-divisor.ensures.value))
-    c.least-2.ensures.value c.unless_zero.ensures.value)
+    c.six.ensures.value c.joint_scale-divisor.ensures.value)) c.least-2.ensures.value c.unless_zero.ensures.value)

@@ -20,8 +20,7 @@ loop-index-preserved c =
     let same : length once ≡ length codes = length_set codes (2 * index) (byte % 16) in
     let first = set_next codes front [] (2 * index) (2 * index + 1) (byte % 16) refl (omega (arith, size, within))
     (sym (append-nil front)) in
-    let second =
-    set_next once front ((byte % 16) ∷ []) (2 * index + 1) (2 * (index + 1)) (byte / 16) (omega arith)
+    let second = set_next once front ((byte % 16) ∷ []) (2 * index + 1) (2 * (index + 1)) (byte / 16) (omega arith)
     (omega (arith, size, same, within)) first in
     let fits = λ (code : ℕ). code < 2 ^ 4 in
     let low : byte % 16 < 2 ^ 4 = omega arith in

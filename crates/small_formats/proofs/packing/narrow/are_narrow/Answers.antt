@@ -5,8 +5,7 @@ use Rattle.small_formats.proofs.packing_lemmas.All.{all_more}
 use Rattle.small_formats.proofs.packing.narrow.are_narrow.Goals as goal
 
 pub returns-clause-yes : goal.returns-clause-yes
-returns-clause-yes c = λ e.
-    subst (λ (xs : List ℕ). All (λ (code : ℕ). code < 2 ^ c.args.bits) xs)
+returns-clause-yes c = λ e. subst (λ (xs : List ℕ). All (λ (code : ℕ). code < 2 ^ c.args.bits) xs)
     (take_all c.loop-index.index c.args.codes.now (omega (arith, c.loop-index-test.false))) c.loop-index.invariant
 
 pub loop-index-preserved : goal.loop-index-preserved

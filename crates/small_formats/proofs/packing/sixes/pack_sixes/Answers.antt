@@ -26,8 +26,7 @@ loop-index-preserved c =
     let e = get_or codes (at + 3) 0 in
     let read_a = read_next codes front [] at (at + 1) 0 refl (omega (arith, room)) (sym (append-nil front)) in
     let read_b = read_next codes front (a ∷ []) (at + 1) (at + 2) 0 (omega arith) (omega (arith, room)) read_a in
-    let read_d = read_next codes front (a ∷ b ∷ []) (at + 2) (at + 3) 0 (omega arith)
-    (omega (arith, room)) read_b in
+    let read_d = read_next codes front (a ∷ b ∷ []) (at + 2) (at + 3) 0 (omega arith) (omega (arith, room)) read_b in
     let read_e = read_next codes front (a ∷ b ∷ d ∷ []) (at + 3) (4 * (index + 1)) 0 (omega arith)
     (omega (arith, room)) read_d in
     let low : ℕ = number % 256 in

@@ -6,8 +6,7 @@ use Rattle.small_formats.proofs.saturation.saturation.largest_of_sign.Goals as g
 
 pub returns-then-negative : goal.returns-then-negative
 returns-then-negative g c =
-    c.neg.ensures
-    ∙ ap (negated (format_of g.T.Flagged).nonfinite) c.largest-largest.ensures
+    c.neg.ensures ∙ ap (negated (format_of g.T.Flagged).nonfinite) c.largest-largest.ensures
     ∙ negated_some (format_of g.T.Flagged).nonfinite (largest (format_of g.T.Flagged))
     (largest_some (format_of g.T.Flagged) g.T.Flagged.lawful.parameters.precision_low)
     ∙ ap (λ (b : Bool). finite b (largest (format_of g.T.Flagged))) (sym c.if-negative.true)

@@ -13,8 +13,7 @@ returns-then-past c = λ amount parts some h.
     let reached : Bool = leb n (n * (c.args.digits % 2 ^ kept.places) / 2 ^ kept.places + c.args.bits.random) in
     direction_is (format_at c.args.shape) c.args.bits.digits c.args.bits.random _ c.args.digits kept.places
     kept.significand kept.place amount parts (up c.args.unit) (down c.args.unit)
-    c.is_past-past.result c.is_past-past.result some
-    (rw e at c.cut-kept.ensures.places) c.cut-kept.ensures.quotient h
+    c.is_past-past.result c.is_past-past.result some (rw e at c.cut-kept.ensures.places) c.cut-kept.ensures.quotient h
     ((rw e at c.cut-kept.ensures.cut) amount parts some h).0 c.is_past-past.ensures
     (c.if-past.true ∙ ap (λ (b : Bool). b || reached) (sym c.if-past.true))
 
@@ -26,8 +25,7 @@ returns-else-past c = λ amount parts some h.
     let reached : Bool = leb n (n * (c.args.digits % 2 ^ kept.places) / 2 ^ kept.places + c.args.bits.random) in
     direction_is (format_at c.args.shape) c.args.bits.digits c.args.bits.random _ c.args.digits kept.places
     kept.significand kept.place amount parts (up c.args.unit) (down c.args.unit) c.is_past-past.result
-    c.reaches_whole-reaches.result some
-    (rw e at c.cut-kept.ensures.places) c.cut-kept.ensures.quotient h
+    c.reaches_whole-reaches.result some (rw e at c.cut-kept.ensures.places) c.cut-kept.ensures.quotient h
     ((rw e at c.cut-kept.ensures.cut) amount parts some h).0 c.is_past-past.ensures
     (c.reaches_whole-reaches.ensures
     ∙ ap (λ (parts : ℕ). leb n (parts + c.args.bits.random)) c.parts_of_rest.ensures.value

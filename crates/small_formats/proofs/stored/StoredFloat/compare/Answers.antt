@@ -11,9 +11,7 @@ returns g c =
     let low = g.F.StorageFormat.lawful.precision_low in
     let left = to_z-of_z w16 c.signed_index.result (record { sfits = c.signed_index.type_inv }) in
     let right = to_z-of_z w16 c.signed_index-2.result (record { sfits = c.signed_index-2.type_inv }) in
-    (rw (left, right) at c.cmp.ensures)
-    ∙ ap (λ (z : ℤ). int_cmp z c.signed_index-2.result) c.signed_index.ensures
+    (rw (left, right) at c.cmp.ensures) ∙ ap (λ (z : ℤ). int_cmp z c.signed_index-2.result) c.signed_index.ensures
     ∙ ap (λ (z : ℤ). int_cmp (signed (is_negative_code d c.args.self) (magnitude_of d c.args.self)) z)
-    c.signed_index-2.ensures
-    ∙ compared_points d.precision (magnitude_of d c.args.self) (magnitude_of d c.args.other)
+    c.signed_index-2.ensures ∙ compared_points d.precision (magnitude_of d c.args.self) (magnitude_of d c.args.other)
     (is_negative_code d c.args.self) (is_negative_code d c.args.other) (omega (arith, low))

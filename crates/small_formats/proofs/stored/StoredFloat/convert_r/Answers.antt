@@ -33,5 +33,4 @@ returns-then-magnitude-eq0-clause-exact g c =
     exactly_converted (format_with d) (format_of g.T.Flagged) c.args.round (datum_of d c.args.self)
     c.zero.result.value (bits_of c.zero.result.status) _
     (zero_converted d (format_of g.T.Flagged) c.args.round c.args.self c.zero.result.value
-    (bits_of c.zero.result.status) _ (omega (arith, c.magnitude-magnitude.ensures.value, c.if-magnitude-eq0.true))
-    kept)
+    (bits_of c.zero.result.status) _ (omega (arith, c.magnitude-magnitude.ensures.value, c.if-magnitude-eq0.true)) kept)

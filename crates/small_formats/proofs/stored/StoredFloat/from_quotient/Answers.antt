@@ -16,8 +16,7 @@ divide_positive-requires-clause-x g c =
 pub returns-in-Normal : goal.returns-in-Normal
 returns-in-Normal g c = λ amount parts u same.
     let into = format_with (constants_of g.F.StorageFormat) in
-    let magnitude =
-    magnitude_quanta (format_of g.S.Semantics).nonfinite c.args.x c.abs.result
+    let magnitude = magnitude_quanta (format_of g.S.Semantics).nonfinite c.args.x c.abs.result
     (sym c.category.ensures.category ∙ c.in-Normal.is) c.abs.ensures in
     let delivered = rw c.is_negative-negative.ensures at c.divide_positive.ensures in
     delivered amount parts u

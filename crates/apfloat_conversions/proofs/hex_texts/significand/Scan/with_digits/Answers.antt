@@ -6,13 +6,11 @@ use Rattle.apfloat_conversions.proofs.hex_texts.significand.Scan.with_digits.Goa
 
 pub with_digit-next-requires-clause-cut : goal.with_digit-next-requires-clause-cut
 with_digit-next-requires-clause-cut c =
-    let i = c.loop-left.invariant c.requires.0 c.requires.2 in
-    omega (arith, i.cut_fits, c.requires.1, c.in-len1-up.len_at_least)
+    omega (arith, (c.loop-left.invariant c.requires.0 c.requires.2).cut_fits, c.requires.1, c.in-len1-up.len_at_least)
 
 pub with_digit-next-requires-clause-places : goal.with_digit-next-requires-clause-places
 with_digit-next-requires-clause-places c =
-    let i = c.loop-left.invariant c.requires.0 c.requires.2 in
-    omega (arith, i.places_fit, c.requires.1, c.in-len1-up.len_at_least)
+    omega (arith, (c.loop-left.invariant c.requires.0 c.requires.2).places_fit, c.requires.1, c.in-len1-up.len_at_least)
 
 pub loop-left-preserved : goal.loop-left-preserved
 loop-left-preserved c rest s =
@@ -22,5 +20,4 @@ loop-left-preserved c rest s =
     (c.with_digit-next.ensures rest _ i)
 
 pub returns : goal.returns
-returns c rest s =
-    scan_remade rest _ c.loop-left.scan c.remade.result c.remade.ensures (c.loop-left.invariant rest s)
+returns c rest s = scan_remade rest _ c.loop-left.scan c.remade.result c.remade.ensures (c.loop-left.invariant rest s)

@@ -1,5 +1,0 @@
-use Rattle.apfloat_c.specs.Arrays.{AreElements}
-use Rattle.apfloat_c.proofs.elements.elements.Given as goal
-
-abbrev pub invariant-loop-index : goal.invariant-loop-index
-invariant-loop-index g l = AreElements (g.C.ElementCalls.map l.calls) l.xs l.ys l.zs l.index l.output l.counted

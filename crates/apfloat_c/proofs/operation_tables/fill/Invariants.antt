@@ -1,5 +1,0 @@
-use Rattle.apfloat_c.specs.OperationTables.{IsTable}
-use Rattle.apfloat_c.proofs.operation_tables.fill.Given as goal
-
-abbrev pub invariant-loop-place : goal.invariant-loop-place
-invariant-loop-place g l = IsTable (g.C.ElementCalls.map l.calls) l.place l.table

@@ -1,0 +1,10 @@
+pub mod ArrayCalls
+pub mod ElementCalls
+pub mod ArraysOnce
+pub mod BlocksOnce
+pub mod OperationTables
+pub mod NormalElements
+pub mod StorageModes
+pub mod StorageOnce
+pub mod StorageModesOnce
+pub mod ExactSums

@@ -1,0 +1,9 @@
+pub mod ArrayCalls
+pub mod Arrays
+pub mod Blocks
+pub mod OneAnswer
+pub mod OperationTables
+pub mod StorageValues
+pub mod StorageModes
+pub mod StorageOperations
+pub mod Reductions

@@ -1,7 +1,0 @@
-use Rattle.conformance.proofs.Summands.{two_exactly}
-use Rattle.conformance.proofs.pairs.exact_sum.Goals as goal
-
-pub returns : goal.returns
-returns c =
-    two_exactly c.args.x c.args.y _ _ _ c.alone.ensures.pair c.alone-2.ensures.pair c.requires.first c.requires.second
-    c.add.ensures.error_free
