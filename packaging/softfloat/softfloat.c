@@ -72,7 +72,7 @@ void softfloat_raiseFlags(uint_fast8_t flags) {
 INLINE void raise_flags(uint32_t flags) {
     static const uint8_t reversed[32] = {0, 16, 8, 24, 4, 20, 12, 28, 2, 18, 10, 26, 6, 22, 14, 30,
                                          1, 17, 9, 25, 5, 21, 13, 29, 3, 19, 11, 27, 7, 23, 15, 31};
-    if (flags) softfloat_raiseFlags(reversed[flags & 31]);
+    softfloat_raiseFlags(reversed[flags & 31]);
 }
 #endif
 
@@ -247,45 +247,15 @@ static int32_t class_of(uint32_t format, apfloat_halves x) {
 
 /* ---- extFloat80_t with 53 or 24 digits */
 
-/* A result with fewer digits than extFloat80_t has, and with its exponents, is rounded to odd in all 64 digits, and
- * then once more, which is rounding once: 64 digits are at least two more. The second rounding is a conversion to a
- * format of so many digits. Before it, a result near the greatest or the least exponents of extFloat80_t is multiplied
- * by the power of two that takes these to those of the format, and any other by one that takes it near 1; afterwards,
- * by the inverse. These products are exact. */
-static apfloat_answer narrowed(apfloat_answer odd, uint32_t format, uint_fast8_t mode) {
-    const int32_t end = format == APFLOAT_DOUBLE ? 16383 - 1023 : 16383 - 127, margin = 64;
-    apfloat_answer exponent = {{0, 0}, 0, 0}, scaled = exponent, narrow = exponent, wide = exponent, result = exponent;
-    int32_t power;
-    apfloat_ilogb(APFLOAT_X87, odd.bits, &exponent);
-    power = exponent.number >= 16383 - margin ? -end : exponent.number <= -16382 + margin ? end : -exponent.number;
-    apfloat_scalbn(APFLOAT_X87, APFLOAT_NEAREST_EVEN, odd.bits, power, &scaled);
-    apfloat_convert(APFLOAT_X87, direction(mode), ruled(format), scaled.bits, &narrow);
-    narrow = odd_if_asked(narrow, mode);
-    apfloat_convert(format, APFLOAT_NEAREST_EVEN, APFLOAT_X87, narrow.bits, &wide);
-    apfloat_scalbn(APFLOAT_X87, APFLOAT_NEAREST_EVEN, wide.bits, -power, &result);
-    result.status = narrow.status | (odd.status & (APFLOAT_OVERFLOW | APFLOAT_INEXACT));
-    return result;
-}
-
-static bool is_nonzero_number(apfloat_answer truncated) {
-    switch (class_of(APFLOAT_X87, truncated.bits)) {
-    case APFLOAT_NEGATIVE_NORMAL:
-    case APFLOAT_NEGATIVE_SUBNORMAL:
-    case APFLOAT_POSITIVE_SUBNORMAL:
-    case APFLOAT_POSITIVE_NORMAL: return true;
-    default: return truncated.status & APFLOAT_INEXACT; /* a zero that is no zero when it is rounded to odd */
-    }
-}
-
-/* A result with 53 or 24 digits. */
+/* A result with fewer digits, rounded once, with the exponents of extFloat80_t. NaNs are those of the machine. */
 OUT_OF_LINE apfloat_answer shortened(uint32_t operation, uint32_t digits, uint_fast8_t mode, apfloat_halves x,
                                      apfloat_halves y) {
-    const apfloat_answer truncated = by_machine(operation, APFLOAT_X87, APFLOAT_TOWARD_ZERO, 0, x, y, y);
-    if (is_nonzero_number(truncated)) {
-        const apfloat_answer odd = odd_if_asked(truncated, softfloat_round_odd);
-        return narrowed(odd, digits == 64 ? APFLOAT_DOUBLE : APFLOAT_SINGLE, mode);
-    }
-    return odd_if_asked(by_machine(operation, APFLOAT_X87, direction(mode), 0, x, y, y), mode);
+    const uint32_t control = digits == 64 ? APFLOAT_ROUND_TO_53_DIGITS : APFLOAT_ROUND_TO_24_DIGITS;
+    const uint32_t rounding = mode == softfloat_round_odd ? APFLOAT_TO_ODD : direction(mode);
+    apfloat_answer answer = {{0, 0}, 0, 0};
+    apfloat_instruction(APFLOAT_MACHINE_X87, operation, ruled(APFLOAT_X87), rounding, control, 0, x, y, y, &answer);
+    answer.number = 0;
+    return is_nan(APFLOAT_X87, answer.bits) ? by_machine(operation, APFLOAT_X87, direction(mode), 0, x, y, y) : answer;
 }
 
 /* ---- denormal operands and results, which only a status that is passed has a say in */
