@@ -6,6 +6,7 @@ Results are those of the tables in evidence/exact/machines.py. Whether a magnitu
 exact result, a fraction: nothing is computed twice, and a result with fewer digits is a fraction that is rounded once.
 """
 
+from dataclasses import replace
 from fractions import Fraction
 
 from exact import format_of, integers, machines, odd, operations, remainders
@@ -17,7 +18,7 @@ from exact.drawing import Encoding, Generator
 from exact.formats import FORMATS, X87_DOUBLE, X87_SINGLE, with_ieee_flags
 from exact.machines import MACHINES, RULES
 from exact.rounding import Mode
-from exact.status import DIV_BY_ZERO, INEXACT, INVALID_OP, names
+from exact.status import DIV_BY_ZERO, INEXACT, INVALID_OP, OVERFLOW, UNDERFLOW, names
 from row_files import MODES, hexes
 
 FORMS = ("half", "single", "double", "quad", "bfloat", "e5m2", "x87")
@@ -28,7 +29,7 @@ COUNTS = {"sqrt": 1, "fma": 3, "round_to_integral": 1, "integral": 1, "convert":
 CALLS = (*ARITHMETIC, *REMAINDERS, "round_to_integral", "integral", "convert", "to_u128", "to_i128", "least",
          "greatest")
 LATER = {"to_i128_modulo": machines.MODULO, "mul_extended": machines.EXTENDED}
-FLUSH, ZEROS, UP = 1, 2, 4
+FLUSH, ZEROS, UP, UNMASKED = 1, 2, 4, 32
 # What the bits of a precision round to.
 PRECISIONS = {8: X87_SINGLE, 16: X87_DOUBLE}
 
@@ -65,6 +66,29 @@ def integer_on(form, machine, call, mode, x, width):
     if flags != INVALID_OP:
         return integer, flags
     return machines.to_integer(form, machine, signed, x, width, Mode.DOWN if x.negative else Mode.UP)
+
+
+def places(form, value, flags):
+    """The power of two by which an answer is moved where overflow and underflow are unmasked."""
+    adjustment = 3 << form.exponent_bits - 2
+    if flags & OVERFLOW:
+        return -adjustment
+    return adjustment if flags & UNDERFLOW or is_denormal(form, value) else 0
+
+
+def unmasked(form, call, mode, control, data):
+    """An operation, whose number is moved if the answer with masked exceptions overflows or is tiny."""
+    value, flags = computed(form, call, mode, control, data)
+    moved = places(form, value, flags)
+    if moved == 0:
+        return value, flags
+    counted = form if call == "fma" else PRECISIONS.get(control & sum(PRECISIONS), form)
+    wide = replace(counted, least_exponent=4 * form.least_exponent, greatest_exponent=4 * form.greatest_exponent)
+    number_of_wide, flags_of_wide = format_of.computed(form, wide, ARITHMETIC[call], mode, data)
+    quanta = fraction(wide, number_of_wide) * Fraction(2) ** (form.scale + moved)
+    assert quanta.denominator == 1 and quanta <= form.largest
+    assert quanta.numerator % (1 << max(0, quanta.numerator.bit_length() - form.precision)) == 0
+    return Finite(value.negative, quanta.numerator), flags_of_wide | (OVERFLOW if moved < 0 else UNDERFLOW)
 
 
 def computed(form, call, mode, control, data):
@@ -105,7 +129,8 @@ def valued(form, target, machine, call, rule, mode, control, data):
         result = machines.extended_product(form, machine, data, product)
     else:
         settle = machines.settled_fused if call == "fma" else machines.settled
-        result = settle(form, machine, data, computed(form, call, mode, control, data))
+        compute = unmasked if control & UNMASKED else computed
+        result = settle(form, machine, data, compute(form, call, mode, control, data))
     return machines.flushed(form, machine, result) if control & FLUSH else result
 
 
@@ -134,6 +159,8 @@ def line(call, name, machine_name, mode, control, to, drawn):
             is_up = True
         elif flags & INEXACT and value.quanta:
             magnitude = fraction(target, value)
+            if control & UNMASKED and call in ARITHMETIC:
+                magnitude /= Fraction(2) ** places(form, value, flags)
             is_up = (magnitude**2 if call == "sqrt" else magnitude) > exact_magnitude(form, call, data)
     if not control & ZEROS:
         denormal = denormal and none_is_nan and not flags & (INVALID_OP | DIV_BY_ZERO)
@@ -280,11 +307,62 @@ def rows_of_precisions(draw):
                 yield line(call, name, "x87", mode, precision | draw.between(0, 1) * UP, to, drawn)
 
 
+def with_any_exponent(form, exponent, draw):
+    """Bits of a number with up to all digits and about this exponent, which may be a denormal one."""
+    digits = draw.wide_word() % (1 << form.precision - 1) | 1 << form.precision - 1
+    lost = draw.between(0, form.precision - 1)
+    places = max(form.least_exponent - form.precision + 1, min(exponent, form.greatest_exponent)) - form.least_exponent
+    digits = digits >> lost << lost
+    quanta = digits << places if places > 0 else max(1, digits >> -places)
+    return encoded(form, number(form, bool(draw.between(0, 1)), quanta))
+
+
+def past_ends(form, call, draw):
+    """Bits of operands whose result is around or past the greatest or the least numbers."""
+    below = draw.between(0, 1)
+    end = form.least_exponent if below else form.greatest_exponent
+    reach = form.precision + 2 if draw.between(0, 2) else form.greatest_exponent
+    end += draw.between(-reach, 2) if below else draw.between(-2, reach)
+    if call in ("add", "sub"):
+        return [with_any_exponent(form, end - draw.between(0, 3), draw) for _ in range(2)]
+    own = draw.between(end // 2 - form.precision, end // 2 + form.precision)
+    other = own - end if call == "div" else end - own
+    drawn = [with_any_exponent(form, exponent, draw) for exponent in (own, other)]
+    return [*drawn, with_any_exponent(form, end - draw.between(-1, form.precision + 2), draw)][:COUNTS.get(call, 2)]
+
+
+def rows_of_unmasked(draw):
+    """Rows of unmasked overflow and underflow."""
+    names_of_formats = [name for name in FORMS if name != "half"]
+    for machine_name in ("x87", "power", "s390x"):
+        for call in (*ARITHMETIC, "rem", "convert", "integral", "to_i128", "least"):
+            if call == "fma" and machine_name == "x87":
+                continue
+            for turn in range(36 if call in ARITHMETIC else 2):
+                mode = (*MODES, odd.ODD)[turn // len(names_of_formats) % (len(MODES) + 1)]
+                name = names_of_formats[turn % len(names_of_formats)]
+                to = {"convert": "single", "to_i128": 32, "least": RULES[0]}.get(call, 0)
+                form = FORMATS[name]
+                if call in ARITHMETIC and turn % 5 and call != "sqrt":
+                    drawn = past_ends(form, call, draw)
+                else:
+                    drawn = [operand(form, draw) for _ in range(COUNTS.get(call, 2))]
+                yield line(call, name, machine_name, mode, UNMASKED | draw.between(0, 1) * UP, to, drawn)
+    form = FORMATS["x87"]
+    for precision in PRECISIONS:
+        for call in ("add", "sub", "mul", "div"):
+            for turn in range(18):
+                mode = (*MODES, odd.ODD)[turn % (len(MODES) + 1)]
+                drawn = past_ends(form, call, draw)
+                name = "x87+ieee+before" if turn % 5 == 4 else "x87"
+                yield line(call, name, "x87", mode, UNMASKED | precision | draw.between(0, 1) * UP, 0, drawn)
+
+
 def main():
     """Prints the file."""
     print("# Operations of machines with control words. Computed by evidence/instructions.py.")
     draw = Generator()
-    print("\n".join((*rows(draw), *rows_of_precisions(draw))))
+    print("\n".join((*rows(draw), *rows_of_precisions(draw), *rows_of_unmasked(draw))))
 
 
 if __name__ == "__main__":

@@ -652,6 +652,12 @@ typedef enum apfloat_control APFLOAT_CODE {
      * quotients and roots are rounded once to so many digits, with the exponents of the format. */
     APFLOAT_ROUND_TO_24_DIGITS = 8,
     APFLOAT_ROUND_TO_53_DIGITS = 16,
+    /* Overflow and underflow are unmasked, on .._X87, .._POWER and .._S390X, in formats other than APFLOAT_HALF. A sum,
+     * difference, product, quotient, root or fused sum that overflows is divided by 2^a, and one that is tiny, exact or
+     * not, is multiplied by 2^a, with a = 3 * 2^(w - 2) for exponents of w bits (192 in APFLOAT_SINGLE, 1536 in
+     * APFLOAT_DOUBLE, 24576 in APFLOAT_X87 and APFLOAT_QUAD). It is rounded once, to odd too, as if the exponents had
+     * no end, with APFLOAT_OVERFLOW or APFLOAT_UNDERFLOW, and with APFLOAT_INEXACT only if that rounding is inexact. */
+    APFLOAT_UNMASKED = 32,
     APFLOAT_CONTROL_BITS = 0x7fffffff
 } apfloat_control;
 

@@ -12,3 +12,4 @@ pub mod FlushedOperations
 pub mod FlushedMachines
 pub mod Extended
 pub mod RaisedFlags
+pub mod Wrapping

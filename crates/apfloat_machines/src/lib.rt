@@ -16,6 +16,7 @@ mod modulo;
 mod nans;
 mod theorems;
 mod whole_numbers;
+mod wrapping;
 
 pub use conversions::{is_lost_nan, settled_conversion};
 pub use extended::extended_product;
@@ -31,5 +32,7 @@ pub use theorems::{
     conversions_have_one_answer, flags_go_together, flushed_fused_sums_are_settled,
     flushed_machine_operations_have_one_answer, flushed_operations_have_one_answer,
     fused_sums_have_one_answer, operations_have_one_answer, whole_numbers_have_one_answer,
+    wrapped_answers_are_exact,
 };
 pub use whole_numbers::{settled_signed, settled_unsigned};
+pub use wrapping::{Unbounded, wrapped};

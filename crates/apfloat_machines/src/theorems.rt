@@ -7,6 +7,7 @@ ghost use Rattle.apfloat_machines.specs.{FlushedOperations.FlushedHaveOneAnswer,
 ghost use Rattle.apfloat_machines.specs.RaisedFlags.{MachineFlagsGoTogether, FlushedFlagsGoTogether};
 ghost use Rattle.apfloat_machines.specs.Theorems.{HaveOneAnswer, FusedSumsHaveOneAnswer, ConversionsHaveOneAnswer};
 ghost use Rattle.apfloat_machines.specs.Theorems.{WholeNumbersHaveOneAnswer};
+ghost use Rattle.apfloat_machines.specs.Wrapping.{MovedAreExact, WrappedHaveOneAnswer};
 
 /// A sum, a difference, a product, a quotient, a remainder, a root and a rounding to an integral value of a machine
 /// have one value and one status.
@@ -53,4 +54,11 @@ pub fn flushed_machine_operations_have_one_answer()
 pub fn flags_go_together()
     ensures plain { (f : Format) (machine : Machine) → MachineFlagsGoTogether f machine }
     ensures flushed { (f : Format) (machine : Machine) → FlushedFlagsGoTogether f machine }
+{}
+
+/// `wrapped` has one value and one status. A number that both formats have when it is divided or multiplied by the
+/// power of two is delivered exactly.
+pub fn wrapped_answers_are_exact()
+    ensures once { WrappedHaveOneAnswer }
+    ensures exact { MovedAreExact }
 {}

@@ -29,7 +29,7 @@ use Rattle.coded_calls.specs.declared.machine_call.MachineOperation.TheVariants.
 use Rattle.coded_calls.specs.{Answers.IsLeftBy, Answers.IsValueWritten, KnownCalls.answered}
 use Rattle.coded_calls.specs.MachineCalls.{are_usual, fits, is_root_of, is_tiny_before, machine_fault, wide_operand}
 use Rattle.coded_calls.specs.FewerDigits.{IsShorter, IsYielded, exact_of, narrow_format, widened}
-use Rattle.coded_calls.specs.Instructions.{ByPrecision, IsDelivered, IsFinished, IsShortened, IsWithAllDigits}
+use Rattle.coded_calls.specs.Instructions.{ByPrecision, IsFinished, IsMasked, IsShortened, IsWithAllDigits}
 use Rattle.coded_calls.specs.Instructions.{narrow_in, precision_in}
 use Rattle.coded_calls.proofs.{MadeInstructions.left_by, UsualAnswers.root_fits, UsualAnswers.usual_fit}
 
@@ -189,10 +189,10 @@ fewer_some it call rounding short h =
 -- a result with fewer digits is left
 pub fewer_left : (it : Instruction) (call : MachineCall) (rounding : Rounding) (old short : Answer)
     → ByPrecision it call (Some short ≡ None) (λ g exact. IsShortened g rounding it.control exact short)
-    → IsLeftBy (machine_fault it.machine it.format call) (IsDelivered it call rounding) old short answered
+    → IsLeftBy (machine_fault it.machine it.format call) (IsMasked it call rounding) old short answered
 fewer_left it call rounding old short h =
     let has = fewer_some it call rounding short h in
-    left_by (machine_fault it.machine it.format call) (IsDelivered it call rounding) old short
+    left_by (machine_fault it.machine it.format call) (IsMasked it call rounding) old short
     (no_fault it.machine it.format.format it.format.tiny_before it.control.precision
     (narrow_format (is_tiny_before it.machine it.format.tiny_before)) call
     (λ g exact. IsShortened g rounding it.control exact short) has)
@@ -210,10 +210,10 @@ left_onto (Some fault) Holds Says old new code says left = left
 pub all_left : (it : Instruction) (call : MachineCall) (rounding : Rounding) (old new : Answer) (code : ℕ)
     → ByPrecision it call (IsNothing None) (λ g exact. ⊥)
     → IsLeftBy (machine_fault it.machine it.format call) (IsWithAllDigits it call rounding) old new code
-    → IsLeftBy (machine_fault it.machine it.format call) (IsDelivered it call rounding) old new code
+    → IsLeftBy (machine_fault it.machine it.format call) (IsMasked it call rounding) old new code
 all_left it call rounding old new code h left =
     left_onto (machine_fault it.machine it.format call) (IsWithAllDigits it call rounding)
-    (IsDelivered it call rounding) old new code
+    (IsMasked it call rounding) old new code
     (λ answer holds. by_precision_onto it call (IsNothing None) (IsWithAllDigits it call rounding answer) (λ g exact. ⊥)
     (λ g exact. IsShortened g rounding it.control exact answer) (λ _. holds) (λ g exact none. absurd none) h)
     left

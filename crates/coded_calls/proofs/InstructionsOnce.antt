@@ -6,14 +6,15 @@ use Rattle.std.specs.Prelude.{◌%◌, ◌^◌, if◌then◌else◌, MatchOption
 use Rattle.rustc_apfloat.specs.declared.{Round.TheVariants.TowardZero, StatusAnd.StatusAnd}
 use Rattle.rustc_apfloat.specs.{Classes.is_negative, Datum.Datum, Datum.finite, Datum.infinite, Datum.nan}
 use Rattle.rustc_apfloat.specs.{Flags.bits_of, Format.Format, Format.largest, Layout.IsEncodedBy, Lawful.format_with}
-use Rattle.rustc_apfloat.specs.{Flags.Gives, Formats.x87_constants, Lawful.layout_with}
+use Rattle.rustc_apfloat.specs.{Flags.Gives, Formats.x87_constants, Lawful.Constants, Lawful.layout_with}
 use Rattle.apfloat_model.proofs.{Determined.gives_once, Determined.same_answer, Once.answer_once}
 use Rattle.apfloat_model.proofs.rounding.Neighbours.{above_unique}
 use Rattle.apfloat_model.proofs.Outcomes.{yields_once}
 use Rattle.apfloat_model.specs.rounding.{Answer.IsAnswer as IsGiven, Outcome.Outcome, Outcome.Yields}
 use Rattle.apfloat_model.specs.rounding.Rounding.{inexact_bit}
 use Rattle.round_to_odd.specs.Odd.{IsAnswerMadeOdd, IsMadeOdd, has_flag, is_odd_below}
-use Rattle.apfloat_machines.specs.{declared.flushing.Flush.Flush, Flushing.without_denormal}
+use Rattle.apfloat_machines.specs.{declared.flushing.Flush.Flush, Flushing.without_denormal, Wrapping.IsWrapped}
+use Rattle.apfloat_machines.proofs.WrappedAnswers.{wrapped_once}
 use Rattle.formats_at_run_time.specs.{FlaggedKinds.format_of_ieee, Relations.in_format, ValueKinds.value_of}
 use Rattle.formats_at_run_time.specs.declared.BuiltInFormat.TheVariants.{X87}
 use Rattle.formats_at_run_time.proofs.FormatLaws.{built_in_law}
@@ -23,11 +24,12 @@ use Rattle.coded_calls.specs.declared.instructions.{Instruction.Instruction, Ope
 use Rattle.coded_calls.specs.declared.instructions.ReadOperands.{ReadOperands}
 use Rattle.coded_calls.specs.{Answers.IsLeftBy, Answers.IsValue, Answers.whole, MachineCalls.machine_call}
 use Rattle.coded_calls.specs.{MachineCalls.machine_fault, OneReply.IsInstructionReplyOnce, OneReply.SameAnswer}
-use Rattle.coded_calls.specs.FewerDigits.{exact_of, widened}
+use Rattle.coded_calls.specs.FewerDigits.{exact_of, exact_of_any, widened}
 use Rattle.coded_calls.specs.Instructions.{AreRead, IsCalled, IsDelivered, IsFinished, IsFinishedBy, IsFlushedBy}
 use Rattle.coded_calls.specs.Instructions.{IsInstructionAnswer, IsRoundedUp, IsShortened, IsTaken, IsWithAllDigits}
 use Rattle.coded_calls.specs.Instructions.{constants_for, finishes, has_bit, is_denormal_in, mode_by, narrow_in, notes}
-use Rattle.coded_calls.specs.Instructions.{result_format, toward_zero, whole_operand}
+use Rattle.coded_calls.specs.Instructions.{IsMasked, IsTold, IsUnmasked, IsWrappedIn, result_format, toward_zero}
+use Rattle.coded_calls.specs.Instructions.{whole_operand, wide_format}
 use Rattle.coded_calls.proofs.{AugmentedOnce.encoding_once, ExportsOnce.OnceAnswer, ExportsOnce.unchanged}
 use Rattle.coded_calls.proofs.{IeeeOnce.in_format_once, MachineOnce.machine_call_once}
 
@@ -98,15 +100,24 @@ finished_once f rounding control plain a b h k =
     flushed_once f control.flush k.rounded a b
     (subst (λ (r : StatusAnd Datum). IsFlushedBy f control.flush r a) same h.is_flushed) k.is_flushed
 
+told_once : (c : Constants) (first second : Answer) (plain other : StatusAnd Datum) → SameAnswer first second
+    → IsTold c first plain → IsTold c second other → plain ≡ other
+told_once c first second plain other same h k =
+    same_answer plain other
+    (h.value_is ∙ ap (λ (n : ℕ). value_of c n) same.bits ∙ sym k.value_is)
+    (h.status_is ∙ ap (λ (n : ℕ). n % 2 ^ 8) same.status ∙ sym k.status_is)
+
+same_as : (first second a b : Answer) → SameAnswer first second → a ≡ first → b ≡ second → SameAnswer a b
+same_as first second a b same h k =
+    subst (λ (x : Answer). SameAnswer x b) (sym h) (subst (λ (y : Answer). SameAnswer first y) (sym k) same)
+
 finished_by_once : (m : MachineFormat) (rounding : Rounding) (control : Control) (first second a b : Answer)
     → SameAnswer first second → IsFinishedBy (constants_for m) rounding control first a
     → IsFinishedBy (constants_for m) rounding control second b → SameAnswer a b
 finished_by_once m rounding control first second a b same h k =
     let c = constants_for m in
     let Says = IsFinished (format_with c) rounding control in
-    let plain = same_answer h.plain k.plain
-    (h.is_told.value_is ∙ ap (λ (n : ℕ). value_of c n) same.bits ∙ sym k.is_told.value_is)
-    (h.is_told.status_is ∙ ap (λ (n : ℕ). n % 2 ^ 8) same.status ∙ sym k.is_told.status_is) in
+    let plain = told_once c first second h.plain k.plain same h.is_told k.is_told in
     in_format_once c (built_in_law (format_of_ieee m.format)) TowardZero (Says k.plain)
     (finished_once (format_with c) rounding control k.plain) a b
     (subst (λ (p : StatusAnd Datum). IsValue (in_format c) (Says p) a) plain h.is_value) k.is_value
@@ -117,8 +128,7 @@ either_same : (test : Bool) (m : MachineFormat) (rounding : Rounding) (control :
     → MatchBool test (IsFinishedBy (constants_for m) rounding control second b) (b ≡ second) → SameAnswer a b
 either_same true m rounding control first second a b same h k =
     finished_by_once m rounding control first second a b same h k
-either_same false m rounding control first second a b same h k =
-    subst (λ (x : Answer). SameAnswer x b) (sym h) (subst (λ (y : Answer). SameAnswer first y) (sym k) same)
+either_same false m rounding control first second a b same h k = same_as first second a b same h k
 
 with_all_digits_once : (it : Instruction) (call : MachineCall) (rounding : Rounding)
     → OnceAnswer (IsWithAllDigits it call rounding)
@@ -146,9 +156,8 @@ option_once : {A : Type 0} (o : Option A) (Without : Answer → Type 0) (With : 
 option_once None Without With p f = p
 option_once (Some x) Without With p f = f x
 
-delivered_once : (it : Instruction) (call : MachineCall) (rounding : Rounding)
-    → OnceAnswer (IsDelivered it call rounding)
-delivered_once it call rounding =
+masked_once : (it : Instruction) (call : MachineCall) (rounding : Rounding) → OnceAnswer (IsMasked it call rounding)
+masked_once it call rounding =
     let all = with_all_digits_once it call rounding in
     option_once (narrow_in it) (IsWithAllDigits it call rounding)
     (λ g answer. MatchOption (exact_of x87_constants g call) (IsWithAllDigits it call rounding answer)
@@ -156,6 +165,48 @@ delivered_once it call rounding =
     all
     (λ g. option_once (exact_of x87_constants g call) (IsWithAllDigits it call rounding)
     (λ exact answer. IsShortened g rounding it.control exact answer) all (shortened_once g rounding it.control))
+
+-- ---- unmasked overflow and underflow
+
+wrapped_in_once : (m : MachineFormat) (g : Format) (rounding : Rounding) (control : Control) (exact : Outcome)
+    (first second a b : Answer) → SameAnswer first second
+    → IsWrappedIn (constants_for m) g rounding control first exact a
+    → IsWrappedIn (constants_for m) g rounding control second exact b → SameAnswer a b
+wrapped_in_once m g rounding control exact first second a b same h k =
+    let c = constants_for m in
+    let f = format_with c in
+    let Says = λ (plain wide : StatusAnd Datum). Gives (IsWrapped g f plain wide) in
+    let plain = told_once c first second h.plain k.plain same h.is_told k.is_told in
+    let rounded = gives_once (Yields g rounding.round exact) (yields_once g rounding.round exact) h.rounded k.rounded
+    h.is_rounded k.is_rounded in
+    let wide = finished_once g rounding control k.rounded h.wide k.wide
+    (subst (λ (r : StatusAnd Datum). IsFinished g rounding control r h.wide) rounded h.is_wide) k.is_wide in
+    in_format_once c (built_in_law (format_of_ieee m.format)) TowardZero (Says k.plain k.wide)
+    (wrapped_once g f k.plain k.wide) a b
+    (subst (λ (p : StatusAnd Datum). IsValue (in_format c) (Says p k.wide) a) plain
+    (subst (λ (w : StatusAnd Datum). IsValue (in_format c) (Says h.plain w) a) wide h.is_value))
+    k.is_value
+
+wrapped_by_once : (m : MachineFormat) (g : Format) (rounding : Rounding) (control : Control) (exact : Option Outcome)
+    (first second a b : Answer) → SameAnswer first second
+    → MatchOption exact (a ≡ first) (λ e. IsWrappedIn (constants_for m) g rounding control first e a)
+    → MatchOption exact (b ≡ second) (λ e. IsWrappedIn (constants_for m) g rounding control second e b)
+    → SameAnswer a b
+wrapped_by_once m g rounding control None first second a b same h k = same_as first second a b same h k
+wrapped_by_once m g rounding control (Some e) first second a b same h k =
+    wrapped_in_once m g rounding control e first second a b same h k
+
+delivered_by_once : (unmasked : Bool) (it : Instruction) (call : MachineCall) (rounding : Rounding)
+    → OnceAnswer (λ answer. MatchBool unmasked (IsUnmasked it call rounding answer) (IsMasked it call rounding answer))
+delivered_by_once true it call rounding a b h k =
+    wrapped_by_once it.format (wide_format it) rounding it.control
+    (exact_of_any (constants_for it.format) (wide_format it) call) h.masked k.masked a b
+    (masked_once it call rounding h.masked k.masked h.is_masked k.is_masked) h.is_wrapped k.is_wrapped
+delivered_by_once false it call rounding a b h k = masked_once it call rounding a b h k
+
+delivered_once : (it : Instruction) (call : MachineCall) (rounding : Rounding)
+    → OnceAnswer (IsDelivered it call rounding)
+delivered_once it call rounding = delivered_by_once it.control.unmasked it call rounding
 
 -- ---- what else is told
 

@@ -9,7 +9,7 @@ use Rattle.rustc_apfloat.specs.{Lawful.Constants, Lawful.format_with, declared.R
 use Rattle.rustc_apfloat.specs.declared.StatusAnd.{StatusAnd}
 use Rattle.apfloat_arithmetic.specs.other_formats.Extended.{opposite, seen}
 use Rattle.apfloat_arithmetic.specs.other_formats.{FormatOf.sum_of, FormatOf.product_of, FormatOf.quotient_of}
-use Rattle.apfloat_arithmetic.specs.other_formats.RootsOf.{root_of}
+use Rattle.apfloat_arithmetic.specs.other_formats.{FormatOf.fused_sum_of, RootsOf.root_of}
 use Rattle.formats_at_run_time.specs.ValueKinds.{value_of}
 use Rattle.formats_at_run_time.specs.declared.Arithmetic.{Arithmetic, TheVariants.Sum, TheVariants.Difference}
 use Rattle.formats_at_run_time.specs.declared.Arithmetic.TheVariants.{Product, Quotient, NearestRemainder}
@@ -18,8 +18,8 @@ use Rattle.coded_calls.specs.declared.fewer_digits.Precision.{Precision, TheVari
 use Rattle.coded_calls.specs.declared.machine_call.MachineCall.{MachineCall, TheVariants.Operation}
 use Rattle.coded_calls.specs.declared.machine_call.MachineCall.TheVariants.{Conversion}
 use Rattle.coded_calls.specs.declared.machine_call.MachineOperation.{MachineOperation, TheVariants.OfTwo}
-use Rattle.coded_calls.specs.declared.machine_call.MachineOperation.TheVariants.{SquareRoot}
-use Rattle.coded_calls.specs.MachineCalls.{are_usual, is_root_of}
+use Rattle.coded_calls.specs.declared.machine_call.MachineOperation.TheVariants.{FusedSum, SquareRoot}
+use Rattle.coded_calls.specs.MachineCalls.{are_usual, are_usual_of_three, is_root_of}
 
 abbrev pub digits : Precision → ℕ
 digits Single = 24
@@ -72,6 +72,16 @@ exact_in c g operation = None
 abbrev pub exact_of : Constants → Format → MachineCall → Option Outcome
 exact_of c g (Operation operation) = exact_in c g operation
 exact_of c g (Conversion x target) = None
+
+abbrev pub exact_of_three : Constants → Format → ℕ → ℕ → ℕ → Option Outcome
+exact_of_three c g x y z =
+    let in_g = λ (bits : ℕ). seen (format_with c) g (value_of c bits) in
+    if are_usual_of_three c x y z then Some (fused_sum_of g (in_g x) (in_g y) (in_g z)) else None
+
+-- the same, and of fused sums, which the unit of x87 does not have
+abbrev pub exact_of_any : Constants → Format → MachineCall → Option Outcome
+exact_of_any c g (Operation (FusedSum x y z)) = exact_of_three c g x y z
+exact_of_any c g call = exact_of c g call
 
 -- what an exact result yields, if there is one
 abbrev pub IsYielded : Format → Round → Option Outcome → Option (StatusAnd Datum) → Type 0

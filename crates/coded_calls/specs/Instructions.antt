@@ -1,5 +1,5 @@
 -- One call for an interpreter of instructions: an operation of a machine, with what a control word asks for.
-use Rattle.std.specs.Bool.{MatchBool}
+use Rattle.std.specs.{Bool.MatchBool, Option.unwrap_or}
 use Rattle.std.specs.Prelude.{◌≡◌, ℕ, ◌+◌, ◌/◌, ◌%◌, ◌^◌, ◌==◌, ltb, pos, Bool, true, false, not, ◌&&◌, ◌||◌, is_none}
 use Rattle.std.specs.Prelude.{is_some, if◌then◌else◌, Option, Some, None, MatchOption, ok_or, option_map, Result, Ok}
 use Rattle.std.specs.Prelude.{Err}
@@ -14,13 +14,16 @@ use Rattle.apfloat_model.specs.rounding.Rounding.{inexact_bit}
 use Rattle.apfloat_model.specs.whole_numbers.WholeNumbersOut.{Whole, to_signed}
 use Rattle.round_to_odd.specs.Odd.{IsAnswerMadeOdd}
 use Rattle.apfloat_machines.specs.{declared.flushing.Flush.Flush, Flushing.IsFlushed, Flushing.without_denormal}
+use Rattle.apfloat_machines.specs.Wrapping.{IsWrapped, unbounded}
 use Rattle.apfloat_machines.specs.{declared.minima.MinimumRule.TheVariants.Second, Operations.is_nan_of_three}
 use Rattle.formats_at_run_time.specs.{declared.FlaggedKind.FlaggedKind, Modes.mode_coded, BuiltIns.constants_in}
 use Rattle.formats_at_run_time.specs.declared.IeeeFormat.{IeeeFormat, TheVariants.X87 as FormatX87}
+use Rattle.formats_at_run_time.specs.declared.IeeeFormat.TheVariants.{Half as FormatHalf}
 use Rattle.formats_at_run_time.specs.{FlaggedKinds.format_of_ieee, Relations.in_format, ValueKinds.Kind}
 use Rattle.formats_at_run_time.specs.ValueKinds.{of_format, of_pairs, value_of}
 use Rattle.coded_calls.specs.declared.{data.Answer.Answer, machine_call.CodedMachine.CodedMachine}
-use Rattle.coded_calls.specs.declared.machine_call.CodedMachine.TheVariants.{X87 as MachineX87}
+use Rattle.coded_calls.specs.declared.machine_call.CodedMachine.TheVariants.{X87 as MachineX87, Power as MachinePower}
+use Rattle.coded_calls.specs.declared.machine_call.CodedMachine.TheVariants.{S390x as MachineS390x}
 use Rattle.coded_calls.specs.declared.fewer_digits.Precision.{Precision, TheVariants.Single, TheVariants.Double}
 use Rattle.coded_calls.specs.declared.machine_call.{MachineCall.MachineCall, MachineFormat.MachineFormat}
 use Rattle.coded_calls.specs.declared.machine_call.MachineCall.TheVariants.{Operation, Conversion}
@@ -30,7 +33,7 @@ use Rattle.coded_calls.specs.declared.machine_call.MachineOperation.TheVariants.
 use Rattle.coded_calls.specs.declared.instructions.{Control.Control, Instruction.Instruction, Operands.Operands}
 use Rattle.coded_calls.specs.declared.instructions.{ReadOperands.ReadOperands, Rounding.Rounding}
 use Rattle.coded_calls.specs.Answers.{IsLeftBy, IsValue, whole}
-use Rattle.coded_calls.specs.FewerDigits.{exact_of, narrow_format, widened}
+use Rattle.coded_calls.specs.FewerDigits.{digits, exact_of, exact_of_any, narrow_format, widened}
 use Rattle.coded_calls.specs.KnownCalls.{◌>>=◌, no_such_operation, unknown_format, unknown_mode}
 use Rattle.coded_calls.specs.MachineCalls.{IsMachineCallAnswer, choices, fits, is_tiny_before, machine_call}
 use Rattle.coded_calls.specs.MachineCalls.{machine_fault, machine_format, unknown_machine}
@@ -58,17 +61,29 @@ abbrev pub has_precision : CodedMachine → IeeeFormat → Bool
 has_precision MachineX87 FormatX87 = true
 has_precision machine format = false
 
+-- the machines that deliver wrapped exponents; none of them computes in half, whose range is too short for some
+abbrev pub has_unmasked : CodedMachine → IeeeFormat → Bool
+has_unmasked machine FormatHalf = false
+has_unmasked MachineX87 format = true
+has_unmasked MachinePower format = true
+has_unmasked MachineS390x format = true
+has_unmasked machine format = false
+
 -- 1 flushes tiny results, 2 takes denormal operands as zeros, which some machines alone can; 4 asks what was rounded
--- up; 8 rounds to 24 digits, and 16 to 53, of which one at most can be asked for
+-- up; 8 rounds to 24 digits, and 16 to 53, of which one at most can be asked for; 32 says that overflow and underflow
+-- are unmasked
 abbrev pub control_coded : CodedMachine → MachineFormat → ℕ → Option Control
 control_coded machine m word =
-    if ltb word 24
-    && ((word % 4 == 0 || is_some (choices machine).flush) && (ltb word 8 || has_precision machine m.format))
+    if ltb word 64
+    && (ltb (word % 32) 24
+    && ((word % 4 == 0 || is_some (choices machine).flush)
+    && ((ltb (word % 32) 8 || has_precision machine m.format) && (ltb word 32 || has_unmasked machine m.format))))
     then Some (record {
       flush = if has_bit word 1 then (choices machine).flush else None;
       denormals_are_zeros = has_bit word 2;
       tells_rounded_up = has_bit word 4;
       precision = precision_coded word;
+      unmasked = has_bit word 32;
     })
     else None
 
@@ -237,10 +252,45 @@ ByPrecision it call AllDigits Fewer =
     MatchOption (narrow_in it) AllDigits
     (λ (g : Format). MatchOption (exact_of x87_constants g call) AllDigits (Fewer g))
 
-abbrev pub IsDelivered : Instruction → MachineCall → Rounding → Answer → Type 0
-IsDelivered it call rounding answer =
+abbrev pub IsMasked : Instruction → MachineCall → Rounding → Answer → Type 0
+IsMasked it call rounding answer =
     ByPrecision it call (IsWithAllDigits it call rounding answer)
     (λ g exact. IsShortened g rounding it.control exact answer)
+
+-- ---- unmasked overflow and underflow
+
+-- the digits of results, and wide exponents
+abbrev pub wide_format : Instruction → Format
+wide_format it =
+    unbounded (unwrap_or (option_map digits (precision_in it.format.format it.control.precision))
+    (constants_for it.format).precision)
+
+-- a result whose exponent is wrapped, given the masked one: the exact result is also rounded in the wide format g
+pub record IsWrappedIn (c : Constants) (g : Format) (rounding : Rounding) (control : Control) (masked : Answer)
+    (exact : Outcome) (answer : Answer) : Type 0 where
+  pub plain : StatusAnd Datum
+  pub is_told : IsTold c masked plain
+  pub rounded : StatusAnd Datum
+  pub is_rounded : Gives (Yields g rounding.round exact) rounded
+  pub wide : StatusAnd Datum
+  pub is_wide : IsFinished g rounding control rounded wide
+  pub is_value : IsValue (in_format c) (Gives (IsWrapped g (format_with c) plain wide)) answer
+
+-- results of other operations, and of operands other than usual ones, are those of masked overflow and underflow
+abbrev pub IsWrappedBy : Constants → Format → MachineCall → Rounding → Control → Answer → Answer → Type 0
+IsWrappedBy c g call rounding control masked answer =
+    MatchOption (exact_of_any c g call) (answer ≡ masked)
+    (λ (exact : Outcome). IsWrappedIn c g rounding control masked exact answer)
+
+pub record IsUnmasked (it : Instruction) (call : MachineCall) (rounding : Rounding) (answer : Answer)
+    : Type 0 where
+  pub masked : Answer
+  pub is_masked : IsMasked it call rounding masked
+  pub is_wrapped : IsWrappedBy (constants_for it.format) (wide_format it) call rounding it.control masked answer
+
+abbrev pub IsDelivered : Instruction → MachineCall → Rounding → Answer → Type 0
+IsDelivered it call rounding answer =
+    MatchBool it.control.unmasked (IsUnmasked it call rounding answer) (IsMasked it call rounding answer)
 
 -- ---- what else is told
 

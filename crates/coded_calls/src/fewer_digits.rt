@@ -3,11 +3,12 @@
 ghost use Rattle.std.specs.Prelude.{◌≡◌, ◌<◌};
 ghost use Rattle.rustc_apfloat.specs.FlaggedTypes.{constants_of, format_of};
 ghost use Rattle.coded_calls.specs.FewerDigits.{IsShorter, IsYielded, exact_in, exact_of, exact_of_two, widened};
+ghost use Rattle.coded_calls.specs.FewerDigits.{exact_of_any, exact_of_three};
 ghost use Rattle.coded_calls.specs.declared.machine_call.MachineOperation.TheVariants.{OfTwo, SquareRoot};
 
 use crate::ieee_answers::value;
 use crate::machine_call::{MachineCall, MachineOperation};
-use crate::usual_operands::{are_usual, is_root_of};
+use crate::usual_operands::{are_usual, are_usual_of_three, is_root_of};
 use formats_at_run_time::Arithmetic;
 use rustc_apfloat::ieee::{Flagged, IeeeFloat};
 use rustc_apfloat::{Float, FloatConvert, Round, StatusAnd};
@@ -104,6 +105,42 @@ pub fn rounded_to<S: Flagged, T: Flagged>(
     match call {
         MachineCall::Operation(operation) => operation_rounded_to::<S, T>(operation, round),
         MachineCall::Conversion(_, _) => None,
+    }
+}
+
+/// The same of a fused sum of three values by their bits.
+fn fused_rounded_to<S: Flagged, T: Flagged>(
+    x: u128,
+    y: u128,
+    z: u128,
+    round: Round,
+) -> Option<StatusAnd<IeeeFloat<T>>>
+    requires { S.PRECISION < S.BITS }
+    ensures { let g = format_of T.Flagged in
+        IsYielded g round (exact_of_three (constants_of S.Flagged) g x y z) result }
+{
+    let (first, second, third) = (value::<S>(x), value::<S>(y), value::<S>(z));
+    if are_usual_of_three::<S>(x, y, z) {
+        Some(first.mul_add_to::<T>(second, third, round))
+    } else {
+        None
+    }
+}
+
+/// The same of a call that may be a fused sum too.
+pub fn any_rounded_to<S: Flagged, T: Flagged>(
+    call: MachineCall,
+    round: Round,
+) -> Option<StatusAnd<IeeeFloat<T>>>
+    requires { S.PRECISION < S.BITS }
+    ensures { let g = format_of T.Flagged in
+        IsYielded g round (exact_of_any (constants_of S.Flagged) g call) result }
+{
+    match call {
+        MachineCall::Operation(MachineOperation::FusedSum(x, y, z)) => {
+            fused_rounded_to::<S, T>(x, y, z, round)
+        }
+        _ => rounded_to::<S, T>(call, round),
     }
 }
 

@@ -3,9 +3,10 @@
 ghost use Rattle.std.specs.Prelude.{◌≡◌, ◌<◌, IsSomeAnd, MatchOption, None, pos};
 ghost use Rattle.rustc_apfloat.specs.{FlaggedTypes.constants_of, FlaggedTypes.format_of, Formats.x87_constants};
 ghost use Rattle.rustc_apfloat.specs.Lawful.{format_with};
+ghost use Rattle.apfloat_machines.specs.Wrapping.{unbounded};
 ghost use Rattle.formats_at_run_time.specs.{FlaggedKinds.flagged_kind_coded, ValueKinds.value_of};
 ghost use Rattle.coded_calls.specs.{Answers.IsLeftBy, Answers.whole, MachineCalls.machine_coded};
-ghost use Rattle.coded_calls.specs.FewerDigits.{IsShorter, exact_of, narrow_format};
+ghost use Rattle.coded_calls.specs.FewerDigits.{IsShorter, digits, exact_of, narrow_format};
 ghost use Rattle.coded_calls.specs.declared.fewer_digits.Precision.TheVariants.{Single, Double};
 ghost use Rattle.coded_calls.specs.Instructions.{AreFinished, AreRead, ByPrecision, IsCarriedOut};
 ghost use Rattle.coded_calls.specs.Instructions.{IsDelivered, IsFinished, IsFinishedBy, IsInstructionAnswer};
@@ -15,6 +16,7 @@ ghost use Rattle.coded_calls.specs.Instructions.{constants_for, control_coded, f
 ghost use Rattle.coded_calls.specs.Instructions.{has_denormal, has_precision, is_above_even, is_denormal_in};
 ghost use Rattle.coded_calls.specs.Instructions.{keeps_operand, known_instruction, mode_by, notes, odd_mode};
 ghost use Rattle.coded_calls.specs.Instructions.{operands_of, precision_coded, precision_in, result_format};
+ghost use Rattle.coded_calls.specs.Instructions.{IsMasked, IsWrappedBy, has_unmasked, wide_format};
 ghost use Rattle.coded_calls.specs.Instructions.{rounding_coded, whole_operand};
 ghost use Rattle.coded_calls.specs.MachineCalls.{machine_fault};
 
@@ -22,14 +24,14 @@ use crate::codes::{
     ANSWERED, NO_SUCH_OPERATION, UNKNOWN_FORMAT, UNKNOWN_MACHINE, UNKNOWN_MODE, WRONG_CONTROL,
 };
 use crate::data::{Answer, Halves};
-use crate::fewer_digits::{Precision, rounded_to, widened};
+use crate::fewer_digits::{Precision, any_rounded_to, rounded_to, widened};
 use crate::ieee_answers::{value, written};
 use crate::machine_call::{
     CodedMachine, MachineCall, MachineFormat, MachineOperation, machine_call, machine_coded,
 };
 use crate::machine_operations::made;
 use crate::usual_operands::fits;
-use apfloat_machines::{Flush, MinimumRule, flushed, without_denormal};
+use apfloat_machines::{Flush, MinimumRule, Unbounded, flushed, without_denormal, wrapped};
 use formats_at_run_time::{
     FlaggedKind, IeeeFormat, InFlaggedFormat, X87DoubleS, X87SingleS, mode_coded,
 };
@@ -57,6 +59,8 @@ pub struct Control {
     pub tells_rounded_up: bool,
     /// The digits of sums, differences, products, quotients and roots of x87, if they are fewer than its format has.
     pub precision: Option<Precision>,
+    /// Whether exponents are wrapped on overflow and underflow, which are unmasked.
+    pub unmasked: bool,
 }
 
 /// On what machine, in which format and how an operation is made.
@@ -92,8 +96,14 @@ pub struct ReadOperands {
     pub has_denormal: bool,
 }
 
-/// The least number that is no control word: the two precisions, 8 and 16, exclude each other.
-const CONTROL_WORDS: u32 = 24;
+/// The least number that is no control word.
+const CONTROL_WORDS: u32 = 64;
+
+/// What asks for unmasked overflow and underflow.
+const UNMASKED: u32 = 32;
+
+/// The least number below that is refused: the two precisions, 8 and 16, exclude each other.
+const BOTH_PRECISIONS: u32 = 24;
 
 /// The least control word that asks for a precision.
 const PRECISIONS: u32 = 8;
@@ -157,21 +167,41 @@ fn has_precision(machine: CodedMachine, format: IeeeFormat) -> bool
     }
 }
 
-/// What a control word asks for, if its bits are known, and the machine can flush, and has precisions in the format,
-/// where that is asked for.
+/// Whether the machine delivers wrapped exponents of the format when overflow and underflow are unmasked. Of half, in
+/// which none of them computes, some quotients would be no number.
+fn has_unmasked(machine: CodedMachine, format: IeeeFormat) -> bool
+    ensures { result ≡ has_unmasked machine format }
+{
+    match format {
+        IeeeFormat::Half => false,
+        _ => match machine {
+            CodedMachine::X87 => true,
+            CodedMachine::Power => true,
+            CodedMachine::S390x => true,
+            _ => false,
+        },
+    }
+}
+
+/// What a control word asks for, if its bits are known, and the machine can flush, and has precisions and wrapped
+/// exponents in the format, where that is asked for. No machine both flushes and wraps.
 fn control_coded(machine: CodedMachine, format: MachineFormat, word: u32) -> Option<Control>
     ensures { result ≡ control_coded machine format word }
 {
     let flush = machine.choices().flush;
+    let lower = word % UNMASKED;
     if word < CONTROL_WORDS
-        && ((word % 4 == 0 || flush.is_some())
-            && (word < PRECISIONS || has_precision(machine, format.format)))
+        && (lower < BOTH_PRECISIONS
+            && ((word % 4 == 0 || flush.is_some())
+                && ((lower < PRECISIONS || has_precision(machine, format.format))
+                    && (word < UNMASKED || has_unmasked(machine, format.format)))))
     {
         Some(Control {
             flush: if has_bit(word, 1) { flush } else { None },
             denormals_are_zeros: has_bit(word, 2),
             tells_rounded_up: has_bit(word, 4),
             precision: precision_coded(word),
+            unmasked: has_bit(word, 32),
         })
     } else {
         None
@@ -488,6 +518,68 @@ fn shortened(
     }
 }
 
+/// A result where overflow and underflow are unmasked, given what it is where they are masked. `W` has the digits of
+/// the result and wider exponents.
+fn unmasked_in<S: Flagged, W: Flagged>(
+    call: MachineCall,
+    rounding: Rounding,
+    control: Control,
+    masked: Answer,
+) -> Answer
+    requires { S.PRECISION < S.BITS }
+    ensures { IsWrappedBy (constants_of S.Flagged) (format_of W.Flagged) call rounding control
+        masked result }
+{
+    match any_rounded_to::<S, W>(call, rounding.round) {
+        None => masked,
+        Some(rounded) => {
+            let wide = finished(rounding, control, rounded);
+            written(wrapped(told::<S>(masked), wide))
+        }
+    }
+}
+
+/// The same in any format, with all its digits.
+#[derive(Clone, Copy)]
+struct Unmasking {
+    call: MachineCall,
+    rounding: Rounding,
+    control: Control,
+    masked: Answer,
+}
+
+impl InFlaggedFormat for Unmasking {
+    type Output = Answer;
+
+    ghost gives = { λ it kind answer. IsSaidOf (λ c. IsWrappedBy c (unbounded c.precision) it.call
+        it.rounding it.control it.masked answer) kind };
+
+    fn in_flagged_format<S: Flagged>(self) -> Answer {
+        unmasked_in::<S, Unbounded<S>>(self.call, self.rounding, self.control, self.masked)
+    }
+}
+
+/// The same of x87 with fewer digits.
+fn shortened_unmasked(
+    precision: Precision,
+    call: MachineCall,
+    rounding: Rounding,
+    control: Control,
+    masked: Answer,
+) -> Answer
+    ensures { IsWrappedBy x87_constants (unbounded (digits precision)) call rounding control
+        masked result }
+{
+    match precision {
+        Precision::Single => unmasked_in::<X87DoubleExtendedS, Unbounded<X87SingleS>>(
+            call, rounding, control, masked,
+        ),
+        Precision::Double => unmasked_in::<X87DoubleExtendedS, Unbounded<X87DoubleS>>(
+            call, rounding, control, masked,
+        ),
+    }
+}
+
 impl Instruction {
     /// The precision that is asked for, which the format x87 alone has.
     #[inline(always)]
@@ -560,11 +652,11 @@ impl Instruction {
         ANSWERED
     }
 
-    /// Makes a call by a rounding.
+    /// Makes a call by a rounding, with overflow and underflow masked.
     #[inline(never)]
-    fn delivered(self, call: MachineCall, rounding: Rounding, answer: &mut Answer) -> u32
+    fn masked(self, call: MachineCall, rounding: Rounding, answer: &mut Answer) -> u32
         ensures { IsLeftBy (machine_fault self.machine self.format call)
-            (IsDelivered self call rounding) answer.old answer.new result }
+            (IsMasked self call rounding) answer.old answer.new result }
     {
         match self.with_fewer_digits(call, rounding) {
             None => self.with_all_digits(call, rounding, answer),
@@ -573,6 +665,38 @@ impl Instruction {
                 ANSWERED
             }
         }
+    }
+
+    /// What becomes of a result where overflow and underflow are unmasked.
+    fn unmasked(self, call: MachineCall, rounding: Rounding, masked: Answer) -> Answer
+        ensures { IsWrappedBy (constants_for self.format) (wide_format self) call rounding
+            self.control masked result }
+    {
+        let control = self.control;
+        match self.precision() {
+            None => self.format.run_without_rule(Unmasking {
+                call,
+                rounding,
+                control,
+                masked,
+            }),
+            Some(precision) => shortened_unmasked(precision, call, rounding, control, masked),
+        }
+    }
+
+    /// Makes a call by a rounding.
+    fn delivered(self, call: MachineCall, rounding: Rounding, answer: &mut Answer) -> u32
+        ensures { IsLeftBy (machine_fault self.machine self.format call)
+            (IsDelivered self call rounding) answer.old answer.new result }
+    {
+        let code = self.masked(call, rounding, answer);
+        if code != ANSWERED {
+            return code;
+        }
+        if self.control.unmasked {
+            *answer = self.unmasked(call, rounding, *answer);
+        }
+        ANSWERED
     }
 
     /// Whether a magnitude was rounded up, where that is asked for.
