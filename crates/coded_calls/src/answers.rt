@@ -22,7 +22,7 @@ use crate::codes::{
 use crate::data::Answer;
 use fast_bits::{
     Encoded, add_normal, compare_bits, convert_normal, has_ordered_words, multiply_bits, root_bits,
-    round_number, subtract_normal, word_of,
+    round_number, signed_of_bits, subtract_normal, unsigned_of_bits, word_of,
 };
 use formats_at_run_time::{FillsInFormat, FlaggedKind, ValueType};
 use rustc_apfloat::ieee::{Flagged, IeeeFloat};
@@ -312,6 +312,91 @@ pub fn to_signed<F: ValueType>(answer: &mut Answer, round: Round, x: u128, width
     let whole = F::from_bits(x).to_i128_r(width as usize, round, &mut is_exact);
     *answer = Answer::of(whole.value.cast_unsigned(), whole.status, one_if(is_exact));
     ANSWERED
+}
+
+/// A value in a format as an integer: from bits, if it is a number in range of a word, in line.
+#[inline(always)]
+fn to_unsigned_here<S: Flagged>(answer: &mut Answer, round: Round, x: u128, width: u32) -> u32
+    requires { S.PRECISION < S.BITS }
+    ensures { IsLeft (of_format (constants_of S.Flagged)) round (ToUnsigned x width)
+        answer.old answer.new result }
+{
+    if let Some(whole) = unsigned_of_bits::<S>(x, width, round) {
+        *answer = Answer::of(
+            whole.answer.value,
+            whole.answer.status,
+            one_if(whole.is_exact),
+        );
+        ANSWERED
+    } else {
+        to_unsigned::<IeeeFloat<S>>(answer, round, word_of::<S>(x), width)
+    }
+}
+
+/// The same by any mode.
+#[inline(never)]
+fn to_unsigned_by_mode<S: Flagged>(answer: &mut Answer, round: Round, x: u128, width: u32) -> u32
+    requires { S.PRECISION < S.BITS }
+    ensures { IsLeft (of_format (constants_of S.Flagged)) round (ToUnsigned x width)
+        answer.old answer.new result }
+{
+    to_unsigned_here::<S>(answer, round, x, width)
+}
+
+/// A value in a format as an integer. The usual mode is a constant, which leaves more registers.
+#[inline(never)]
+pub fn to_unsigned_in<S: Flagged>(answer: &mut Answer, round: Round, x: u128, width: u32) -> u32
+    requires { S.PRECISION < S.BITS }
+    ensures { IsLeft (of_format (constants_of S.Flagged)) round (ToUnsigned x width)
+        answer.old answer.new result }
+{
+    match round {
+        Round::NearestTiesToEven => {
+            to_unsigned_here::<S>(answer, Round::NearestTiesToEven, x, width)
+        }
+        _ => to_unsigned_by_mode::<S>(answer, round, x, width),
+    }
+}
+
+/// A value in a format as a signed integer: from bits, if it is a number in range of a word, in line.
+#[inline(always)]
+fn to_signed_here<S: Flagged>(answer: &mut Answer, round: Round, x: u128, width: u32) -> u32
+    requires { S.PRECISION < S.BITS }
+    ensures { IsLeft (of_format (constants_of S.Flagged)) round (ToSigned x width)
+        answer.old answer.new result }
+{
+    if let Some(whole) = signed_of_bits::<S>(x, width, round) {
+        let integer = whole.answer.value.cast_unsigned();
+        *answer = Answer::of(integer, whole.answer.status, one_if(whole.is_exact));
+        ANSWERED
+    } else {
+        to_signed::<IeeeFloat<S>>(answer, round, word_of::<S>(x), width)
+    }
+}
+
+/// The same by any mode.
+#[inline(never)]
+fn to_signed_by_mode<S: Flagged>(answer: &mut Answer, round: Round, x: u128, width: u32) -> u32
+    requires { S.PRECISION < S.BITS }
+    ensures { IsLeft (of_format (constants_of S.Flagged)) round (ToSigned x width)
+        answer.old answer.new result }
+{
+    to_signed_here::<S>(answer, round, x, width)
+}
+
+/// A value in a format as a signed integer. The usual mode is a constant, which leaves more registers.
+#[inline(never)]
+pub fn to_signed_in<S: Flagged>(answer: &mut Answer, round: Round, x: u128, width: u32) -> u32
+    requires { S.PRECISION < S.BITS }
+    ensures { IsLeft (of_format (constants_of S.Flagged)) round (ToSigned x width)
+        answer.old answer.new result }
+{
+    match round {
+        Round::NearestTiesToEven => {
+            to_signed_here::<S>(answer, Round::NearestTiesToEven, x, width)
+        }
+        _ => to_signed_by_mode::<S>(answer, round, x, width),
+    }
 }
 
 /// A value rounded to an integral value, in line.
