@@ -450,18 +450,44 @@ pub fn round_to_integral<F: ValueType>(answer: &mut Answer, round: Round, x: u12
     }
 }
 
-/// A value rounded to an integral value in a format: from bits to bits, if it is a number that may have digits below
-/// the binary point.
-#[inline(never)]
-pub fn round_to_integral_in<S: Flagged>(answer: &mut Answer, round: Round, x: u128)
+/// A value rounded to an integral value in a format, in line: from bits to bits, if it is a number that may have digits
+/// below the binary point.
+#[inline(always)]
+fn round_to_integral_in_line<S: Flagged>(answer: &mut Answer, round: Round, x: u128) -> u32
     requires { S.PRECISION < S.BITS }
-    ensures { let kind = of_format (constants_of S.Flagged) in
-        IsKindAnswer kind round (RoundToIntegral x) answer.new }
+    ensures { IsLeft (of_format (constants_of S.Flagged)) round (RoundToIntegral x)
+        answer.old answer.new result }
 {
     if let Some(number) = round_number::<S>(x, round) {
         *answer = with_bits(number);
     } else {
         round_to_integral::<IeeeFloat<S>>(answer, round, word_of::<S>(x));
+    }
+    ANSWERED
+}
+
+/// The same by any mode.
+#[inline(never)]
+fn round_to_integral_in_mode<S: Flagged>(answer: &mut Answer, round: Round, x: u128) -> u32
+    requires { S.PRECISION < S.BITS }
+    ensures { IsLeft (of_format (constants_of S.Flagged)) round (RoundToIntegral x)
+        answer.old answer.new result }
+{
+    round_to_integral_in_line::<S>(answer, round, x)
+}
+
+/// A value rounded to an integral value in a format. The usual mode is a constant, which leaves more registers.
+#[inline(never)]
+pub fn round_to_integral_in<S: Flagged>(answer: &mut Answer, round: Round, x: u128) -> u32
+    requires { S.PRECISION < S.BITS }
+    ensures { IsLeft (of_format (constants_of S.Flagged)) round (RoundToIntegral x)
+        answer.old answer.new result }
+{
+    match round {
+        Round::NearestTiesToEven => {
+            round_to_integral_in_line::<S>(answer, Round::NearestTiesToEven, x)
+        }
+        _ => round_to_integral_in_mode::<S>(answer, round, x),
     }
 }
 

@@ -386,8 +386,7 @@ impl KindOperation for RoundToIntegralCall {
 
     #[inline(always)]
     fn in_format<S: Flagged>(self, round: Round, answer: &mut Answer) -> u32 {
-        round_to_integral_in::<S>(answer, round, self.x);
-        ANSWERED
+        round_to_integral_in::<S>(answer, round, self.x)
     }
 
     #[inline(always)]
