@@ -1,16 +1,16 @@
 -- Numbers rounded to integers, and the ranges of these.
 use Rattle.std.proofs.Common.{◌≡◌, ℕ, ◌+◌, ◌-◌, ◌*◌, ◌/◌, ◌%◌, ◌^◌, ◌<◌, ◌≤◌, Bool, true, false, cond, not, ◌&&◌, eqb}
-use Rattle.std.proofs.Common.{IfSome, Option, Some, None, refl, sym, ap, ◌∙◌, subst, ⊎_elim, arith, ℤ, pos, neg_ℤ, ◌≤ℤ◌, int_lt}
+use Rattle.std.proofs.Common.{IfSome, Option, Some, None, refl, sym, ap, ◌∙◌, subst, ⊎_elim, arith, ℤ, pos, neg_ℤ}
+use Rattle.std.proofs.Common.{◌≤ℤ◌}
 use Rattle.std.proofs.Math.{Bool.and-true, Nat.mod-eq_of_lt, Nat.mul-div-mul_right, Nat.mul-pos, Nat.pow-le-pow_right}
 use Rattle.std.proofs.lemmas.{Bool.Decides.eqb_tells, Bool.ne_eqb, Int.ints, Nat.pow-add, Nat.pow_pos}
-use Rattle.apfloat_model.specs.{arithmetic.Exact.signed, declared.kinds.Round.Round, formats.Datum.Datum}
-use Rattle.apfloat_model.specs.{formats.Datum.finite, formats.Lawful.Constants, formats.Lawful.format_with}
+use Rattle.apfloat_model.specs.{arithmetic.Exact.signed, declared.kinds.Round.Round, formats.Datum.finite}
 use Rattle.apfloat_model.specs.declared.loss.Loss.TheVariants.{ExactlyZero}
 use Rattle.apfloat_model.specs.declared.kinds.NonfiniteBehavior.TheVariants.{IEEE754}
 use Rattle.apfloat_model.specs.{bits.Interchange.IsInterchange, bits.Layout.fields_of}
-use Rattle.apfloat_model.specs.formats.Lawful.{AreParameters, layout_with}
+use Rattle.apfloat_model.specs.formats.Lawful.{AreParameters, Constants, format_with, layout_with}
 use Rattle.apfloat_model.specs.rounding.{Enclosure.rounds_up, Flags.bits_of, Standing.StandsFor}
-use Rattle.apfloat_model.specs.whole_numbers.WholeNumbers.{whole_pick, whole_quanta}
+use Rattle.apfloat_model.specs.whole_numbers.WholeNumbers.{whole_pick}
 use Rattle.apfloat_model.specs.whole_numbers.WholeNumbersOut.{IsWhole, Whole, ranged, to_signed, to_unsigned}
 use Rattle.apfloat_model.proofs.{general.Choices.no_zero, general.Powers.two_pos, whole_numbers.SignedTests.less_not}
 use Rattle.apfloat_model.proofs.rounding.{KeptDigits.fits_cut, KeptDigits.fits_shifted, Losses.cut_at}
@@ -122,8 +122,8 @@ pub from_one_is : (c : Constants) (mode : Round) (bits biased digits s half : �
     → (half * 2 ^ digits % 2 ^ 64 ≡ 0 → bits_of x.status ≡ 0)
     → ((half * 2 ^ digits % 2 ^ 64 ≡ 0 → ⊥) → bits_of x.status ≡ 16)
     → x.is_exact ≡ eqb (half * 2 ^ digits % 2 ^ 64) 0 → IsRounded c mode bits negative x
-from_one_is c mode bits biased digits s half negative moved x are implied sign biased_is number some at s_is cut moved_is
-    magnitude exact inexact is_exact =
+from_one_is c mode bits biased digits s half negative moved x are implied sign biased_is number some at s_is cut
+    moved_is magnitude exact inexact is_exact =
     let fields = fields_of (format_with c) (layout_with c) bits in
     let above : 0 < biased = omega (arith, ints, are, at, some) in
     let read = number_read c bits implied (subst (λ (n : ℕ). 0 < n) biased_is above)
@@ -151,7 +151,8 @@ pub to_one_is : (c : Constants) (mode : Round) (bits rest : ℕ) (negative moved
 to_one_is c mode bits rest negative moved x law are implied kind is low sign moved_is magnitude exact inexact is_exact =
     let fields = fields_of (format_with c) (layout_with c) bits in
     let up = (format_with c).scale - (c.precision - 1) in
-    let at : (format_with c).scale - (c.precision - 1) + (c.precision - 1) ≡ (format_with c).scale = omega (arith, low) in
+    let at : (format_with c).scale - (c.precision - 1) + (c.precision - 1) ≡ (format_with c).scale =
+    omega (arith, low) in
     let below = below_one c bits rest up law are implied kind is at low in
     let q = quanta_at (2 ^ (c.precision - 1)) fields.biased_exponent fields.trailing in
     rounded_is c mode bits q 0 rest (up * 2 ^ (c.precision - 1)) negative moved x

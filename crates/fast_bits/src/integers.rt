@@ -41,10 +41,9 @@ fn round_from_one<S: Flagged>(
     digits: u32,
     round: Round,
 ) -> Rounded
-    requires bits { S.PRECISION < S.BITS }
     requires fit { FitsWord (constants_of S.Flagged) }
-    requires nonfinite { S.NONFINITE_BEHAVIOR ≡ IEEE754 }
-    requires sign { negative ≡ (fields_of (format_of S.Flagged) (layout_of S.Flagged) bits).negative }
+    requires sign { negative
+        ≡ (fields_of (format_of S.Flagged) (layout_of S.Flagged) bits).negative }
     requires biased { biased
         ≡ (fields_of (format_of S.Flagged) (layout_of S.Flagged) bits).biased_exponent }
     requires number { biased + 1 < 2 ^ S.EXP_BITS }
@@ -70,7 +69,8 @@ fn round_to_one<S: Flagged>(bits: u128, negative: bool, round: Round) -> Rounded
     requires bits { S.PRECISION < S.BITS }
     requires fit { FitsWord (constants_of S.Flagged) }
     requires nonfinite { S.NONFINITE_BEHAVIOR ≡ IEEE754 }
-    requires sign { negative ≡ (fields_of (format_of S.Flagged) (layout_of S.Flagged) bits).negative }
+    requires sign { negative
+        ≡ (fields_of (format_of S.Flagged) (layout_of S.Flagged) bits).negative }
     requires below { (fields_of (format_of S.Flagged) (layout_of S.Flagged) bits).biased_exponent
         + (S.PRECISION - 1) ≤ (format_of S.Flagged).scale }
     ensures { IsRounded (constants_of S.Flagged) round bits negative result }
@@ -90,7 +90,8 @@ fn round_to_integer<S: Flagged>(bits: u128, negative: bool, round: Round) -> Opt
     requires bits { S.PRECISION < S.BITS }
     requires fit { FitsWord (constants_of S.Flagged) }
     requires nonfinite { S.NONFINITE_BEHAVIOR ≡ IEEE754 }
-    requires sign { negative ≡ (fields_of (format_of S.Flagged) (layout_of S.Flagged) bits).negative }
+    requires sign { negative
+        ≡ (fields_of (format_of S.Flagged) (layout_of S.Flagged) bits).negative }
     ensures { IfSome result (IsRounded (constants_of S.Flagged) round bits negative) }
 {
     let biased = biased_exponent::<S>(bits);
