@@ -198,7 +198,7 @@ pub extern "C" fn apfloat_to_u128(
         (ToUnsigned (whole x) width)) answer.old answer.new result }
 {
     let x = x.number();
-    reply(format, mode, ToUnsignedCall { x, width }, answer)
+    reply_in_kind(format, mode, ToUnsignedCall { x, width }, answer)
 }
 
 /// A value as an integer of `width` binary digits, 2 to 128, in 128-bit two's complement, in `bits`; `number` says
@@ -215,7 +215,7 @@ pub extern "C" fn apfloat_to_i128(
         (ToSigned (whole x) width)) answer.old answer.new result }
 {
     let x = x.number();
-    reply(format, mode, ToSignedCall { x, width }, answer)
+    reply_in_kind(format, mode, ToSignedCall { x, width }, answer)
 }
 
 /// A value rounded to an integer, as a value.

@@ -22,7 +22,7 @@ use crate::codes::{
 use crate::data::Answer;
 use fast_bits::{
     Encoded, add_normal, compare_bits, convert_normal, has_ordered_words, multiply_bits, root_bits,
-    round_number, subtract_normal, word_of,
+    round_number, signed_of_bits, subtract_normal, unsigned_of_bits, word_of,
 };
 use formats_at_run_time::{FillsInFormat, FlaggedKind, ValueType};
 use rustc_apfloat::ieee::{Flagged, IeeeFloat};
@@ -314,6 +314,91 @@ pub fn to_signed<F: ValueType>(answer: &mut Answer, round: Round, x: u128, width
     ANSWERED
 }
 
+/// A value in a format as an integer: from bits, if it is a number in range of a word, in line.
+#[inline(always)]
+fn to_unsigned_here<S: Flagged>(answer: &mut Answer, round: Round, x: u128, width: u32) -> u32
+    requires { S.PRECISION < S.BITS }
+    ensures { IsLeft (of_format (constants_of S.Flagged)) round (ToUnsigned x width)
+        answer.old answer.new result }
+{
+    if let Some(whole) = unsigned_of_bits::<S>(x, width, round) {
+        *answer = Answer::of(
+            whole.answer.value,
+            whole.answer.status,
+            one_if(whole.is_exact),
+        );
+        ANSWERED
+    } else {
+        to_unsigned::<IeeeFloat<S>>(answer, round, word_of::<S>(x), width)
+    }
+}
+
+/// The same by any mode.
+#[inline(never)]
+fn to_unsigned_by_mode<S: Flagged>(answer: &mut Answer, round: Round, x: u128, width: u32) -> u32
+    requires { S.PRECISION < S.BITS }
+    ensures { IsLeft (of_format (constants_of S.Flagged)) round (ToUnsigned x width)
+        answer.old answer.new result }
+{
+    to_unsigned_here::<S>(answer, round, x, width)
+}
+
+/// A value in a format as an integer. The usual mode is a constant, which leaves more registers.
+#[inline(never)]
+pub fn to_unsigned_in<S: Flagged>(answer: &mut Answer, round: Round, x: u128, width: u32) -> u32
+    requires { S.PRECISION < S.BITS }
+    ensures { IsLeft (of_format (constants_of S.Flagged)) round (ToUnsigned x width)
+        answer.old answer.new result }
+{
+    match round {
+        Round::NearestTiesToEven => {
+            to_unsigned_here::<S>(answer, Round::NearestTiesToEven, x, width)
+        }
+        _ => to_unsigned_by_mode::<S>(answer, round, x, width),
+    }
+}
+
+/// A value in a format as a signed integer: from bits, if it is a number in range of a word, in line.
+#[inline(always)]
+fn to_signed_here<S: Flagged>(answer: &mut Answer, round: Round, x: u128, width: u32) -> u32
+    requires { S.PRECISION < S.BITS }
+    ensures { IsLeft (of_format (constants_of S.Flagged)) round (ToSigned x width)
+        answer.old answer.new result }
+{
+    if let Some(whole) = signed_of_bits::<S>(x, width, round) {
+        let integer = whole.answer.value.cast_unsigned();
+        *answer = Answer::of(integer, whole.answer.status, one_if(whole.is_exact));
+        ANSWERED
+    } else {
+        to_signed::<IeeeFloat<S>>(answer, round, word_of::<S>(x), width)
+    }
+}
+
+/// The same by any mode.
+#[inline(never)]
+fn to_signed_by_mode<S: Flagged>(answer: &mut Answer, round: Round, x: u128, width: u32) -> u32
+    requires { S.PRECISION < S.BITS }
+    ensures { IsLeft (of_format (constants_of S.Flagged)) round (ToSigned x width)
+        answer.old answer.new result }
+{
+    to_signed_here::<S>(answer, round, x, width)
+}
+
+/// A value in a format as a signed integer. The usual mode is a constant, which leaves more registers.
+#[inline(never)]
+pub fn to_signed_in<S: Flagged>(answer: &mut Answer, round: Round, x: u128, width: u32) -> u32
+    requires { S.PRECISION < S.BITS }
+    ensures { IsLeft (of_format (constants_of S.Flagged)) round (ToSigned x width)
+        answer.old answer.new result }
+{
+    match round {
+        Round::NearestTiesToEven => {
+            to_signed_here::<S>(answer, Round::NearestTiesToEven, x, width)
+        }
+        _ => to_signed_by_mode::<S>(answer, round, x, width),
+    }
+}
+
 /// A value rounded to an integral value, in line.
 #[inline(always)]
 pub fn round_to_integral_here<F: ValueType>(answer: &mut Answer, round: Round, x: u128)
@@ -365,18 +450,44 @@ pub fn round_to_integral<F: ValueType>(answer: &mut Answer, round: Round, x: u12
     }
 }
 
-/// A value rounded to an integral value in a format: from bits to bits, if it is a number that may have digits below
-/// the binary point.
-#[inline(never)]
-pub fn round_to_integral_in<S: Flagged>(answer: &mut Answer, round: Round, x: u128)
+/// A value rounded to an integral value in a format, in line: from bits to bits, if it is a number that may have digits
+/// below the binary point.
+#[inline(always)]
+fn round_to_integral_in_line<S: Flagged>(answer: &mut Answer, round: Round, x: u128) -> u32
     requires { S.PRECISION < S.BITS }
-    ensures { let kind = of_format (constants_of S.Flagged) in
-        IsKindAnswer kind round (RoundToIntegral x) answer.new }
+    ensures { IsLeft (of_format (constants_of S.Flagged)) round (RoundToIntegral x)
+        answer.old answer.new result }
 {
     if let Some(number) = round_number::<S>(x, round) {
         *answer = with_bits(number);
     } else {
         round_to_integral::<IeeeFloat<S>>(answer, round, word_of::<S>(x));
+    }
+    ANSWERED
+}
+
+/// The same by any mode.
+#[inline(never)]
+fn round_to_integral_in_mode<S: Flagged>(answer: &mut Answer, round: Round, x: u128) -> u32
+    requires { S.PRECISION < S.BITS }
+    ensures { IsLeft (of_format (constants_of S.Flagged)) round (RoundToIntegral x)
+        answer.old answer.new result }
+{
+    round_to_integral_in_line::<S>(answer, round, x)
+}
+
+/// A value rounded to an integral value in a format. The usual mode is a constant, which leaves more registers.
+#[inline(never)]
+pub fn round_to_integral_in<S: Flagged>(answer: &mut Answer, round: Round, x: u128) -> u32
+    requires { S.PRECISION < S.BITS }
+    ensures { IsLeft (of_format (constants_of S.Flagged)) round (RoundToIntegral x)
+        answer.old answer.new result }
+{
+    match round {
+        Round::NearestTiesToEven => {
+            round_to_integral_in_line::<S>(answer, Round::NearestTiesToEven, x)
+        }
+        _ => round_to_integral_in_mode::<S>(answer, round, x),
     }
 }
 

@@ -19,7 +19,7 @@ use crate::answers::{
     class, comparison, comparison_in, converted, difference, difference_in, exponent, fraction,
     from_signed, from_unsigned, fused_sum, nearest_remainder, next_down, next_up, product,
     product_in, quotient, read, root, root_in, round_to_integral, round_to_integral_in, scaled,
-    sum, sum_in, to_signed, to_unsigned, truncated_remainder,
+    sum, sum_in, to_signed, to_signed_in, to_unsigned, to_unsigned_in, truncated_remainder,
 };
 use crate::codes::{ANSWERED, NO_SUCH_OPERATION, UNKNOWN_FORMAT, UNKNOWN_MODE};
 use crate::data::Answer;
@@ -337,12 +337,17 @@ pub struct ToUnsignedCall {
     pub width: u32,
 }
 
-impl Operation for ToUnsignedCall {
+impl KindOperation for ToUnsignedCall {
     ghost call = { λ it. ToUnsigned it.x it.width };
 
     #[inline(always)]
-    fn made_in<V: ValueType>(self, round: Round, answer: &mut Answer) -> u32 {
-        to_unsigned::<V>(answer, round, self.x, self.width)
+    fn in_format<S: Flagged>(self, round: Round, answer: &mut Answer) -> u32 {
+        to_unsigned_in::<S>(answer, round, self.x, self.width)
+    }
+
+    #[inline(always)]
+    fn in_pairs(self, round: Round, answer: &mut Answer) -> u32 {
+        to_unsigned::<DoubleDouble>(answer, round, self.x, self.width)
     }
 }
 
@@ -355,12 +360,17 @@ pub struct ToSignedCall {
     pub width: u32,
 }
 
-impl Operation for ToSignedCall {
+impl KindOperation for ToSignedCall {
     ghost call = { λ it. ToSigned it.x it.width };
 
     #[inline(always)]
-    fn made_in<V: ValueType>(self, round: Round, answer: &mut Answer) -> u32 {
-        to_signed::<V>(answer, round, self.x, self.width)
+    fn in_format<S: Flagged>(self, round: Round, answer: &mut Answer) -> u32 {
+        to_signed_in::<S>(answer, round, self.x, self.width)
+    }
+
+    #[inline(always)]
+    fn in_pairs(self, round: Round, answer: &mut Answer) -> u32 {
+        to_signed::<DoubleDouble>(answer, round, self.x, self.width)
     }
 }
 
@@ -376,8 +386,7 @@ impl KindOperation for RoundToIntegralCall {
 
     #[inline(always)]
     fn in_format<S: Flagged>(self, round: Round, answer: &mut Answer) -> u32 {
-        round_to_integral_in::<S>(answer, round, self.x);
-        ANSWERED
+        round_to_integral_in::<S>(answer, round, self.x)
     }
 
     #[inline(always)]

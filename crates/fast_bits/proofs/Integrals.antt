@@ -23,7 +23,7 @@ use Rattle.fast_bits.proofs.{Magnitudes.parts_of, Reading.span_is, Roundings.mov
 use Rattle.fast_bits.proofs.lanes_lemmas.Codes.{code_encoded}
 
 -- the flags of an exact or an inexact integer
-flags_are : (exact : Bool) (rest status : ℕ) → eqb rest 0 ≡ exact → (rest ≡ 0 → status ≡ 0)
+pub flags_are : (exact : Bool) (rest status : ℕ) → eqb rest 0 ≡ exact → (rest ≡ 0 → status ≡ 0)
     → ((rest ≡ 0 → ⊥) → status ≡ 16) → status ≡ inexact_unless exact
 flags_are exact rest status is none some =
     ⊎_elim (λ z. none z.1 ∙ ap inexact_unless (sym z.0 ∙ is)) (λ z. some z.1 ∙ ap inexact_unless (sym z.0 ∙ is))
@@ -120,6 +120,33 @@ stands_below_one least b t (suc k) some few low =
     (cases_lt m half))
     (cases_lt m 1)
 
+-- a number below 1, by its encoding
+pub record IsBelowOne (c : Constants) (bits rest up quanta : ℕ) : Type 0 where
+  pub read : value_in c bits ≡ finite (fields_of (format_with c) (layout_with c) bits).negative quanta
+  pub stands : StandsFor 0 (loss_at rest (up * 2 ^ (c.precision - 1))) quanta (2 ^ (format_with c).scale)
+  pub none : rest ≡ 0 → quanta ≡ 0
+
+pub below_one : (c : Constants) (bits rest up : ℕ) → IsInterchange (format_with c) (layout_with c)
+    → AreParameters c.precision c.min_exp c.max_exp → c.explicit_integer_bit ≡ false → c.nonfinite ≡ IEEE754
+    → rest ≡ bits % 2 ^ (c.bits - 1) → up + (c.precision - 1) ≡ (format_with c).scale
+    → (fields_of (format_with c) (layout_with c) bits).biased_exponent + (c.precision - 1) ≤ (format_with c).scale
+    → IsBelowOne c bits rest up
+    (quanta_at (2 ^ (c.precision - 1)) (fields_of (format_with c) (layout_with c) bits).biased_exponent
+    (fields_of (format_with c) (layout_with c) bits).trailing)
+below_one c bits rest up law are implied kind is at low =
+    let x = fields_of (format_with c) (layout_with c) bits in
+    let least = 2 ^ (c.precision - 1) in
+    let parts = parts_of c bits rest law implied is in
+    let left : 0 < least = pow_pos (c.precision - 1) in
+    let zeros = are_alike least x.biased_exponent x.trailing 0 0 parts.few left in
+    record {
+      read = number_in c bits implied kind (omega (arith, scale_inner c law are kind, low));
+      stands = rw (parts.is, sym (scale_power c up at))
+          (stands_below_one least x.biased_exponent x.trailing up (omega (arith, ints, are, at)) parts.few
+          (omega (arith, at, low)));
+      none = λ e. omega (arith, zeros.none (omega (arith, parts.is, e)));
+    }
+
 -- the encoding of 1 or of 0, by the side of 1/2 on which the encoded number is
 pub below_one_is : (c : Constants) (mode : Round) (negative moved : Bool) (bits rest up : ℕ) (encoded : Encoded)
     → IsInterchange (format_with c) (layout_with c) → AreParameters c.precision c.min_exp c.max_exp
@@ -134,18 +161,10 @@ pub below_one_is : (c : Constants) (mode : Round) (negative moved : Bool) (bits 
 below_one_is c mode negative moved bits rest up encoded law are implied kind is at low sign_is moved_is exact inexact
     is_encoded =
     let x = fields_of (format_with c) (layout_with c) bits in
-    let least = 2 ^ (c.precision - 1) in
     let q = quanta_at (2 ^ (c.precision - 1)) x.biased_exponent x.trailing in
-    let half = up * 2 ^ (c.precision - 1) in
-    let parts = parts_of c bits rest law implied is in
-    let power = scale_power c up at in
-    let stands : StandsFor 0 (loss_at rest half) q (2 ^ (format_with c).scale) =
-    rw (parts.is, sym power)
-    (stands_below_one least x.biased_exponent x.trailing up (omega (arith, ints, are, at)) parts.few
-    (omega (arith, at, low))) in
-    integral_is c mode negative moved bits q 0 rest half encoded kind
-    (number_in c bits implied kind (omega (arith, scale_inner c law are kind, low))
-    ∙ ap (λ (b : Bool). finite b q) (sym sign_is)) stands moved_is exact inexact is_encoded
+    let below = below_one c bits rest up law are implied kind is at low in
+    integral_is c mode negative moved bits q 0 rest (up * 2 ^ (c.precision - 1)) encoded kind
+    (below.read ∙ ap (λ (b : Bool). finite b q) (sym sign_is)) below.stands moved_is exact inexact is_encoded
 
 pub one_or_zero : (c : Constants) (negative is_one : Bool) (up unit one none : ℕ)
     → IsInterchange (format_with c) (layout_with c) → c.explicit_integer_bit ≡ false → c.nonfinite ≡ IEEE754

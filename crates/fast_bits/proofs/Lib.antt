@@ -8,4 +8,5 @@ pub mod RootAnswers
 pub mod OrderedNumbers
 pub mod Magnitudes
 pub mod Integrals
+pub mod RoundedIntegers
 pub mod lanes_lemmas

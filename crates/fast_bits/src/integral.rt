@@ -1,8 +1,10 @@
 //! Values rounded to integral values.
 
-ghost use Rattle.std.specs.Prelude.{◌≡◌, ◌+◌, ◌-◌, ◌^◌, ◌<◌, ◌≤◌, IfSome};
+ghost use Rattle.std.specs.Prelude.{◌≡◌, ℕ, ◌+◌, ◌-◌, ◌*◌, ◌^◌, ◌<◌, ◌≤◌, false, IfSome};
 ghost use Rattle.apfloat_model.specs.bits.Layout.{fields_of};
 ghost use Rattle.apfloat_model.specs.declared.kinds.NonfiniteBehavior.TheVariants.{IEEE754};
+ghost use Rattle.apfloat_model.specs.rounding.Enclosure.{rounds_up};
+ghost use Rattle.apfloat_rounding.specs.Cuts.{loss_at};
 ghost use Rattle.apfloat_ieee.specs.FlaggedTypes.{constants_of, format_of, layout_of};
 ghost use Rattle.fast_bits.specs.{Encoded.IsEncodedIntegral, Numbers.FitsWord, Numbers.IsNumberOf};
 
@@ -18,7 +20,7 @@ use apfloat_rounding::rounding::{low_of_word, moves_past, next_word_if};
 
 /// The place of the last digit of 1, which is also the biased exponent of 1/2.
 #[inline(always)]
-fn place_of_one<S: Flagged>() -> u32
+pub(crate) fn place_of_one<S: Flagged>() -> u32
     ensures { result + (S.PRECISION - 1) ≡ (format_of S.Flagged).scale }
 {
     (-S::MIN_EXP) as u32
@@ -42,8 +44,21 @@ fn places_below_point<S: Flagged>(place: u32) -> Option<u32>
     }
 }
 
-/// A number below 1, rounded to 0 or to 1. Encodings without their sign are in the order of the magnitudes, so they say
-/// on which side of 1/2 the number is.
+/// Whether a number below 1 is rounded to 1, by its magnitude. Encodings without their sign are in the order of the
+/// magnitudes, so they say on which side of 1/2 the number is.
+#[inline(always)]
+pub(crate) fn moves_to_one<S: Flagged>(round: Round, negative: bool, magnitude: u64) -> bool
+    requires bits { S.PRECISION < S.BITS }
+    requires fit { FitsWord (constants_of S.Flagged) }
+    requires nonfinite { S.NONFINITE_BEHAVIOR ≡ IEEE754 }
+    ensures { (half : ℕ) → half + (S.PRECISION - 1) ≡ (format_of S.Flagged).scale
+        → result ≡ rounds_up round negative (loss_at magnitude (half * 2 ^ (S.PRECISION - 1))) false }
+{
+    let half = place_of_one::<S>() as u64 * integer_bit::<S>();
+    moves_past(round, negative, magnitude, half, false)
+}
+
+/// A number below 1, rounded to 0 or to 1.
 #[inline(always)]
 fn round_below_one<S: Flagged>(bits: u128, round: Round) -> Encoded
     requires bits { S.PRECISION < S.BITS }
@@ -58,9 +73,8 @@ fn round_below_one<S: Flagged>(bits: u128, round: Round) -> Encoded
     let unit = integer_bit::<S>();
     let one = bits_at::<S>(negative, unit, place);
     let zero = sign_bit::<S>(negative);
-    let half = place as u64 * unit;
     let magnitude = magnitude_of::<S>(bits);
-    let moved = moves_past(round, negative, magnitude, half, false);
+    let moved = moves_to_one::<S>(round, negative, magnitude);
     Encoded {
         bits: either(moved, one, zero) as u128,
         status: status_of(magnitude),

@@ -14,6 +14,7 @@ mod addends;
 mod conversions;
 mod cuts;
 mod encoded;
+mod integers;
 mod integral;
 pub mod lanes;
 mod numbers;
@@ -27,6 +28,7 @@ pub mod words;
 
 pub use conversions::convert_normal;
 pub use encoded::Encoded;
+pub use integers::{signed_of_bits, unsigned_of_bits};
 pub use integral::round_number;
 pub use numbers::{biased_exponent, fits_word, is_minus, word_of};
 pub use order::{compare_bits, has_ordered_words};

@@ -91,7 +91,7 @@ fn is_of_number<S: Flagged>(biased: u32) -> bool
 
 /// The significand of a normal number.
 #[inline(always)]
-fn significand_of<S: Flagged>(bits: u128) -> u64
+pub(crate) fn significand_of<S: Flagged>(bits: u128) -> u64
     requires implied { S.EXPLICIT_INTEGER_BIT ≡ false }
     requires short { S.PRECISION ≤ 59 }
     ensures value { result ≡ 2 ^ (S.PRECISION - 1)

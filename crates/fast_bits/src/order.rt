@@ -30,7 +30,7 @@ pub fn has_ordered_words<S: Flagged>() -> bool
 
 /// A magnitude with its sign.
 #[inline(always)]
-fn signed(negative: bool, magnitude: u64) -> i64
+pub(crate) fn signed(negative: bool, magnitude: u64) -> i64
     requires { magnitude < 2 ^ 63 }
     ensures { result ≡ signed negative magnitude }
 {

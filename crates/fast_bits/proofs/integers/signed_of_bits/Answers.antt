@@ -1,0 +1,10 @@
+use Rattle.std.proofs.Common.{arith}
+use Rattle.apfloat_ieee.specs.FlaggedTypes.{constants_of}
+use Rattle.fast_bits.proofs.RoundedIntegers.{signed_if_some}
+use Rattle.fast_bits.proofs.integers.signed_of_bits.Goals as goal
+
+pub returns-in-Some : goal.returns-in-Some
+returns-in-Some g c =
+    signed_if_some (constants_of g.S.Flagged) c.args.round c.args.bits c.args.width
+    c.is_minus-negative.result c.in-Some.x c.signed_within.result c.in-Some.ensures (omega arith) (omega arith)
+    c.signed_within.ensures
