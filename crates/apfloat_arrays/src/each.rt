@@ -4,6 +4,7 @@ ghost use Rattle.std.specs.Prelude.{◌≡◌, ℕ, ◌*◌, List, length};
 ghost use Rattle.apfloat_arrays.specs.Blocks.{IsBlock};
 ghost use Rattle.apfloat_arrays.specs.declared.counts.Outcome.{Outcome as Result};
 
+use crate::bytes::value_at;
 use crate::counts::{Counts, Outcome};
 use crate::widths::Widths;
 
@@ -38,8 +39,8 @@ pub(crate) fn convert_each<C: ValueConversion>(
 {
     let mut counts = Counts::NONE;
     for index in 0..count {
-        let (from, to) = (index * widths.source, index * widths.target);
-        let source = &input[from..from + widths.source];
+        let source = value_at(input, index, widths.source);
+        let to = index * widths.target;
         let target = &mut output[to..to + widths.target];
         counts.count(conversion.convert(source, target));
     }
