@@ -22,17 +22,6 @@ pub slice_bounds-target-count : goal.slice_bounds-target-count
 slice_bounds-target-count g c =
     mul-le-mul_right c.bytes_of-width.result (div-mul-le_self c.args.task.count 256)
 
-pub overflow_mul-target-2 : goal.overflow_mul-target-2
-overflow_mul-target-2 g c =
-    let width : c.bytes_of-width.result ≡ bytes_of g.T.Flagged.BITS = c.bytes_of-width.ensures ∙ ap bytes_of c.BITS.ensures in
-    record { fits = omega (arith, c.convert_blocks-counts.auto.output, c.requires.given.output, ap (λ (n : ℕ). c.args.task.count * n) width) }
-
-pub overflow_mul-target : goal.overflow_mul-target
-overflow_mul-target g c =
-    let width : c.bytes_of-width.result ≡ bytes_of g.T.Flagged.BITS = c.bytes_of-width.ensures ∙ ap bytes_of c.BITS.ensures in
-    record { fits = omega (arith, c.convert_blocks-counts.auto.output, c.requires.given.output, ap (λ (n : ℕ). c.args.task.count * n) width,
-    mul-le-mul_right c.bytes_of-width.result (div-mul-le_self c.args.task.count 256)) }
-
 pub slice_bounds-target-end : goal.slice_bounds-target-end
 slice_bounds-target-end g c =
     let width : c.bytes_of-width.result ≡ bytes_of g.T.Flagged.BITS = c.bytes_of-width.ensures ∙ ap bytes_of c.BITS.ensures in
