@@ -1,12 +1,13 @@
 -- One more value in its place.
 use Rattle.std.proofs.{Math.Nat.mul-le-mul_right, Math.Nat.suc-mul, Math.Path.subst₃, lemmas.Bool.cases_lt}
-use Rattle.std.proofs.Common.{◌≡◌, ℕ, suc, ◌+◌, ◌-◌, ◌*◌, ◌<◌, ◌≤◌, Bool, ⊎_elim, if◌then◌else◌, List, [], ◌∷◌, ◌++◌}
+use Rattle.std.proofs.Common.{◌≡◌, ℕ, suc, ◌+◌, ◌-◌, ◌*◌, ◌^◌, ◌<◌, ◌≤◌, Bool, ⊎_elim, if◌then◌else◌, List, [], ◌∷◌, ◌++◌}
 use Rattle.std.proofs.Common.{length, drop, Option, refl, sym, ◌∙◌, ap, subst, arith, zero-add}
-use Rattle.std.proofs.lemmas.{Bool.cases_eq, List.length_push, List.Edits.length-between, List.Sums.sum_by-append}
+use Rattle.std.proofs.lemmas.{Bool.cases_eq, List.length_push, List.Edits.length-between, List.Sums.count_by-le-length}
+use Rattle.std.proofs.lemmas.{List.Sums.sum_by-append}
 use Rattle.std.proofs.lemmas.{Option.slice_get_past, Slice.between_is, Slice.take-put_mid_below, Slice.between-put_mid}
 use Rattle.std.specs.Prelude.{slice_get, IfSome, count_by}
 use Rattle.apfloat_arrays.specs.declared.counts.{Outcome.Outcome, Counts.Counts}
-use Rattle.apfloat_arrays.specs.Outcomes.{counts_of, with_outcome, one_if, raised, became_nan}
+use Rattle.apfloat_arrays.specs.Outcomes.{HaveRoom, counts_of, with_outcome, one_if, raised, became_nan}
 use Rattle.apfloat_arrays.specs.Blocks.{AreInPlaces, IsBlock, value_at}
 use Rattle.apfloat_model.proofs.general.ListLaws.{get_left, get_last}
 use borrow.Rule.Slice.PartMut.{put_mid}
@@ -31,6 +32,22 @@ counts_push outcomes outcome =
     let invalid = count_push (raised 1) outcomes outcome in
     let nans = count_push became_nan outcomes outcome in
     cc
+
+-- counts of fewer values than a machine word can count
+pub room_for : (outcomes : List Outcome) (counts : Counts) → counts ≡ counts_of outcomes
+    → length outcomes < 2 ^ 64 - 1 → HaveRoom counts
+room_for outcomes counts e l =
+    let values : counts.values ≡ length outcomes = ap (λ (k : Counts). k.values) e in
+    let few : (test : Outcome → Bool) (n : ℕ) → n ≡ count_by test outcomes → n < 2 ^ 64 - 1 =
+    λ test n is. let most = count_by-le-length test outcomes in omega (arith, is, most, l) in
+    record {
+      values = omega (arith, values, l);
+      inexact = few (raised 16) counts.inexact (ap (λ (k : Counts). k.inexact) e);
+      underflow = few (raised 8) counts.underflow (ap (λ (k : Counts). k.underflow) e);
+      overflow = few (raised 4) counts.overflow (ap (λ (k : Counts). k.overflow) e);
+      invalid = few (raised 1) counts.invalid (ap (λ (k : Counts). k.invalid) e);
+      nans = few became_nan counts.nans (ap (λ (k : Counts). k.nans) e);
+    }
 
 -- ---- places
 

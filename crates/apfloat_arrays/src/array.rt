@@ -71,7 +71,7 @@ struct ArrayCall<'a> {
 }
 
 /// The same call, made at the type of the target format; `S` is the source format.
-#[derive_where(Clone, Copy)]
+#[derive(Drop)]
 struct ArrayCallFrom<'a, S: Flagged> {
     call: ArrayCall<'a>,
     source: PhantomData<S>,

@@ -52,5 +52,5 @@ pub fn convert_bytes<S: Flagged, T: Flagged>(
         round: task.round,
         formats: PhantomData,
     };
-    convert_by_table(between, bytes_of(T::BITS), task.count, task.input, output)
+    convert_by_table(&between, bytes_of(T::BITS), task.count, task.input, output)
 }

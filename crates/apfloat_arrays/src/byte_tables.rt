@@ -16,30 +16,30 @@ pub(crate) const PLACES: usize = 256;
 /// The results for all bytes, of which a table is filled.
 pub(crate) trait ByteResults: Results {
     /// Fills a table of entries with the results for all bytes.
-    fn fill_bytes(self, table: &mut [u8])
-        requires has { (place : ℕ) → place < 256 → Self.has self place }
+    fn fill_bytes(&self, table: &mut [u8])
+        requires has { (place : ℕ) → place < 256 → Self.has self.now place }
         requires few { Self.bits ≤ 32 }
         requires table { length table.old ≡ 256 * 8 }
-        ensures { IsResultTable (Self.gives self) 256 table.new };
+        ensures { IsResultTable (Self.gives self.now) 256 table.new };
 }
 
 /// Results that are looked up in a table of those for all bytes.
-#[derive(Clone, Copy)]
+#[derive(Drop)]
 struct Tabled<'a, R> {
-    results: R,
+    results: &'a R,
     values: &'a [u8],
     outcomes: &'a [Outcome],
 }
 
 impl<R: Results> ValueConversion for Tabled<'_, R> {
     ghost can = { λ it source target. (source ≡ 1)
-        × IsTable (R.gives it.results) target 256 it.values.now it.outcomes.now
+        × IsTable (R.gives it.results.now) target 256 it.values.now it.outcomes.now
         × (length it.values.now ≡ 256 * target) };
 
-    ghost gives = { λ it. IsConvertedIn (R.gives it.results) };
+    ghost gives = { λ it. IsConvertedIn (R.gives it.results.now) };
 
     #[inline(always)]
-    fn convert(self, input: &[u8], output: &mut [u8]) -> Outcome {
+    fn convert(&self, input: &[u8], output: &mut [u8]) -> Outcome {
         look_up_value(self.values, self.outcomes, byte_of(input), output)
     }
 }
@@ -48,18 +48,18 @@ impl<R: Results> ValueConversion for Tabled<'_, R> {
 /// in one, with its outcome.
 #[inline(always)]
 pub(crate) fn convert_by_table<R: ByteResults>(
-    results: R,
+    results: &R,
     width: usize,
     count: usize,
     input: &[u8],
     output: &mut [u8],
 ) -> Counts
-    requires has { (place : ℕ) → place < 256 → R.has results place }
+    requires has { (place : ℕ) → place < 256 → R.has results.now place }
     requires width { R.bits ≤ 8 * width }
     requires few { width ≤ 16 }
     requires input { length input.now ≡ count * 1 }
     requires output { length output.old ≡ count * width }
-    ensures { IsBlock (IsConvertedIn (R.gives results)) 1 width count input.now output.new result }
+    ensures { IsBlock (IsConvertedIn (R.gives results.now)) 1 width count input.now output.new result }
 {
     if R::bits() <= 32 {
         let mut table = [0_u8; ENTRY * PLACES];
@@ -78,7 +78,7 @@ pub(crate) fn convert_by_table<R: ByteResults>(
 /// them.
 #[inline(always)]
 fn convert_wide<R: Results>(
-    results: R,
+    results: &R,
     width: usize,
     values: &mut [u8],
     outcomes: &mut [Outcome],
@@ -86,13 +86,13 @@ fn convert_wide<R: Results>(
     input: &[u8],
     output: &mut [u8],
 ) -> Counts
-    requires has { (place : ℕ) → place < 256 → R.has results place }
+    requires has { (place : ℕ) → place < 256 → R.has results.now place }
     requires width { R.bits ≤ 8 * width }
     requires values { length values.old ≡ 256 * width }
     requires outcomes { length outcomes.old ≡ 256 }
     requires input { length input.now ≡ count * 1 }
     requires output { length output.old ≡ count * width }
-    ensures { IsBlock (IsConvertedIn (R.gives results)) 1 width count input.now output.new result }
+    ensures { IsBlock (IsConvertedIn (R.gives results.now)) 1 width count input.now output.new result }
 {
     fill_table(results, width, PLACES, values, outcomes);
     let tabled = Tabled {
@@ -104,5 +104,5 @@ fn convert_wide<R: Results>(
         source: 1,
         target: width,
     };
-    convert_each(tabled, widths, count, input, output)
+    convert_each(&tabled, widths, count, input, output)
 }

@@ -1,7 +1,7 @@
 //! Integers as little-endian bytes.
 
-ghost use Rattle.std.specs.Prelude.{◌≡◌, ◌*◌, ◌^◌, ◌<◌, ◌≤◌, IsTrue, length};
-ghost use Rattle.apfloat_arrays.specs.Bytes.{number_of};
+ghost use Rattle.std.specs.Prelude.{◌≡◌, ◌+◌, ◌*◌, ◌^◌, ◌<◌, ◌≤◌, IsTrue, length};
+ghost use Rattle.apfloat_arrays.specs.{Blocks.value_at, Bytes.number_of};
 
 use rustc_apfloat::ieee::Flagged;
 
@@ -32,6 +32,17 @@ fn number_byte_by_byte(bytes: &[u8]) -> u128
         number = number * 256 + u128::from(bytes[bytes.len() - 1 - place]);
     }
     number
+}
+
+/// The bytes of a value, by its index.
+#[inline(always)]
+pub(crate) fn value_at(bytes: &[u8], index: usize, width: usize) -> &[u8]
+    requires { index * width + width ≤ length bytes.now }
+    ensures is { result.now ≡ value_at width index bytes.now }
+    ensures size { length result.now ≡ width }
+{
+    let from = index * width;
+    &bytes[from..from + width]
 }
 
 /// Writes an integer as little-endian bytes, followed by zeros.

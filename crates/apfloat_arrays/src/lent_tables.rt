@@ -90,7 +90,7 @@ struct TableCall {
 }
 
 /// The same call, made at the type of the target format; `S` is the source format.
-#[derive_where(Clone, Copy)]
+#[derive(Drop)]
 struct TableCallFrom<S: Flagged> {
     conversion: ArrayConversion,
     source: PhantomData<S>,
@@ -144,7 +144,7 @@ impl<S: Flagged> WritesInFormat for TableCallFrom<S> {
                 round,
                 formats: PhantomData,
             };
-            fill_entries(between, PLACES, table)
+            fill_entries(&between, PLACES, table)
         }
     }
 }

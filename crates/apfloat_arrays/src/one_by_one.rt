@@ -79,5 +79,5 @@ fn convert_with<S: Flagged, T: Flagged>(
         round: task.round,
         formats: PhantomData,
     };
-    convert_each(between, widths, task.count, task.input, output)
+    convert_each(&between, widths, task.count, task.input, output)
 }

@@ -19,7 +19,7 @@ use small_formats::saturation::{Overflow, convert_by};
 use std::marker::PhantomData;
 
 /// The conversion from `S` to `T`.
-#[derive_where(Clone, Copy)]
+#[derive(Drop)]
 pub struct Between<'a, S: Flagged, T: Flagged> {
     /// Whether the code that converts a value is in the loop, and not in a function of its own.
     pub in_line: bool,
@@ -40,7 +40,7 @@ impl<S: Flagged, T: Flagged> ValueConversion for Between<'_, S, T> {
     ghost gives = { λ it. IsConvertedBy it.overflow (constants_of S.Flagged) (constants_of T.Flagged) it.round };
 
     #[inline(always)]
-    fn convert(self, input: &[u8], output: &mut [u8]) -> Outcome {
+    fn convert(&self, input: &[u8], output: &mut [u8]) -> Outcome {
         if self.in_line {
             let answer = convert_bits::<S, T>(
                 self.far,
@@ -72,7 +72,7 @@ impl<S: Flagged, T: Flagged> Results for Between<'_, S, T> {
     }
 
     #[inline(always)]
-    fn result_in(self, place: usize) -> Converted {
+    fn result_in(&self, place: usize) -> Converted {
         convert_bits::<S, T>(self.far, self.overflow, self.round, place as u128)
     }
 
@@ -80,7 +80,7 @@ impl<S: Flagged, T: Flagged> Results for Between<'_, S, T> {
 }
 
 impl<S: Flagged, T: Flagged> ByteResults for Between<'_, S, T> {
-    fn fill_bytes(self, table: &mut [u8]) {
+    fn fill_bytes(&self, table: &mut [u8]) {
         fill_entries(self, PLACES, table)
     }
 }

@@ -273,7 +273,7 @@ fn convert_with<S: Flagged, Z: Flagged, T: Flagged>(
         round: task.round,
         formats: PhantomData,
     };
-    fill_table(listed, 1, places, values, outcomes);
+    fill_table(&listed, 1, places, values, outcomes);
     let shortened = Shortened::<S, Z, T> {
         overflow: task.overflow,
         round: task.round,
@@ -281,11 +281,11 @@ fn convert_with<S: Flagged, Z: Flagged, T: Flagged>(
         outcomes,
         formats: PhantomData,
     };
-    convert_each(shortened, widths, task.count, task.input, output)
+    convert_each(&shortened, widths, task.count, task.input, output)
 }
 
 /// The conversion from `S` to `T` by a table of those from `Z`.
-#[derive_where(Clone, Copy)]
+#[derive(Drop)]
 struct Shortened<'a, S: Flagged, Z: Flagged, T: Flagged> {
     overflow: Overflow,
     round: Round,
@@ -302,7 +302,7 @@ impl<S: Flagged, Z: Flagged, T: Flagged> ValueConversion for Shortened<'_, S, Z,
 
     /// Converts a value by the table, or a NaN, whose payload may need more digits, in the general way.
     #[inline(always)]
-    fn convert(self, input: &[u8], output: &mut [u8]) -> Outcome {
+    fn convert(&self, input: &[u8], output: &mut [u8]) -> Outcome {
         let bits = bits_in::<S>(input);
         if is_nan::<S>(bits) {
             convert_apart::<S, T>(self.overflow, self.round, input, output)

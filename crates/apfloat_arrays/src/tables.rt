@@ -14,7 +14,7 @@ use crate::tallies::mark_of;
 use rustc_apfloat::Flags;
 
 /// The results for values that are given by their places.
-pub(crate) trait Results: Copy {
+pub(crate) trait Results {
     // How many bits a result has at the most.
     ghost bits: { ℕ };
 
@@ -29,9 +29,9 @@ pub(crate) trait Results: Copy {
         ensures { result ≡ bits };
 
     /// The result for the value in a place.
-    fn result_in(self, place: usize) -> Converted
-        requires { has self place }
-        ensures { gives self place result.bits result.outcome };
+    fn result_in(&self, place: usize) -> Converted
+        requires { has self.now place }
+        ensures { gives self.now place result.bits result.outcome };
 
     // Each result has so few bits.
     ghost fits: { (it : Self) (place code : ℕ) (outcome : Result) → gives it place code outcome
@@ -40,17 +40,17 @@ pub(crate) trait Results: Copy {
 
 /// Fills a table with the results for the first `count` places, each in `width` bytes, and one of their outcomes.
 pub(crate) fn fill_table<R: Results>(
-    results: R,
+    results: &R,
     width: usize,
     count: usize,
     values: &mut [u8],
     outcomes: &mut [Outcome],
 )
-    requires has { (place : ℕ) → place < count → R.has results place }
+    requires has { (place : ℕ) → place < count → R.has results.now place }
     requires width { R.bits ≤ 8 * width }
     requires values { length values.old ≡ count * width }
     requires outcomes { length outcomes.old ≡ count }
-    ensures { IsTable (R.gives results) width count values.new outcomes.new }
+    ensures { IsTable (R.gives results.now) width count values.new outcomes.new }
 {
     for index in 0..count {
         let from = index * width;
@@ -75,11 +75,11 @@ pub(crate) fn write_result(answer: Converted, entry: &mut [u8])
 }
 
 /// Fills a table of entries with the results for the first `count` places.
-pub(crate) fn fill_entries<R: Results>(results: R, count: usize, table: &mut [u8])
-    requires has { (place : ℕ) → place < count → R.has results place }
+pub(crate) fn fill_entries<R: Results>(results: &R, count: usize, table: &mut [u8])
+    requires has { (place : ℕ) → place < count → R.has results.now place }
     requires few { R.bits ≤ 32 }
     requires table { length table.old ≡ count * 8 }
-    ensures { IsResultTable (R.gives results) count table.new }
+    ensures { IsResultTable (R.gives results.now) count table.new }
 {
     for place in 0..count {
         let from = place * ENTRY;

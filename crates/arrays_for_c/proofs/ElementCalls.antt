@@ -1,8 +1,8 @@
 -- One more element of an operation on arrays, and the bytes of its result.
 use Rattle.std.proofs.Common.{◌≡◌, ℕ, ◌+◌, ◌-◌, ◌*◌, ◌^◌, ◌<◌, ◌≤◌, ◌⊎◌, List, []}
-use Rattle.std.proofs.Common.{◌∷◌, ◌++◌, length, sym, subst, ap, ◌∙◌, inl, inr, lit≤}
-use Rattle.std.proofs.{Math.Path.subst₃, lemmas.List.length_push}
-use Rattle.std.specs.Prelude.{slice_range}
+use Rattle.std.proofs.Common.{◌∷◌, ◌++◌, length, sym, subst, ap, ◌∙◌, inl, inr, lit≤, Bool, arith}
+use Rattle.std.proofs.{Math.Path.subst₃, lemmas.List.Sums.count_by-le-length, lemmas.List.length_push}
+use Rattle.std.specs.Prelude.{count_by, slice_range}
 use Rattle.rustc_apfloat.specs.declared.Round.{Round}
 use Rattle.formats_at_run_time.specs.declared.FlaggedKind.{FlaggedKind, TheVariants.OfFormat, TheVariants.Pairs}
 use Rattle.formats_at_run_time.specs.FlaggedKinds.{flagged_constants, flagged_kind_of}
@@ -14,7 +14,7 @@ use Rattle.arrays_for_c.specs.declared.array_calls.ElementOperation.{ElementOper
 use Rattle.arrays_for_c.specs.declared.array_calls.{ElementOperation.TheVariants.SquareRoot, MapCall.MapCall}
 use Rattle.arrays_for_c.specs.declared.array_data.{Element.Element, ElementCounts.ElementCounts}
 use Rattle.arrays_for_c.specs.{ArrayCalls.bytes_in, Arrays.AreElements}
-use Rattle.arrays_for_c.specs.Arrays.{IsElement, IsElementAt, became_nan, call_of, counts_of, raised, with_element}
+use Rattle.arrays_for_c.specs.Arrays.{HaveRoomFor, IsElement, IsElementAt, became_nan, call_of, counts_of, raised, with_element}
 use borrow.Rule.Slice.PartMut.{put_mid}
 
 -- counting one more element counts the list with that element
@@ -30,12 +30,35 @@ counts_push elements element =
     let nans = count_push became_nan elements element in
     cc
 
--- the bytes of a place are those of an array that has any
+-- counts of fewer elements than a machine word can count
+pub room_for : (elements : List Element) (counted : ElementCounts) → counted ≡ counts_of elements
+    → length elements < 2 ^ 64 - 1 → HaveRoomFor counted
+room_for elements counted are l =
+    let few : (test : Element → Bool) → count_by test elements < 2 ^ 64 - 1 =
+    λ test. omega (arith, count_by-le-length test elements, l) in
+    rw are (record {
+      counts = record {
+        values = l;
+        inexact = few (raised 16);
+        underflow = few (raised 8);
+        overflow = few (raised 4);
+        invalid = few (raised 1);
+        nans = few became_nan;
+      };
+      div_by_zero = few (raised 2);
+    })
+
+-- the bytes of a place are within those of all
+pub place_in : (index count width size : ℕ) → size ≡ count * width → index < count → index * width + width ≤ size
+place_in index count width size all before =
+    subst (λ (n : ℕ). index * width + width ≤ n) (sym all) (place_below index count width before)
+
+-- or the array has none
 pub place_within : (index count width size : ℕ) → (size ≡ 0) ⊎ (size ≡ count * width) → index < count
     → (size ≡ 0) ⊎ (index * width + width ≤ size)
 place_within index count width size (inl none) before = inl none
 place_within index count width size (inr all) before =
-    inr (subst (λ (n : ℕ). index * width + width ≤ n) (sym all) (place_below index count width before))
+    inr (place_in index count width size all before)
 
 -- one more element is computed in its place
 pub elements_more : (map : MapCall) (xs ys zs : List ℕ) (width index count : ℕ) (x y z : ℕ) (bytes new : List ℕ)

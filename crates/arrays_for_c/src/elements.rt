@@ -151,7 +151,18 @@ fn call_in_pairs(map: MapCall, x: u128, y: u128, z: u128, answer: &mut Answer) -
         ElementOperation::SquareRoot => SquareRootCall { x }.in_pairs(round, answer),
     }
 }
-/// The number of the bytes from this place on; 0 if there are no bytes at all.
+
+/// The number of the bytes from this place on.
+#[inline(always)]
+pub fn number_in(bytes: &[u8], place: usize, width: usize) -> u128
+    requires few { width ≤ 16 }
+    requires within { place + width ≤ length bytes.now }
+    ensures { result ≡ number_of (slice_range bytes.now place (place + width)) }
+{
+    number_of(&bytes[place..place + width])
+}
+
+/// The same, or 0 if there are no bytes at all.
 #[inline]
 pub fn number_at(bytes: &[u8], place: usize, width: usize) -> u128
     requires few { width ≤ 16 }
@@ -159,9 +170,10 @@ pub fn number_at(bytes: &[u8], place: usize, width: usize) -> u128
     ensures { result ≡ number_of (slice_range bytes.now place (place + width)) }
 {
     if bytes.is_empty() {
-        return 0;
+        0
+    } else {
+        number_in(bytes, place, width)
     }
-    number_of(&bytes[place..place + width])
 }
 
 /// Applies the operation to an element, and writes the bytes of its result.

@@ -10,8 +10,8 @@ ghost use Rattle.arrays_for_c.specs.declared.array_calls.ElementOperation.TheVar
 ghost use Rattle.arrays_for_c.specs.Arrays.{AreElements, AreOperands, relation_of_two};
 
 use crate::array_data::{Element, ElementCounts};
-use crate::elements::{FormatCalls, element_apart, elements_apart, number_at};
-use apfloat_arrays::{number_of, write_number};
+use crate::elements::{FormatCalls, element_apart, elements_apart, number_at, number_in};
+use apfloat_arrays::write_number;
 use fast_bits::{Encoded, add_normal, multiply_normal, subtract_normal};
 use rustc_apfloat::ieee::Flagged;
 use rustc_apfloat::{Flags, Round};
@@ -93,8 +93,8 @@ fn normal_elements_of<S: Flagged, O: NormalOperation>(
     let mut counted = ElementCounts::NONE;
     for index in 0..count {
         let place = index * width;
-        let x = number_of(&xs[place..place + width]);
-        let y = number_of(&ys[place..place + width]);
+        let x = number_in(xs, place, width);
+        let y = number_in(ys, place, width);
         let target = &mut output[place..place + width];
         if let Some(normal) = operation.normal_in::<S>(x, y, round) {
             write_number(normal.bits, target);

@@ -165,7 +165,7 @@ impl InFormat for FromCall {
 }
 
 /// The call that converts a value of the format `S`, made at the type of the target format.
-#[derive_where(Clone, Copy)]
+#[derive(Drop)]
 struct IntoCall<S: Semantics> {
     x: IeeeFloat<S>,
     mode: ConversionRound,

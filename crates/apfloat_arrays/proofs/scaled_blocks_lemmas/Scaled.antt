@@ -1,11 +1,9 @@
 -- Elements that are multiplied one after another.
-use Rattle.std.proofs.Common.{◌≡◌, ℕ, ◌+◌, ◌-◌, ◌*◌, ◌^◌, ◌<◌, refl, ap, ◌∙◌, List, Bool, [], ◌∷◌, ◌++◌, length, arith}
-use Rattle.std.proofs.lemmas.List.Sums.{count_by-le-length}
-use Rattle.std.specs.Prelude.{count_by}
+use Rattle.std.proofs.Common.{◌≡◌, ℕ, ◌+◌, ◌-◌, ◌*◌, ◌<◌, refl, ap, ◌∙◌, List, [], ◌∷◌, ◌++◌, length}
 use Rattle.rustc_apfloat.specs.Lawful.{Constants}
 use Rattle.apfloat_arrays.specs.{declared.scaled_blocks.dequantizing.Dequantization.Dequantization, Blocks.AreInPlaces}
 use Rattle.apfloat_arrays.specs.declared.counts.{Counts.Counts, Outcome.Outcome}
-use Rattle.apfloat_arrays.specs.Outcomes.{HaveRoom, became_nan, counts_of, raised, with_outcome}
+use Rattle.apfloat_arrays.specs.Outcomes.{counts_of, with_outcome}
 use Rattle.apfloat_arrays.specs.scaled_blocks.Dequantized.{IsScaledAt}
 use Rattle.apfloat_arrays.proofs.Places.{counts_push, places_more, places_none}
 use Rattle.formats_at_run_time.specs.{BuiltIns.constants_in, declared.flagged.FlaggedFormat.FlaggedFormat}
@@ -39,22 +37,6 @@ scaled_more q d width scales codes index count values new counts outcome before 
       size here so_far.places;
   counted = ap (λ (k : Counts). with_outcome k outcome) so_far.counted ∙ counts_push so_far.outcomes outcome;
 }
-
--- counts of fewer values than a machine word can count
-pub room_for : (outcomes : List Outcome) (counts : Counts) → counts ≡ counts_of outcomes
-    → length outcomes < 2 ^ 64 - 1 → HaveRoom counts
-room_for outcomes counts e l =
-    let values : counts.values ≡ length outcomes = ap (λ (k : Counts). k.values) e in
-    let few : (test : Outcome → Bool) (n : ℕ) → n ≡ count_by test outcomes → n < 2 ^ 64 - 1 =
-    λ test n is. let most = count_by-le-length test outcomes in omega (arith, is, most, l) in
-    record {
-      values = omega (arith, values, l);
-      inexact = few (raised 16) counts.inexact (ap (λ (k : Counts). k.inexact) e);
-      underflow = few (raised 8) counts.underflow (ap (λ (k : Counts). k.underflow) e);
-      overflow = few (raised 4) counts.overflow (ap (λ (k : Counts). k.overflow) e);
-      invalid = few (raised 1) counts.invalid (ap (λ (k : Counts). k.invalid) e);
-      nans = few became_nan counts.nans (ap (λ (k : Counts). k.nans) e);
-    }
 
 -- a rule of flags changes no width
 pub same_bits : (target : FlaggedFormat)

@@ -7,7 +7,7 @@ ghost use Rattle.small_formats.specs.Types.{constants_of as storage_constants_of
 ghost use Rattle.apfloat_arrays.specs.scaled_blocks.Elements.{AreElements, AreQuotable, IsCodedIn};
 ghost use Rattle.apfloat_arrays.specs.stored.NumberCodes.{IsWordSource};
 
-use crate::bytes::{bits_in, has_width};
+use crate::bytes::{bits_in, has_width, value_at};
 use crate::scaled_blocks::digits::{E4M3Digits, E5M2Digits};
 use crate::scaled_blocks::quantizing::write_codes;
 use crate::stored::number_codes::{code_number, digits_below, first_place, is_word_source};
@@ -95,8 +95,7 @@ fn write_numbers<S: Semantics, F: StorageFormat>(
     let width = S::BITS / 8;
     let mut counts = Counts::NONE;
     for index in 0..codes.len() {
-        let from = (call.first + index) * width;
-        let bits = bits_in::<S>(&call.values[from..from + width]);
+        let bits = bits_in::<S>(value_at(call.values, call.first + index, width));
         let answer = code_number::<S, F>(plan, first, most, bits);
         codes[index] = answer.value;
         counts = counts.with(answer.status);

@@ -8,7 +8,7 @@ ghost use Rattle.small_formats.specs.blocks.Elements.{IsQuotientBy};
 ghost use Rattle.apfloat_arrays.specs.{scaled_blocks.Values.values_in, stored.NumberCodes.IsWordFormat};
 ghost use Rattle.apfloat_arrays.specs.scaled_blocks.Greatest.{AreAtMost, IsGreatest, special_bits};
 
-use crate::bytes::{bits_in, has_width};
+use crate::bytes::{bits_in, has_width, value_at};
 use crate::scaled_blocks::values::bits_at;
 use crate::stored::number_codes::has_words;
 use rustc_apfloat::ieee::{IeeeFloat, Semantics};
@@ -48,8 +48,8 @@ fn greatest_bits<S: Semantics>(first: usize, count: usize, bytes: &[u8]) -> u32
     let half = power_of_two(S::BITS - 1);
     let mut greatest = 0_u32;
     for index in 0..count {
-        let from = (first + index) * width;
-        greatest = greatest.max(bits_in::<S>(&bytes[from..from + width]) % half);
+        let bits = bits_in::<S>(value_at(bytes, first + index, width));
+        greatest = greatest.max(bits % half);
     }
     greatest
 }

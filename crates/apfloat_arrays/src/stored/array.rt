@@ -165,7 +165,7 @@ pub(crate) fn store_slowly<S: Semantics>(call: StoreCall, output: &mut [u8]) -> 
         source: call.width,
         target: 1,
     };
-    convert_each(stored, widths, call.count, call.input, output)
+    convert_each(&stored, widths, call.count, call.input, output)
 }
 
 impl WritesInFormat for LoadCall<'_> {
@@ -195,18 +195,18 @@ impl WritesInFormat for LoadCall<'_> {
             target: PhantomData,
         };
         if has_code_table(source, width, count) {
-            return load_codes(codes, width, count, input, bytes);
+            return load_codes(&codes, width, count, input, bytes);
         }
         let widths = Widths {
             source: 1,
             target: width,
         };
-        convert_each(codes, widths, count, input, bytes)
+        convert_each(&codes, widths, count, input, bytes)
     }
 }
 
 /// The conversion of values of `S` into a storage format.
-#[derive_where(Clone, Copy)]
+#[derive(Drop)]
 struct Stored<S: Semantics> {
     target: StoredFormat,
     round: Round,
@@ -220,7 +220,7 @@ impl<S: Semantics> ValueConversion for Stored<S> {
     ghost gives = { λ it. IsStoredIn it.overflow (constants_of S.Semantics) it.target it.round };
 
     #[inline(always)]
-    fn convert(self, input: &[u8], output: &mut [u8]) -> Outcome {
+    fn convert(&self, input: &[u8], output: &mut [u8]) -> Outcome {
         store_value::<S>(self.target, self.round, self.overflow, input, output)
     }
 }

@@ -10,6 +10,7 @@ ghost use Rattle.apfloat_arrays.specs.stored.ByMode.{AreStoredWith, HasDigits, H
 ghost use Rattle.apfloat_arrays.specs.stored.ByMode.{IsOwnBy, IsStoredByMode, IsStoredWith, mode_width, random_of};
 ghost use Rattle.apfloat_arrays.specs.Bytes.{number_of};
 
+use crate::bytes::value_at;
 use crate::specials::word_of;
 use crate::stored::formats::StoredFormat;
 use crate::{Converted, Counts, Extended, Outcome, number_of, width, write_number};
@@ -201,8 +202,8 @@ impl ModeConversion {
         let mut counts = Counts::NONE;
         for index in 0..count {
             let random = self.round.random_at(index, randoms);
-            let (from, to) = (index * width, index * 1);
-            let value = &input[from..from + width];
+            let value = value_at(input, index, width);
+            let to = index * 1;
             let place = &mut output[to..to + 1];
             counts.count(self.convert_value(random, value, place));
         }

@@ -47,7 +47,7 @@ fn codes_of(format: StoredFormat) -> usize
 }
 
 /// The conversion of codes to `T`.
-#[derive_where(Clone, Copy)]
+#[derive(Drop)]
 pub(crate) struct Codes<T: Flagged> {
     /// Their format.
     pub source: StoredFormat,
@@ -66,7 +66,7 @@ impl<T: Flagged> ValueConversion for Codes<T> {
     ghost gives = { λ it. IsLoadedIn it.overflow it.source (constants_of T.Flagged) it.round };
 
     #[inline(always)]
-    fn convert(self, input: &[u8], output: &mut [u8]) -> Outcome {
+    fn convert(&self, input: &[u8], output: &mut [u8]) -> Outcome {
         let code = byte_of(input) as u8;
         let answer = load_code::<T>(self.source, self.overflow, self.round, code);
         write_number(answer.bits, output);
@@ -87,7 +87,7 @@ impl<T: Flagged> Results for Codes<T> {
     }
 
     #[inline(always)]
-    fn result_in(self, place: usize) -> Converted {
+    fn result_in(&self, place: usize) -> Converted {
         load_code::<T>(self.source, self.overflow, self.round, place as u8)
     }
 
@@ -95,7 +95,7 @@ impl<T: Flagged> Results for Codes<T> {
 }
 
 impl<T: Flagged> ByteResults for Codes<T> {
-    fn fill_bytes(self, table: &mut [u8]) {
+    fn fill_bytes(&self, table: &mut [u8]) {
         let codes = codes_of(self.source);
         fill_codes(self, codes, table);
         copy_codes(codes, table);
@@ -105,7 +105,7 @@ impl<T: Flagged> ByteResults for Codes<T> {
 /// Converts `count` codes, each in its place.
 #[inline(never)]
 pub(crate) fn load_codes<T: Flagged>(
-    codes: Codes<T>,
+    codes: &Codes<T>,
     width: usize,
     count: usize,
     input: &[u8],
@@ -116,7 +116,7 @@ pub(crate) fn load_codes<T: Flagged>(
     requires few { width ≤ 16 }
     requires input { length input.now ≡ count * 1 }
     requires output { length output.old ≡ count * width }
-    ensures { IsBlock (IsLoadedIn codes.overflow codes.source (constants_of T.Flagged) codes.round)
+    ensures { IsBlock (IsLoadedIn codes.now.overflow codes.now.source (constants_of T.Flagged) codes.now.round)
         1 width count input.now output.new result }
 {
     convert_by_table(codes, width, count, input, output)
@@ -140,12 +140,12 @@ fn copy_codes(codes: usize, table: &mut [u8])
 }
 
 /// Fills the places below `codes`.
-fn fill_codes<T: Flagged>(results: Codes<T>, codes: usize, table: &mut [u8])
+fn fill_codes<T: Flagged>(results: &Codes<T>, codes: usize, table: &mut [u8])
     requires written { T.PRECISION < T.BITS }
     requires few { T.BITS ≤ 32 }
     requires codes { codes ≤ 256 }
     requires table { length table.old ≡ 256 * 8 }
-    ensures { AreCodeEntries results.overflow results.source (constants_of T.Flagged) results.round
+    ensures { AreCodeEntries results.now.overflow results.now.source (constants_of T.Flagged) results.now.round
         codes table.new }
 {
     for place in 0..codes {

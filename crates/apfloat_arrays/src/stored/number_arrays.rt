@@ -72,11 +72,11 @@ fn store_each<S: Semantics, F: StorageFormat>(call: StoreCall, output: &mut [u8]
         source: S::BITS / 8,
         target: 1,
     };
-    convert_each(numbers, widths, call.count, call.input, output)
+    convert_each(&numbers, widths, call.count, call.input, output)
 }
 
 /// The conversion of values of `S` into the format of the type `F`, which is the target.
-#[derive_where(Clone, Copy)]
+#[derive(Drop)]
 struct Numbers<S: Semantics, F: StorageFormat> {
     plan: WordPlan,
     target: StoredFormat,
@@ -92,7 +92,7 @@ impl<S: Semantics, F: StorageFormat> ValueConversion for Numbers<S, F> {
     ghost gives = { λ it. IsStoredIn it.overflow (constants_of S.Semantics) it.target it.plan.round };
 
     #[inline(always)]
-    fn convert(self, input: &[u8], output: &mut [u8]) -> Outcome {
+    fn convert(&self, input: &[u8], output: &mut [u8]) -> Outcome {
         let bits = bits_in::<S>(input);
         if is_number::<S>(bits) {
             let answer = store_number::<S, F>(self.plan, bits);

@@ -25,6 +25,11 @@ loop-index-init g c =
     subst (λ (n : ℕ). AreConverted from to task c.args.width n c.args.output.now (counts_of [])) none
     (block_none (IsConvertedBy task.overflow from to task.round) 4 c.args.width task.input.now c.args.output.now)
 
+pub returns : goal.returns
+returns g c =
+    let last : c.loop-index.index ≡ c.args.blocks = omega (arith, c.loop-index-test.false, c.loop-index.auto.index-end) in
+    rw last at c.loop-index.invariant
+
 pub loop-index-preserved : goal.loop-index-preserved
 loop-index-preserved g c =
     let task = c.args.task in

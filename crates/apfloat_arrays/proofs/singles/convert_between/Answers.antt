@@ -1,4 +1,4 @@
-use Rattle.std.proofs.Common.{◌≡◌, ℕ, ◌*◌, ◌≤◌, List, ◌++◌, length, take, drop, ◌∙◌, ap}
+use Rattle.std.proofs.Common.{◌≡◌, ℕ, ◌*◌, ◌≤◌, List, ◌++◌, length, take, drop, ◌∙◌, ap, refl, length-append, length-drop}
 use Rattle.std.proofs.{Common.arith, Math.Nat.mul-le-mul_right, lemmas.List.length-take-le, lemmas.List.take-append-le}
 use Rattle.std.specs.Prelude.{replicate}
 use Rattle.rustc_apfloat.specs.FlaggedTypes.{constants_of}
@@ -6,6 +6,35 @@ use Rattle.apfloat_arrays.specs.{Blocks.value_at, Bytes.number_of, Values.IsConv
 use Rattle.apfloat_arrays.proofs.FirstValues.{block_first, padded_first, padded_zero}
 use Rattle.apfloat_arrays.proofs.{Joined.block_width, Rows.zeros_quiet, WidthBounds.narrow}
 use Rattle.apfloat_arrays.proofs.singles.convert_between.Goals as goal
+
+pub convert_block-counts-requires : goal.convert_block-counts-requires
+convert_block-counts-requires g c =
+    let given = c.requires.given in
+    let plan = c.plan_of-plan.ensures in
+    let width : c.bytes_of-width.result ≡ bytes_of g.T.Flagged.BITS =
+    c.bytes_of-width.ensures ∙ ap bytes_of c.BITS.ensures in
+    let short : bytes_of g.T.Flagged.BITS ≤ 2 = narrow g.T.Flagged.BITS given.target.bits in (
+      omega arith,
+      (
+        record { format = cc; layout = cc; saturates_is = cc; round_is = plan.round },
+        (
+          refl,
+          (
+            omega arith,
+            record {
+              read = given.read;
+              written = given.written;
+              single = given.single;
+              target = given.target;
+              width = omega (arith, width, given.width);
+              input = simp (length-append, length-drop)
+                  (omega (arith, c.requires.few, ap length (c.copy_from_slice.ensures.after), given.input, ap length c.requires.zeros));
+              output = length-take-le (64 * c.bytes_of-width.result) c.args.room.now (omega (arith, c.requires.room, width, short));
+            },
+          ),
+        ),
+      ),
+    )
 
 pub returns : goal.returns
 returns g c =

@@ -6,7 +6,7 @@ use Rattle.apfloat_arrays.proofs.TalliedResults.{entries_more, no_entries, tally
 use Rattle.apfloat_arrays.proofs.tables.fill_entries.Goals as goal
 
 pub loop-place-init : goal.loop-place-init
-loop-place-init g c = no_entries (g.R.Results.gives c.args.results) outcome_tally c.args.table.now
+loop-place-init g c = no_entries (g.R.Results.gives c.args.results.now) outcome_tally c.args.table.now
 
 pub result_in-requires : goal.result_in-requires
 result_in-requires g c = c.requires.has c.loop-place.place c.loop-place-test.true
@@ -15,7 +15,7 @@ pub write_result-requires-clause-fits : goal.write_result-requires-clause-fits
 write_result-requires-clause-fits g c =
     let answer = c.result_in.result in
     fits answer.bits g.R.Results.bits 4
-    (g.met.R.Results.fits c.args.results c.loop-place.place answer.bits answer.outcome c.result_in.ensures)
+    (g.met.R.Results.fits c.args.results.now c.loop-place.place answer.bits answer.outcome c.result_in.ensures)
     c.requires.few
 
 pub loop-place-preserved : goal.loop-place-preserved
@@ -27,7 +27,7 @@ loop-place-preserved g c =
     c.write_result.auto.entry ∙ place_size 8 place c.args.count c.loop-place.table c.loop-place-test.true size in
     let below : c.result_in.result.bits < 2 ^ 32 =
     fits answer.bits g.R.Results.bits 4
-    (g.met.R.Results.fits c.args.results place answer.bits answer.outcome c.result_in.ensures) c.requires.few in
-    entries_more (g.R.Results.gives c.args.results) outcome_tally place c.args.count c.loop-place.table
+    (g.met.R.Results.fits c.args.results.now place answer.bits answer.outcome c.result_in.ensures) c.requires.few in
+    entries_more (g.R.Results.gives c.args.results.now) outcome_tally place c.args.count c.loop-place.table
     c.write_result.new.entry answer.bits answer.outcome c.loop-place-test.true size wide c.result_in.ensures below
     (tally_most (bits_of answer.outcome.status) answer.outcome.is_nan) c.write_result.ensures c.loop-place.invariant

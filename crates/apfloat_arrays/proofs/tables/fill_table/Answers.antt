@@ -5,7 +5,7 @@ use Rattle.apfloat_arrays.proofs.tables.fill_table.Goals as goal
 
 pub loop-index-init : goal.loop-index-init
 loop-index-init g c =
-    places_none (λ place bytes outcome. g.R.Results.gives c.args.results place (number_of bytes) outcome) c.args.width
+    places_none (λ place bytes outcome. g.R.Results.gives c.args.results.now place (number_of bytes) outcome) c.args.width
     c.args.values.now
 
 pub result_in-answer-requires : goal.result_in-answer-requires
@@ -20,14 +20,14 @@ write_number-requires g c =
     place_size c.args.width c.loop-index.index c.args.count c.loop-index.values c.loop-index-test.true size in
     subst (λ (n : ℕ). c.result_in-answer.result.bits < 256 ^ n) (sym room)
     (fits answer.bits g.R.Results.bits c.args.width
-    (g.met.R.Results.fits c.args.results c.loop-index.index answer.bits answer.outcome c.result_in-answer.ensures)
+    (g.met.R.Results.fits c.args.results.now c.loop-index.index answer.bits answer.outcome c.result_in-answer.ensures)
     c.requires.width)
 
 pub loop-index-preserved : goal.loop-index-preserved
 loop-index-preserved g c =
     let place = c.loop-index.index in
     let answer = c.result_in-answer.result in
-    let Gives : ℕ → ℕ → Outcome → Type 0 = g.R.Results.gives c.args.results in
+    let Gives : ℕ → ℕ → Outcome → Type 0 = g.R.Results.gives c.args.results.now in
     let size : length c.loop-index.values ≡ c.args.count * c.args.width =
     c.loop-index.auto.values ∙ c.requires.values in
     let all : length c.loop-index.outcomes ≡ c.args.count = c.loop-index.auto.outcomes ∙ c.requires.outcomes in

@@ -1,7 +1,7 @@
-use Rattle.std.proofs.Common.{◌≡◌, ℕ, ◌*◌, length, ap, ◌∙◌, inr}
+use Rattle.std.proofs.Common.{◌≡◌, ℕ, ◌*◌, length, ap, ◌∙◌, inr, arith}
 use Rattle.apfloat_arrays.proofs.Places.{place_size}
 use Rattle.arrays_for_c.specs.ArrayCalls.{bytes_in}
-use Rattle.arrays_for_c.proofs.ElementCalls.{elements_more, place_within}
+use Rattle.arrays_for_c.proofs.ElementCalls.{elements_more, place_in, place_within, room_for}
 use Rattle.arrays_for_c.proofs.elements.elements.Goals as goal
 
 pub number_at-x-requires-clause-within : goal.number_at-x-requires-clause-within
@@ -15,6 +15,22 @@ number_at-y-requires-clause-within g c =
 pub number_at-z-requires-clause-within : goal.number_at-z-requires-clause-within
 number_at-z-requires-clause-within g c =
     place_within c.loop-index.index c.args.count c.args.width _ c.requires.operands.zs_are c.loop-index-test.true
+
+pub slice_bounds-target-end : goal.slice_bounds-target-end
+slice_bounds-target-end g c =
+    place_in c.loop-index.index c.args.count c.args.width _ (c.loop-index.auto.output ∙ c.requires.operands.output_is)
+    c.loop-index-test.true
+
+pub count-requires : goal.count-requires
+count-requires g c =
+    let so_far = c.loop-index.invariant in
+    room_for so_far.elements c.loop-index.counted so_far.counted_are
+    (omega (arith, so_far.places.size, c.loop-index-test.true))
+
+pub returns : goal.returns
+returns g c =
+    let last : c.loop-index.index ≡ c.args.count = omega (arith, c.loop-index-test.false, c.loop-index.auto.index-end) in
+    rw last at c.loop-index.invariant
 
 pub loop-index-preserved : goal.loop-index-preserved
 loop-index-preserved g c =

@@ -1,9 +1,9 @@
 use Rattle.std.proofs.Common.{◌≡◌, ℕ, ◌*◌, ◌/◌, ◌≤◌, length, ◌∙◌, sym, subst, arith}
 use Rattle.rustc_apfloat.specs.FlaggedTypes.{constants_of}
 use Rattle.apfloat_arrays.specs.{Blocks.AreInPlaces, scaled_blocks.Dequantized.IsScaledAt}
-use Rattle.apfloat_arrays.proofs.Places.{place_size}
+use Rattle.apfloat_arrays.proofs.Places.{place_size, room_for}
 use Rattle.apfloat_arrays.proofs.scaled_blocks_lemmas.Formats.{div_below, narrow_at}
-use Rattle.apfloat_arrays.proofs.scaled_blocks_lemmas.Scaled.{room_for, scaled_more, scaled_none}
+use Rattle.apfloat_arrays.proofs.scaled_blocks_lemmas.Scaled.{scaled_more, scaled_none}
 use Rattle.apfloat_arrays.proofs.scaled_blocks.dequantizing.write_each.Goals as goal
 
 pub loop-index-init : goal.loop-index-init

@@ -10,22 +10,35 @@ use Rattle.small_formats.specs.Storage.{format_with as stored_format}
 use Rattle.small_formats.specs.Types.{constants_of as storage_constants_of}
 use Rattle.small_formats.specs.blocks.{Elements.IsQuotientBy, Places.AreCounted}
 use Rattle.small_formats.proofs.blocks_lemmas.Greatest.{finite_at}
-use Rattle.small_formats.proofs.blocks_lemmas.Places.{AreWritten, all_written, length_set, one_written, room_for}
+use Rattle.small_formats.proofs.blocks_lemmas.Places.{AreWritten, all_written, length_set, none_written, one_written, room_for}
 use Rattle.apfloat_arrays.specs.{Blocks.value_at, Bytes.number_of}
 use Rattle.apfloat_arrays.specs.scaled_blocks.Values.{value_in, values_in}
 use Rattle.apfloat_arrays.specs.stored.NumberCodes.{IsCodedNumber, is_minus, quanta_in}
 use Rattle.apfloat_arrays.proofs.{FarNumbers.scale_is, scaled_blocks_lemmas.Elements.coded_quotient}
-use Rattle.apfloat_arrays.proofs.scaled_blocks_lemmas.{Fitting.value_within, Listed.values_at, Listed.values_length}
+use Rattle.apfloat_arrays.proofs.scaled_blocks_lemmas.{Fitting.index_within, Fitting.value_within, Listed.values_at, Listed.values_length}
 use Rattle.apfloat_arrays.proofs.{scaled_blocks_lemmas.Numbers.number_if, stored_lemmas.Numbers.number_read}
 use Rattle.apfloat_arrays.proofs.scaled_blocks.elements.write_numbers.Goals as goal
 
-pub slice_bounds-bits_in-end : goal.slice_bounds-bits_in-end
-slice_bounds-bits_in-end g c =
+pub value_at-requires : goal.value_at-requires
+value_at-requires g c =
     let call = c.args.call in
     let width : c.BITS-width.result / 8 ≡ c.args.call.width = omega (arith, c.requires.width, c.BITS-width.ensures) in
     subst (λ (w : ℕ). (call.first + c.loop-index.index) * w + w ≤ length call.values.now) (sym width)
     (value_within call.first c.loop-index.index (length c.args.codes.now) call.width (length call.values.now)
     c.loop-index-test.true c.requires.given.within)
+
+pub overflow_add-call : goal.overflow_add-call
+overflow_add-call g c =
+    let call = c.args.call in
+    let at = index_within call.first c.loop-index.index (length c.args.codes.now) call.width (length call.values.now)
+    c.loop-index-test.true c.requires.given.least c.requires.given.within in
+    record { fits = omega (arith, at) }
+
+pub loop-index-init : goal.loop-index-init
+loop-index-init g c = none_written _ _ _
+
+pub code_number-answer-requires-clause-most : goal.code_number-answer-requires-clause-most
+code_number-answer-requires-clause-most g c = c.requires.coded.few
 
 pub with-counts-requires : goal.with-counts-requires
 with-counts-requires g c = room_for c.loop-index.invariant (omega (arith, c.loop-index-test.true))
@@ -50,7 +63,7 @@ loop-index-preserved g c =
     let before : index < length codes = omega (arith, c.loop-index-test.true, size) in
     let width : c.BITS-width.result / 8 ≡ call.width = omega (arith, c.requires.width, c.BITS-width.ensures) in
     let bits_are : bits ≡ number_of (value_at call.width (call.first + index) call.values.now) =
-    c.bits_in-bits.ensures.is ∙ ap (λ (w : ℕ). number_of (value_at w (call.first + index) call.values.now)) width in
+    c.bits_in-bits.ensures.is ∙ ap number_of c.value_at.ensures.is ∙ ap (λ (w : ℕ). number_of (value_at w (call.first + index) call.values.now)) width in
     let number : is_finite (value_of k bits) ≡ true =
     ap (λ (n : ℕ). is_finite (value_of k n)) bits_are ∙ finite_at xs index x c.requires.given.finite
     (values_at k call.width call.values.now call.first (length c.args.codes.now) index c.loop-index-test.true) in

@@ -6,7 +6,7 @@ use Rattle.apfloat_arrays.proofs.short_sources.ShortenedValueConversion.convert.
 
 pub returns-else-is_nan : goal.returns-else-is_nan
 returns-else-is_nan g c =
-    let it = c.args.self in
+    let it = c.args.self.now in
     let from = constants_of g.S.Flagged in
     let short = constants_of g.Z.Flagged in
     let to = constants_of g.T.Flagged in

@@ -7,7 +7,7 @@ use Rattle.apfloat_arrays.proofs.stored.code_tables.fill_codes.Goals as goal
 
 pub loop-place-init : goal.loop-place-init
 loop-place-init g c =
-    let it = c.args.results in
+    let it = c.args.results.now in
     no_entries (IsLoaded it.overflow it.source (constants_of g.T.Flagged) it.round) outcome_tally c.args.table.now
 
 pub write_result-requires-clause-fits : goal.write_result-requires-clause-fits
@@ -16,7 +16,7 @@ write_result-requires-clause-fits g c =
 
 pub loop-place-preserved : goal.loop-place-preserved
 loop-place-preserved g c =
-    let it = c.args.results in
+    let it = c.args.results.now in
     let answer = c.result_in.result in
     let place = c.loop-place.place in
     let size : length c.loop-place.table ≡ 256 * 8 = c.loop-place.auto.table ∙ c.requires.table in

@@ -1,5 +1,5 @@
-use Rattle.std.proofs.Common.{◌≡◌, ◌*◌, [], length, refl, ◌∙◌}
-use Rattle.apfloat_arrays.proofs.Places.{place_size, places_none}
+use Rattle.std.proofs.Common.{◌≡◌, ℕ, ◌*◌, [], length, refl, ap, ◌∙◌, arith}
+use Rattle.apfloat_arrays.proofs.Places.{place_below, place_size, places_none, room_for}
 use Rattle.apfloat_arrays.specs.stored.ByMode.{IsStoredAt}
 use Rattle.apfloat_arrays.proofs.stored_lemmas.ByMode.{random_within, stored_more}
 use Rattle.apfloat_arrays.proofs.stored.by_mode.ModeConversion.convert.Goals as goal
@@ -17,6 +17,26 @@ random_at-random-requires c =
     random_within c.args.self.round c.loop-index.index c.args.count (length c.args.randoms.now)
     c.loop-index-test.true c.requires.randoms
 
+pub value_at-value-requires : goal.value_at-value-requires
+value_at-value-requires c =
+    omega (
+      arith,
+      place_below c.loop-index.index c.args.count c.width-width.result c.loop-index-test.true,
+      c.requires.input,
+      ap (λ (w : ℕ). c.args.count * w) c.width-width.ensures.is,
+    )
+
+pub count-requires : goal.count-requires
+count-requires c =
+    let so_far = c.loop-index.invariant in
+    room_for so_far.outcomes c.loop-index.counts so_far.counted
+    (omega (arith, so_far.places.size, c.loop-index-test.true))
+
+pub returns : goal.returns
+returns c =
+    let last : c.loop-index.index ≡ c.args.count = omega (arith, c.loop-index-test.false, c.loop-index.auto.index-end) in
+    rw last at c.loop-index.invariant
+
 pub loop-index-preserved : goal.loop-index-preserved
 loop-index-preserved c =
     let it = c.args.self in
@@ -28,4 +48,4 @@ loop-index-preserved c =
     (stored_more it c.args.randoms.now c.args.input.now c.width-width.result c.loop-index.index c.args.count
     c.random_at-random.result c.loop-index.output c.convert_value.new.output c.loop-index.counts
     c.convert_value.result c.width-width.ensures.is c.loop-index-test.true size long c.random_at-random.ensures
-    c.convert_value.ensures c.loop-index.invariant)
+    (rw c.value_at-value.ensures.is at c.convert_value.ensures) c.loop-index.invariant)
