@@ -80,7 +80,7 @@ pub trait Float: Copy
         ensures { result ≡ meaning.the_infinity };
 
     /// The positive quiet NaN without a payload (IEEE 754-2019 6.2).
-    final fn nan() -> Self
+    fn nan() -> Self
         ensures { result ≡ meaning.quiet_nan_of 0 }
     {
         Self::qnan(None)
