@@ -25,7 +25,7 @@ pub trait FloatConvert<T: Float>: Float {
 
     /// The value in `T`, rounded once to the nearest value, ties to even; `loses_info` says whether information was
     /// lost.
-    fn convert(self, loses_info: &mut bool) -> StatusAnd<T>
+    final fn convert(self, loses_info: &mut bool) -> StatusAnd<T>
         ensures { converts self NearestTiesToEven result loses_info.new }
     {
         self.convert_r(Round::NearestTiesToEven, loses_info)

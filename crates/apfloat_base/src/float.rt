@@ -80,7 +80,7 @@ pub trait Float: Copy
         ensures { result ≡ meaning.the_infinity };
 
     /// The positive quiet NaN without a payload (IEEE 754-2019 6.2).
-    final fn nan() -> Self
+    fn nan() -> Self
         ensures { result ≡ meaning.quiet_nan_of 0 }
     {
         Self::qnan(None)
@@ -179,7 +179,7 @@ pub trait Float: Copy
     }
 
     /// The value without its sign (IEEE 754-2019 5.5.1, abs). A NaN loses its sign too, and no flag is raised.
-    final fn abs(self) -> Self
+    fn abs(self) -> Self
         ensures { result ≡ (if meaning.sign_of self then meaning.negated self else self) }
     {
         if self.is_negative() { -self } else { self }
@@ -396,7 +396,7 @@ pub trait Float: Copy
     }
 
     /// Whether the value is finite (IEEE 754-2019 5.7.2, isFinite).
-    final fn is_finite(self) -> bool
+    fn is_finite(self) -> bool
         ensures { result ≡ is_finite_category (meaning.category_of self) }
     {
         !self.is_nan() && !self.is_infinite()
@@ -415,14 +415,14 @@ pub trait Float: Copy
         ensures { result ≡ meaning.denormal self };
 
     /// Whether the value is an infinity (IEEE 754-2019 5.7.2, isInfinite).
-    final fn is_infinite(self) -> bool
+    fn is_infinite(self) -> bool
         ensures { result ≡ is_infinite_category (meaning.category_of self) }
     {
         self.category() == Category::Infinity
     }
 
     /// Whether the value is a NaN, quiet or signaling (IEEE 754-2019 5.7.2, isNaN).
-    final fn is_nan(self) -> bool
+    fn is_nan(self) -> bool
         ensures { result ≡ is_nan_category (meaning.category_of self) }
     {
         self.category() == Category::NaN
@@ -445,7 +445,7 @@ pub trait Float: Copy
     }
 
     /// Whether the value is a nonzero number.
-    final fn is_finite_non_zero(self) -> bool
+    fn is_finite_non_zero(self) -> bool
         ensures { result ≡ is_finite_non_zero_category (meaning.category_of self) }
     {
         match self.category() {
@@ -531,7 +531,7 @@ pub trait Float: Copy
         ensures { meaning.scales self exp round result };
 
     /// The value times 2 to the power of `exp`, rounded once to the nearest value, ties to even.
-    final fn scalbn(self, exp: ExpInt) -> Self
+    fn scalbn(self, exp: ExpInt) -> Self
         ensures { meaning.scales self exp NearestTiesToEven result }
     {
         self.scalbn_r(exp, Round::NearestTiesToEven)

@@ -10,7 +10,7 @@ ghost use Rattle.apfloat_ieee.specs.FlaggedTypes.{format_of};
 ghost use Rattle.ieee_operations.specs.augmented.Payloads.{get_payload, set_payload, set_payload_signaling};
 ghost use Rattle.ieee_operations.specs.augmented.Payloads.{payload_from, payload_of, payload_bits};
 
-use apfloat_base::{Float, NonfiniteBehavior};
+use apfloat_base::{Float, NonfiniteBehavior, Round};
 use apfloat_ieee::{Flagged, IeeeFloat};
 use apfloat_words::power_of_two;
 
@@ -21,7 +21,7 @@ pub fn get_payload<S: Flagged>(x: IeeeFloat<S>) -> IeeeFloat<S>
     ensures { result ≡ get_payload (format_of S.Flagged) x }
 {
     if x.is_nan() {
-        IeeeFloat::from_u128(payload_of_nan(x)).value
+        IeeeFloat::from_u128_r(payload_of_nan(x), Round::NearestTiesToEven).value
     } else {
         IeeeFloat::from_i128(-1).value
     }

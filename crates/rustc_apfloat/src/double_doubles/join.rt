@@ -17,7 +17,8 @@ fn widened(part: Double) -> Fallback
     ensures { IsWidened part result }
 {
     let mut loses_info = false;
-    part.convert(&mut loses_info).value
+    part.convert_r(Round::NearestTiesToEven, &mut loses_info)
+        .value
 }
 
 /// The wide value of a pair, which `Fallback::from` describes.

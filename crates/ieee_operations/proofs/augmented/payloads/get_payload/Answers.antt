@@ -9,9 +9,9 @@ pub returns-then-is_nan : goal.returns-then-is_nan
 returns-then-is_nan g c =
     let f = format_of g.S.Flagged in
     let r = ranges_of (constants_of g.S.Flagged) g.S.Flagged.lawful in
-    payload_value f r.precision r.scale c.args.x c.from_u128.result.value (bits_of c.from_u128.result.status)
+    payload_value f r.precision r.scale c.args.x c.from_u128_r.result.value (bits_of c.from_u128_r.result.status)
     c.payload_of_nan.result (nan_class c.args.x _ (sym c.is_nan.ensures ∙ c.if-is_nan.true)) c.payload_of_nan.ensures
-    (payload_fits f c.args.x c.payload_of_nan.result c.payload_of_nan.ensures) c.from_u128.ensures
+    (payload_fits f c.args.x c.payload_of_nan.result c.payload_of_nan.ensures) c.from_u128_r.ensures
 
 pub returns-else-is_nan : goal.returns-else-is_nan
 returns-else-is_nan g c =
