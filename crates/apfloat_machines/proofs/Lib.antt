@@ -9,3 +9,4 @@ pub mod FlushedUsual
 pub mod FlushedSettling
 pub mod RaisedFlags
 pub mod Twos
+pub mod AlternativeHalves
