@@ -6,9 +6,9 @@ use Rattle.apfloat_model.specs.formats.{Format.Format, Datum.Datum, Datum.finite
 use Rattle.apfloat_model.specs.formats.{Lawful.Constants, Lawful.format_with, Nan.invalid_bit}
 use Rattle.apfloat_model.specs.{bits.Layout.fields_of, bits.Layout.implied_number, arithmetic.Conversions.IsConversion}
 
--- a format with the same numbers, and greater ones; Arm detects tininess before rounding
-abbrev pub wide_constants : Constants
-wide_constants =
+-- a format with the same numbers, and greater ones
+abbrev pub wide_constants : Bool → Constants
+wide_constants tiny_before =
     record {
       bits = 17;
       exp_bits = 6;
@@ -22,16 +22,18 @@ wide_constants =
       nan_payload_mask = 2 ^ 10 - 1;
       qnan_significand = 2 ^ 9;
       explicit_integer_bit = false;
-      tiny_before_rounding = true;
+      tiny_before_rounding = tiny_before;
       ieee_flags = true;
     }
 
-abbrev pub wide_half : Format
-wide_half = format_with wide_constants
+abbrev pub wide_half : Bool → Format
+wide_half tiny_before = format_with (wide_constants tiny_before)
 
 -- the number of 16 bits, five of them the exponent
 abbrev pub number_coded : ℕ → Datum
-number_coded bits = implied_number wide_half (fields_of wide_half (record { bits = 16; exponent_bits = 5 }) bits)
+number_coded bits =
+    let f = wide_half true in
+    implied_number f (fields_of f (record { bits = 16; exponent_bits = 5 }) bits)
 
 abbrev pub zero_code : Bool → ℕ
 zero_code negative = if negative then 2 ^ 15 else 0
@@ -45,12 +47,12 @@ has_code (finite b n) = ltb n (2 ^ 41)
 has_code (infinite b) = false
 has_code (nan b s) = false
 
--- a number rounded once; if it then has no code, the greatest one, which is invalid
+-- a number rounded once, tininess detected as in f; if it then has no code, the greatest one, which is invalid
 pub record IsNumberCoded (f : Format) (mode : Round) (negative : Bool) (quanta bits status : ℕ) : Type 0 where
   pub rounded : Datum
   pub flags : ℕ
   pub loses : Bool
-  pub is_rounded : IsConversion f wide_half mode (finite negative quanta) rounded flags loses
+  pub is_rounded : IsConversion f (wide_half f.tiny_before_rounding) mode (finite negative quanta) rounded flags loses
   pub is_coded : MatchBool (has_code rounded)
       ((bits < 2 ^ 16) × ((number_coded bits ≡ rounded) × (status ≡ flags)))
       ((bits ≡ greatest_code negative) × (status ≡ invalid_bit))
@@ -64,4 +66,4 @@ IsAlternativeHalf f mode (nan b s) bits status = (bits ≡ zero_code b) × (stat
 -- the number of these bits in a format g
 abbrev pub IsOfAlternativeHalf : Format → Round → ℕ → Datum → ℕ → Type 0
 IsOfAlternativeHalf g mode bits value status =
-    (loses : Bool) × IsConversion wide_half g mode (number_coded bits) value status loses
+    (loses : Bool) × IsConversion (wide_half true) g mode (number_coded bits) value status loses

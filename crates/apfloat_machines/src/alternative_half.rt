@@ -74,21 +74,18 @@ impl Semantics for WideHalfS {
     ghost lawful = { lawful_from_test _ refl };
 }
 
-/// The same with the flags of Arm.
-type ArmWideHalfS = IeeeFlags<TinyBefore<WideHalfS>>;
-
 /// The bits of a value in Arm's alternative half precision (FCVT with FPCR.AHP), of which no result is flushed. A number
-/// is rounded once, with the flags of Arm. If its magnitude is then 2^17 or more, in any mode, the result is the
-/// greatest number of its sign, 131008, and the flag is INVALID_OP alone; so it is of an infinity. A NaN gives the zero
-/// of its sign, with INVALID_OP.
+/// is rounded once, with the flags of IEEE 754-2019, tininess detected as in `S`. If its magnitude is then 2^17 or more,
+/// in any mode, the result is the greatest number of its sign, 131008, and the flag is INVALID_OP alone; so it is of an
+/// infinity. A NaN gives the zero of its sign, with INVALID_OP.
 pub fn to_alternative_half<S: Flagged>(x: IeeeFloat<S>, round: Round) -> StatusAnd<u16>
     ensures { Gives (IsAlternativeHalf (format_of S.Flagged) round x) result }
 {
     match x.category() {
         Category::NaN => Status::INVALID_OP.and(zero_code(x.is_negative())),
         Category::Infinity => Status::INVALID_OP.and(greatest_code(x.is_negative())),
-        Category::Normal => number_to_code::<S, ArmWideHalfS>(x, round),
-        Category::Zero => number_to_code::<S, ArmWideHalfS>(x, round),
+        Category::Normal => number_to_code(x, round),
+        Category::Zero => number_to_code(x, round),
     }
 }
 
@@ -97,12 +94,24 @@ pub fn to_alternative_half<S: Flagged>(x: IeeeFloat<S>, round: Round) -> StatusA
 pub fn from_alternative_half<T: Flagged>(bits: u16, round: Round) -> StatusAnd<IeeeFloat<T>>
     ensures { Gives (IsOfAlternativeHalf (format_of T.Flagged) round bits) result }
 {
-    code_to_number::<ArmWideHalfS, T>(bits, round)
+    code_to_number::<IeeeFlags<TinyBefore<WideHalfS>>, T>(bits, round)
+}
+
+/// The bits of a number.
+fn number_to_code<S: Flagged>(x: IeeeFloat<S>, round: Round) -> StatusAnd<u16>
+    requires { is_finite x ≡ true }
+    ensures { Gives (IsAlternativeHalf (format_of S.Flagged) round x) result }
+{
+    if S::TINY_BEFORE_ROUNDING {
+        rounded_to_code::<S, IeeeFlags<TinyBefore<WideHalfS>>>(x, round)
+    } else {
+        rounded_to_code::<S, IeeeFlags<WideHalfS>>(x, round)
+    }
 }
 
 /// The bits of a number, by way of the wide format.
-fn number_to_code<S: Flagged, W: Flagged>(x: IeeeFloat<S>, round: Round) -> StatusAnd<u16>
-    requires wide { constants_of W.Flagged ≡ wide_constants }
+fn rounded_to_code<S: Flagged, W: Flagged>(x: IeeeFloat<S>, round: Round) -> StatusAnd<u16>
+    requires wide { constants_of W.Flagged ≡ wide_constants S.TINY_BEFORE_ROUNDING }
     requires number { is_finite x ≡ true }
     ensures { Gives (IsAlternativeHalf (format_of S.Flagged) round x) result }
 {
@@ -116,7 +125,7 @@ fn number_to_code<S: Flagged, W: Flagged>(x: IeeeFloat<S>, round: Round) -> Stat
 
 /// The bits of a value, if it is a number of this precision.
 fn code_of<W: Flagged>(x: IeeeFloat<W>) -> Option<u16>
-    requires { constants_of W.Flagged ≡ wide_constants }
+    requires { constants_of W.Flagged ≡ wide_constants W.TINY_BEFORE_ROUNDING }
     ensures { MatchOption result (has_code x ≡ false) (λ code.
         (has_code x ≡ true) × ((code < 2 ^ 16) × (number_coded code ≡ x))) }
 {
@@ -131,7 +140,7 @@ fn code_of<W: Flagged>(x: IeeeFloat<W>) -> Option<u16>
 
 /// The value of these bits, by way of the wide format.
 fn code_to_number<W: Flagged, T: Flagged>(bits: u16, round: Round) -> StatusAnd<IeeeFloat<T>>
-    requires { constants_of W.Flagged ≡ wide_constants }
+    requires { constants_of W.Flagged ≡ wide_constants true }
     ensures { Gives (IsOfAlternativeHalf (format_of T.Flagged) round bits) result }
 {
     let mut loses_info = false;
@@ -140,7 +149,7 @@ fn code_to_number<W: Flagged, T: Flagged>(bits: u16, round: Round) -> StatusAnd<
 
 /// The number of these bits.
 fn number_coded<W: Flagged>(bits: u16) -> IeeeFloat<W>
-    requires { constants_of W.Flagged ≡ wide_constants }
+    requires { constants_of W.Flagged ≡ wide_constants true }
     ensures { result ≡ number_coded bits }
 {
     IeeeFloat::from_bits((bits / 0x8000) as u128 * 0x1_0000 + (bits % 0x8000) as u128)

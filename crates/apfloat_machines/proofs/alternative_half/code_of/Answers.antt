@@ -6,14 +6,14 @@ use Rattle.apfloat_machines.proofs.alternative_half.code_of.Goals as goal
 
 pub returns-then-magnitude-lt32768 : goal.returns-then-magnitude-lt32768
 returns-then-magnitude-lt32768 g c =
-    let bits = c.to_bits-bits.result in
-    let written = subst (λ (k : Constants). IsEncodedBy (format_with k) (layout_with k) bits c.args.x) c.requires
-    c.to_bits-bits.ensures.written in
-    coded bits c.args.x written c.if-magnitude-lt32768.true
+    coded g.W.Flagged.TINY_BEFORE_ROUNDING c.to_bits-bits.result c.args.x
+    (subst (λ (k : Constants). IsEncodedBy (format_with k) (layout_with k) c.to_bits-bits.result c.args.x) c.requires
+    c.to_bits-bits.ensures.written)
+    c.if-magnitude-lt32768.true
 
 pub returns-else-magnitude-lt32768 : goal.returns-else-magnitude-lt32768
 returns-else-magnitude-lt32768 g c =
-    let bits = c.to_bits-bits.result in
-    let written = subst (λ (k : Constants). IsEncodedBy (format_with k) (layout_with k) bits c.args.x) c.requires
-    c.to_bits-bits.ensures.written in
-    not_coded bits c.args.x written c.if-magnitude-lt32768.false
+    not_coded g.W.Flagged.TINY_BEFORE_ROUNDING c.to_bits-bits.result c.args.x
+    (subst (λ (k : Constants). IsEncodedBy (format_with k) (layout_with k) c.to_bits-bits.result c.args.x) c.requires
+    c.to_bits-bits.ensures.written)
+    c.if-magnitude-lt32768.false

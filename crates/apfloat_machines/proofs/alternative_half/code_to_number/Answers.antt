@@ -7,11 +7,10 @@ use Rattle.apfloat_machines.proofs.alternative_half.code_to_number.Goals as goal
 
 pub returns : goal.returns
 returns g c =
-    let given = c.convert_r.result in
-    (
+    let given = c.convert_r.result in (
       c.convert_r.new.loses_info,
       subst
-      (λ (k : Constants). IsConversion (format_with k) (format_of g.T.Flagged) c.args.round (number_coded c.args.bits)
-      given.value (bits_of given.status) c.convert_r.new.loses_info)
-      c.requires (rw c.number_coded.ensures at c.convert_r.ensures.converted),
+          (λ (k : Constants). IsConversion (format_with k) (format_of g.T.Flagged) c.args.round (number_coded c.args.bits)
+          given.value (bits_of given.status) c.convert_r.new.loses_info)
+          c.requires (rw c.number_coded.ensures at c.convert_r.ensures.converted),
     )
