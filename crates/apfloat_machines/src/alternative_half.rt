@@ -1,6 +1,7 @@
 //! Arm's alternative half precision: 16 bits without infinities and NaNs, whose greatest exponent is one of numbers.
 
-ghost use Rattle.std.specs.Prelude.{◌≡◌, ◌+◌, ◌-◌, ◌*◌, ◌/◌, ◌%◌, ◌^◌, ◌<◌, pos, negsuc, true, false, refl, MatchOption};
+ghost use Rattle.std.specs.Prelude.{◌≡◌, ◌+◌, ◌-◌, ◌*◌, ◌/◌, ◌%◌, ◌^◌, ◌<◌, pos, negsuc, true, false, refl};
+ghost use Rattle.std.specs.Prelude.{MatchOption};
 ghost use Rattle.apfloat_model.specs.declared.kinds.NonfiniteBehavior.TheVariants.{IEEE754};
 ghost use Rattle.apfloat_model.specs.{order.Classes.is_finite, rounding.Flags.Gives};
 ghost use Rattle.apfloat_model.proofs.formats.LawTest.{lawful_from_test};
@@ -74,10 +75,11 @@ impl Semantics for WideHalfS {
     ghost lawful = { lawful_from_test _ refl };
 }
 
-/// The bits of a value in Arm's alternative half precision (FCVT with FPCR.AHP), of which no result is flushed. A number
-/// is rounded once, with the flags of IEEE 754-2019, tininess detected as in `S`. If its magnitude is then 2^17 or more,
-/// in any mode, the result is the greatest number of its sign, 131008, and the flag is INVALID_OP alone; so it is of an
-/// infinity. A NaN gives the zero of its sign, with INVALID_OP.
+/// The bits of a value in Arm's alternative half precision (FCVT with FPCR.AHP), of which no result is flushed.
+///
+/// A number is rounded once, with the flags of IEEE 754-2019, tininess detected as in `S`. If its magnitude is then
+/// 2^17 or more, in any mode, the result is the greatest number of its sign, 131008, and the flag is INVALID_OP alone;
+/// so it is of an infinity. A NaN gives the zero of its sign, with INVALID_OP.
 pub fn to_alternative_half<S: Flagged>(x: IeeeFloat<S>, round: Round) -> StatusAnd<u16>
     ensures { Gives (IsAlternativeHalf (format_of S.Flagged) round x) result }
 {

@@ -182,7 +182,7 @@ pub record IsFinishedBy (c : Constants) (rounding : Rounding) (control : Control
   pub is_told : IsTold c given plain
   pub is_value : IsValue (in_format c) (IsFinished (format_with c) rounding control plain) answer
 
--- whether the result is left as it is: an operand, as of MINSS and VRANGE, and of FMIN with FPCR.AH, and the bits of an
+-- whether the result is left as it is: an operand, as of MINSS, VRANGE, and FMIN with FPCR.AH, and the bits of an
 -- alternative half
 abbrev pub is_left_alone : MachineCall → Bool
 is_left_alone (Operation (Least Second x y)) = true

@@ -1,5 +1,6 @@
 -- The operations of machines, as their export makes them.
-use Rattle.std.specs.Prelude.{◌≡◌, ℕ, ◌/◌, ◌%◌, ◌^◌, ◌==◌, ltb, pos, Bool, true, false, not, ◌&&◌, if◌then◌else◌, Option, Some}
+use Rattle.std.specs.Prelude.{◌≡◌, ℕ, ◌/◌, ◌%◌, ◌^◌, ◌==◌, ltb, pos, Bool, true, false, not, ◌&&◌, if◌then◌else◌}
+use Rattle.std.specs.Prelude.{Option, Some}
 use Rattle.std.specs.Prelude.{None, ok_or, option_and_then, option_map, Result, Ok, Err, [], ◌∷◌}
 use Rattle.std.specs.Int.{w128, cast_unsigned}
 use Rattle.apfloat_model.specs.declared.kinds.NonfiniteBehavior.TheVariants.{IEEE754}
@@ -9,7 +10,8 @@ use Rattle.rustc_apfloat.specs.declared.{Round.Round, StatusAnd.StatusAnd}
 use Rattle.apfloat_machines.specs.declared.{machine.Machine.Machine, minima.MinimumRule.MinimumRule}
 use Rattle.apfloat_machines.specs.declared.minima.MinimumRule.TheVariants.{Second, SecondQuietly, FirstNan, Number2008}
 use Rattle.apfloat_machines.specs.declared.minima.MinimumRule.TheVariants.{Number2019, Propagated}
-use Rattle.apfloat_machines.specs.declared.ranges.{RangeRule.RangeRule, RangeSign.RangeSign, RangeSign.TheVariants.OfFirst}
+use Rattle.apfloat_machines.specs.declared.ranges.{RangeRule.RangeRule, RangeSign.RangeSign}
+use Rattle.apfloat_machines.specs.declared.ranges.{RangeSign.TheVariants.OfFirst}
 use Rattle.apfloat_machines.specs.declared.ranges.RangeSign.TheVariants.{OfChosen, Positive, Negative}
 use Rattle.apfloat_machines.specs.{AlternativeHalves.IsAlternativeHalf, AlternativeHalves.IsOfAlternativeHalf}
 use Rattle.apfloat_machines.specs.{Conversions.IsMachineConversion, Ranges.IsRange}

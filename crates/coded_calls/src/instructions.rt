@@ -372,7 +372,7 @@ impl InFlaggedFormat for Finishing {
     }
 }
 
-/// Whether the result is left as it is: an operand, as of MINSS and VRANGE, and of FMIN with FPCR.AH, and the bits of an
+/// Whether the result is left as it is: an operand, as of MINSS, VRANGE, and FMIN with FPCR.AH, and the bits of an
 /// alternative half.
 fn is_left_alone(call: MachineCall) -> bool
     ensures { result ≡ is_left_alone call }

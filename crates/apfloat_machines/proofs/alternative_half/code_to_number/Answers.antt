@@ -7,10 +7,12 @@ use Rattle.apfloat_machines.proofs.alternative_half.code_to_number.Goals as goal
 
 pub returns : goal.returns
 returns g c =
-    let given = c.convert_r.result in (
-      c.convert_r.new.loses_info,
+    let given = c.convert_r.result in
+    let loses = c.convert_r.new.loses_info in
+    let number = number_coded c.args.bits in (
+      loses,
       subst
-          (λ (k : Constants). IsConversion (format_with k) (format_of g.T.Flagged) c.args.round (number_coded c.args.bits)
-          given.value (bits_of given.status) c.convert_r.new.loses_info)
+          (λ (k : Constants).
+          IsConversion (format_with k) (format_of g.T.Flagged) c.args.round number given.value (bits_of given.status) loses)
           c.requires (rw c.number_coded.ensures at c.convert_r.ensures.converted),
     )
