@@ -9,10 +9,11 @@ pub returns : goal.returns
 returns g c =
     let given = c.convert_r.result in
     let loses = c.convert_r.new.loses_info in
-    let number = number_coded c.args.bits in (
+    let number = number_coded c.args.bits in
+    let target = format_of g.T.Flagged in (
       loses,
       subst
           (λ (k : Constants).
-          IsConversion (format_with k) (format_of g.T.Flagged) c.args.round number given.value (bits_of given.status) loses)
+          IsConversion (format_with k) target c.args.round number given.value (bits_of given.status) loses)
           c.requires (rw c.number_coded.ensures at c.convert_r.ensures.converted),
     )
