@@ -554,7 +554,8 @@ static void write_word(int place, uint64_t bits) {
 static void write_line(const Instruction *made) {
     static const uint32_t PRECISIONS[] = {0, 0, DIGITS_24, DIGITS_53};
     const Format *f = format_of(made->operation == APFLOAT_FROM_ALTERNATIVE_HALF ? APFLOAT_HALF : made->format);
-    const bool is_unit = made->format == APFLOAT_X87 || made->to == APFLOAT_X87;
+    const bool to_unit = made->operation == APFLOAT_CONVERT && made->to == APFLOAT_X87;
+    const bool is_unit = made->format == APFLOAT_X87 || to_unit;
     Setting setting = drawn_setting();
     uint64_t x[3] = {0};
     uint32_t flags;
