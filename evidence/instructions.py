@@ -116,6 +116,8 @@ def valued(form, target, machine, call, rule, mode, control, data):
         # MINSS, and FMIN with FPCR.AH, do not flush.
         if rule == "second":
             return result
+    elif call == "range":
+        return machines.ranged(form, rule, *data)
     elif call in REMAINDERS:
         result = machines.settled(form, machine, data, REMAINDERS[call](form, *data))
     elif call == "round_to_integral":
@@ -151,7 +153,7 @@ def line(call, name, machine_name, mode, control, to, drawn):
     else:
         if call == "convert":
             target = with_ieee_flags(FORMATS[to])[machine.tiny_before_rounding]
-        rule = to if call in ("least", "greatest") else None
+        rule = to if call in ("least", "greatest", "range") else None
         value, flags = valued(form, target, machine, call, rule, mode, control, data)
         bits = hexes(target, encoded(target, value))
         is_up = False
@@ -244,6 +246,72 @@ def rows(draw):
         for machine_name in names_of_machines:
             for turn in range(28):
                 yield drawn_line(draw, call, machine_name, turn)
+
+
+def line_of_half(call, name, machine_name, mode, control, bits):
+    """A row of the alternative half precision, from a value of a format or to one; results are flushed only to one."""
+    machine, to_half = MACHINES[machine_name], call == "to_alternative_half"
+    form = with_ieee_flags(FORMATS[name])[machine.tiny_before_rounding]
+    half = machines.ALTERNATIVE_HALF
+    rounding = Mode.ZERO if mode == odd.ODD else mode
+    told = 0
+    if to_half:
+        x = decoded(form, bits)
+        denormal = is_denormal(form, x)
+        if control & ZEROS and denormal:
+            x = number(form, x.negative, 0)
+        value, result, flags = machines.to_alternative_half(form, x, rounding)
+        told = int(denormal)
+        operand, result, source, target = hexes(form, bits), f"{result:04x}", form, half
+    else:
+        x = machines.of_alternative_half(bits)
+        converted = converted_to_odd(half, form, x) if mode == odd.ODD else convert(half, form, x, mode)[:2]
+        value, flags = machines.flushed(form, machine, converted) if control & FLUSH else converted
+        operand, result, source, target = f"{bits:04x}", hexes(form, encoded(form, value)), half, form
+    if control & UP and flags & INEXACT:
+        is_up = isinstance(value, Infinite) or fraction(target, value) > fraction(source, x)
+        told += 2 * is_up
+    said = mode if mode == odd.ODD else mode.value
+    return "\t".join((call, f"{name}@{machine_name}", f"{said} {control} 0", operand, result, names(flags), str(told)))
+
+
+def near_half(form, draw):
+    """Bits of a value near the ends and between the numbers of the alternative half precision."""
+    exponent = (draw.between(-26, -13), draw.between(15, 18), draw.between(-14, 16))[draw.between(0, 2)]
+    exponent = max(form.least_exponent, min(form.greatest_exponent, exponent))
+    digits = form.precision - 1
+    trailing = draw.wide_word() % (1 << digits)
+    kept = min(digits, 11)
+    if draw.between(0, 1):
+        trailing = (trailing >> digits - kept << digits - kept) + draw.between(-1, 1)
+    if draw.between(0, 2) == 0:
+        trailing = -1 - draw.between(0, 1) * (1 << max(digits - 11, 0))
+    return Encoding(form).normal(draw.between(0, 1), trailing % (1 << digits), exponent)
+
+
+def rows_of_ranges(draw):
+    """Rows of VRANGE, with pairs of the same magnitude."""
+    for turn in range(12 * 16):
+        name = FORMS[turn % len(FORMS)]
+        form = FORMATS[name]
+        drawn = [operand(form, draw), operand(form, draw)]
+        if turn % 3 == 2:
+            drawn[1] = drawn[0] ^ draw.between(0, 1) << form.bits - 1
+        yield line("range", name, "x86", MODES[0], draw.between(0, 7), turn % 16, drawn)
+
+
+def rows_of_halves(draw):
+    """Rows of the alternative half precision of Arm."""
+    for machine_name in machines.EXTENDED:
+        for turn in range(12 * len(FORMS)):
+            name, form = FORMS[turn % len(FORMS)], FORMATS[FORMS[turn % len(FORMS)]]
+            mode, control = (*MODES, odd.ODD)[draw.between(0, len(MODES))], draw.between(0, 7)
+            bits = operand(form, draw) if turn % 3 == 0 else near_half(form, draw)
+            yield line_of_half("to_alternative_half", name, machine_name, mode, control, bits)
+        for turn in range(4 * len(FORMS)):
+            mode, control = (*MODES, odd.ODD)[draw.between(0, len(MODES))], draw.between(0, 7)
+            bits = draw.word() % (1 << 16)
+            yield line_of_half("from_alternative_half", FORMS[turn % len(FORMS)], machine_name, mode, control, bits)
 
 
 def with_digits(form, draw, count, exponent):
@@ -362,7 +430,8 @@ def main():
     """Prints the file."""
     print("# Operations of machines with control words. Computed by evidence/instructions.py.")
     draw = Generator()
-    print("\n".join((*rows(draw), *rows_of_precisions(draw), *rows_of_unmasked(draw))))
+    parts = (rows, rows_of_precisions, rows_of_unmasked, rows_of_ranges, rows_of_halves)
+    print("\n".join(row for part in parts for row in part(draw)))
 
 
 if __name__ == "__main__":

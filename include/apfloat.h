@@ -560,6 +560,12 @@ typedef enum apfloat_operation APFLOAT_CODE {
     APFLOAT_TO_I128_MODULO = 16,   /* toward zero, modulo 2 to the power of `to`, in the range of APFLOAT_TO_I128 and
                                       with its flags; 0 for infinities and NaNs (FJCVTZS, FCVTMOD.W.D) */
     APFLOAT_MUL_EXTENDED = 17,     /* an infinity times a zero is 2 with the sign of the product, no flag (FMULX) */
+    APFLOAT_RANGE = 18,            /* VRANGEPS and its forms, with `to` for the lower four bits of their imm8 */
+    /* A value to and from the 16 bits of Arm's alternative half precision (FCVT with FPCR.AHP). What rounds to 2^17 or
+     * more, and an infinity, is 131008 with its sign, and a NaN 0 with its sign, each with APFLOAT_INVALID_OP alone.
+     * APFLOAT_TO_ODD is taken for APFLOAT_TOWARD_ZERO in the first, whose result is never flushed. */
+    APFLOAT_TO_ALTERNATIVE_HALF = 19,
+    APFLOAT_FROM_ALTERNATIVE_HALF = 20,
     APFLOAT_OPERATION_BITS = 0x7fffffff
 } apfloat_operation;
 
@@ -633,8 +639,9 @@ typedef enum apfloat_rule APFLOAT_CODE {
  * to an unknown format; APFLOAT_UNKNOWN_MACHINE; APFLOAT_WIDE_OPERAND if an operand has bits at or above the width of
  * its format, which other functions ignore; APFLOAT_WRONG_WIDTH; and APFLOAT_LACKING_OPERATION for fused sums of
  * APFLOAT_MACHINE_X87 and .._M68K, for unsigned integers of these, .._MIPS_2008 and .._SPARC, and for
- * APFLOAT_TO_I128_MODULO and APFLOAT_MUL_EXTENDED of machines other than those of AArch64, which both have, and
- * .._RISC_V, which has the first. */
+ * the operations from APFLOAT_TO_I128_MODULO on of machines other than those of AArch64, which have all of them but
+ * APFLOAT_RANGE, .._X86, which has this one, and .._RISC_V, which has the first. `to` is wrong in APFLOAT_RANGE, too, as
+ * a rule is, if it is above 15. */
 apfloat_error apfloat_machine(apfloat_machine_kind machine, apfloat_operation operation, apfloat_format format,
                               apfloat_mode mode, uint32_t to, apfloat_halves x, apfloat_halves y, apfloat_halves z,
                               apfloat_answer *answer);
@@ -643,8 +650,8 @@ apfloat_error apfloat_machine(apfloat_machine_kind machine, apfloat_operation op
  * it in name, and .._PTX. */
 typedef enum apfloat_control APFLOAT_CODE {
     /* Tiny results, exact ones too, are zeros of their sign, with APFLOAT_UNDERFLOW, and with APFLOAT_INEXACT but on
-     * .._ARM and .._ARM_DEFAULT_NAN (FTZ, FPCR.FZ); not those of APFLOAT_RULE_SECOND, which are operands. On .._X86
-     * instructions in half do neither. */
+     * .._ARM and .._ARM_DEFAULT_NAN (FTZ, FPCR.FZ); not those of APFLOAT_RULE_SECOND and APFLOAT_RANGE, which are
+     * operands. On .._X86 instructions in half do neither. */
     APFLOAT_FLUSH_RESULTS = 1,
     APFLOAT_DENORMALS_ARE_ZEROS = 2, /* denormal operands are zeros of their sign (DAZ, FPCR.FIZ, FPCR.FZ) */
     APFLOAT_TELL_ROUNDED_UP = 4,     /* computes the result twice, if it has to */

@@ -1633,6 +1633,9 @@ enum class machine_operation : std::uint32_t {
     mul_extended = APFLOAT_MUL_EXTENDED
 };
 
+/// The sign of what `range_on` gives: that of the first operand, that of the operand that is chosen, plus, or minus.
+enum class range_sign : std::uint32_t { of_first, of_chosen, positive, negative };
+
 /// What a minimum or a maximum of a machine is if an operand is a NaN, or both are zeros.
 enum class minimum_rule : std::uint32_t {
     second = APFLOAT_RULE_SECOND,
@@ -1647,13 +1650,19 @@ namespace detail {
 
 template <class F>
 expected<apfloat_answer> delivered(machine on, apfloat_operation operation, rounding mode, std::uint32_t to,
-                                   const value<F> &x, const value<F> &y, const value<F> &z) noexcept {
+                                   apfloat_halves x, apfloat_halves y, apfloat_halves z) noexcept {
     static_assert(F::has_ieee_flags, "machines have the formats with a choice of flags");
     apfloat_answer answer = {{0, 0}, 0, 0};
     const apfloat_error code = apfloat_machine(static_cast<apfloat_machine_kind>(on), operation, F::code, code_of(mode),
-                                               to, x.halves(), y.halves(), z.halves(), &answer);
+                                               to, x, y, z, &answer);
     if (code != APFLOAT_ANSWERED) return static_cast<errc>(code);
     return answer;
+}
+
+template <class F>
+expected<apfloat_answer> delivered(machine on, apfloat_operation operation, rounding mode, std::uint32_t to,
+                                   const value<F> &x, const value<F> &y, const value<F> &z) noexcept {
+    return delivered<F>(on, operation, mode, to, x.halves(), y.halves(), z.halves());
 }
 
 template <class F>
@@ -1690,6 +1699,29 @@ template <class F>
 expected<result<value<F>>> greatest_on(machine on, minimum_rule rule, const value<F> &x, const value<F> &y) noexcept {
     return detail::as_value<F>(detail::delivered(on, APFLOAT_GREATEST, rounding::nearest_even,
                                                  static_cast<std::uint32_t>(rule), x, y, y));
+}
+
+/// VRANGEPS and its forms, of x86: the extremum that bits 1:0 of their immediate operand choose, with a sign.
+template <class F>
+expected<result<value<F>>> range_on(machine on, extremum which, range_sign sign, const value<F> &x,
+                                    const value<F> &y) noexcept {
+    const std::uint32_t rule = static_cast<std::uint32_t>(which) + 4 * static_cast<std::uint32_t>(sign);
+    return detail::as_value<F>(detail::delivered(on, APFLOAT_RANGE, rounding::nearest_even, rule, x, y, y));
+}
+
+/// The bits of the value in Arm's alternative half precision, whose greatest exponent is one of numbers (FPCR.AHP).
+template <class F>
+expected<result<std::uint16_t>> to_alternative_half_on(machine on, const value<F> &x, rounding mode) noexcept {
+    const auto answer = detail::delivered(on, APFLOAT_TO_ALTERNATIVE_HALF, mode, 0, x, x, x);
+    if (!answer) return answer.error();
+    return result<std::uint16_t>{static_cast<std::uint16_t>(answer->bits.low), flags::of_code(answer->status)};
+}
+
+/// The value of bits of Arm's alternative half precision.
+template <class F>
+expected<result<value<F>>> from_alternative_half_on(machine on, std::uint16_t bits, rounding mode) noexcept {
+    const apfloat_halves x = {bits, 0};
+    return detail::as_value<F>(detail::delivered<F>(on, APFLOAT_FROM_ALTERNATIVE_HALF, mode, 0, x, x, x));
 }
 
 /// The value rounded to an integer, as a machine does it.

@@ -1745,6 +1745,7 @@ _OF_MACHINES = {'add': 2, 'sub': 2, 'mul': 2, 'div': 2, 'remainder': 2, 'fmod': 
                 'round_to_integral': 1, 'integral': 1}
 _RULES = ('second', 'second_quietly', 'first_nan', 'number_2008', 'number_2019', 'propagated')
 _CONVERT, _TO_U128, _TO_I128, _LEAST, _GREATEST = 11, 12, 13, 14, 15
+_RANGE, _TO_ALTERNATIVE_HALF, _FROM_ALTERNATIVE_HALF = 18, 19, 20
 
 
 def _with_underscores(words: str) -> str:
@@ -1821,6 +1822,33 @@ class Machine:
     def greatest(self, rule: str, x: Value, y: Value) -> Value:
         """The greater of two values, by a rule."""
         return self._extreme(_GREATEST, rule, x, y)
+
+    def vrange(self, immediate: int, x: Value, y: Value) -> Value:
+        """What VRANGE of x86 gives for the lower four bits of its immediate operand.
+
+        >>> machine('x86').vrange(0b1111, half(-2), half(1))
+        half('-2.0')
+        """
+        return Value(x.format, _whole(self._answer(_RANGE, immediate, x, y).bits))
+
+    def to_alternative_half(self, x: Value) -> int:
+        """The bits of the value in Arm's alternative half precision (FPCR.AHP).
+
+        >>> hex(machine('arm').to_alternative_half(single(131008)))
+        '0x7fff'
+        """
+        return _whole(self._answer(_TO_ALTERNATIVE_HALF, 0, x).bits)
+
+    def from_alternative_half(self, bits: int, to: Format) -> Value:
+        """The value of these 16 bits.
+
+        >>> machine('arm').from_alternative_half(0x7fff, single)
+        single('131008.0')
+        """
+        halves = _halves(bits)
+        answer = _call('machine', _MACHINES.index(self.name) + 1, _FROM_ALTERNATIVE_HALF, to.code, context().mode, 0,
+                       halves, halves, halves)
+        return Value(to, _whole(answer.bits))
 
     def _extreme(self, operation: int, rule: str, x: Value, y: Value) -> Value:
         word = _with_underscores(rule)

@@ -3,11 +3,12 @@
 The tables are those of docs/MACHINES.md, written once more.
 """
 
+from dataclasses import replace
 from typing import NamedTuple
 
 from exact import conversions, integers
 from exact.data import Finite, Infinite, is_nan, is_signaling, number, qnan, quieted
-from exact.formats import FORMATS, with_ieee_flags
+from exact.formats import FORMATS, Format, with_ieee_flags
 from exact.operations import total_cmp
 from exact.rounding import Mode
 from exact.status import INEXACT, INVALID_OP, OK, UNDERFLOW
@@ -70,6 +71,9 @@ MODULO = ("arm", "arm_default_nan", "arm_alternate", "arm_alternate_default_nan"
 
 # Those that have products of which an infinity times a zero is 2.
 EXTENDED = MODULO[:4]
+
+# The numbers of Arm's alternative half precision, and greater ones.
+ALTERNATIVE_HALF = Format("alternative half", 0, 0, 11, -14, 47)
 
 RULES = ("second", "second_quietly", "first_nan", "number_2008", "number_2019", "propagated")
 
@@ -231,6 +235,39 @@ def extremum(form, machine, rule, is_least, x, y):
     if nans:
         return y if is_nan(x) else x, flags
     return best, flags
+
+
+def ranged(form, code, x, y):
+    """What VRANGE gives for the lower four bits of its imm8, with its flags."""
+    for z in (x, y):
+        if is_nan(z) and is_signaling(form, z):
+            return quieted(form, z), INVALID_OP
+    if is_nan(x) or is_nan(y):
+        chosen = y if is_nan(x) and not is_nan(y) else x
+    else:
+        order = total_cmp(form, *(replace(z, negative=False) for z in (x, y))) if code & 2 else 0
+        side = 1 if code & 1 else -1
+        chosen = y if (order or total_cmp(form, x, y)) == -side else x
+    return replace(chosen, negative=(x.negative, chosen.negative, False, True)[code >> 2]), OK
+
+
+def to_alternative_half(form, x, mode):
+    """The number and the bits of a value in the alternative half precision, with the flags."""
+    sign = x.negative << 15
+    if is_nan(x):
+        return None, sign, INVALID_OP
+    wide = with_ieee_flags(ALTERNATIVE_HALF)[form.tiny_before_rounding]
+    rounded, flags = conversions.convert(form, wide, x, mode)[:2]
+    if isinstance(rounded, Infinite) or rounded.quanta >> 41:
+        return None, sign | 0x7fff, INVALID_OP
+    lost = max(rounded.quanta.bit_length() - 11, 0)
+    return rounded, sign | (lost << 10) + (rounded.quanta >> lost), flags
+
+
+def of_alternative_half(bits):
+    """The number of bits of the alternative half precision."""
+    field, trailing = bits >> 10 & 31, bits & 1023
+    return Finite(bool(bits >> 15), (1024 + trailing) << field - 1 if field else trailing)
 
 
 def without_sign_of_zero(x):

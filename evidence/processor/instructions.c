@@ -147,6 +147,14 @@ UNIT(x87_of_s, "flds %[x]\n\tfstpt %[r]") UNIT(x87_of_d, "fldl %[x]\n\tfstpt %[r
 #define TWO_rndscale(S) "vrndscales" S " $4, %%xmm1, %%xmm1, %%xmm0"
 TWO(to_u32) TWO(to_u64) TWO(rndscale)
 #endif
+#ifdef __AVX512DQ__
+#define RANGE(N)                                                                                                       \
+    STEP(range##N##_s, "vrangess $" #N ", %%xmm2, %%xmm1, %%xmm0")                                                     \
+    STEP(range##N##_d, "vrangesd $" #N ", %%xmm2, %%xmm1, %%xmm0")
+#define RANGED(N) BOTH(range##N, APFLOAT_RANGE, N, ANY_MODE)
+RANGE(0) RANGE(1) RANGE(2) RANGE(3) RANGE(4) RANGE(5) RANGE(6) RANGE(7)
+RANGE(8) RANGE(9) RANGE(10) RANGE(11) RANGE(12) RANGE(13) RANGE(14) RANGE(15)
+#endif
 #ifdef __AVX512BF16__
 STEP(vcvtneps2bf16, "vcvtneps2bf16 %%xmm1, %%xmm0")
 #endif
@@ -192,6 +200,10 @@ static const Instruction INSTRUCTIONS[] = {
 #ifdef __AVX512F__
     BOTH(to_u32s, APFLOAT_TO_U128, 32, ANY_MODE), BOTH(to_u64s, APFLOAT_TO_U128, 64, ANY_MODE),
     BOTH(rndscales, APFLOAT_ROUND_TO_INTEGRAL, 0, ANY_MODE),
+#endif
+#ifdef __AVX512DQ__
+    RANGED(0), RANGED(1), RANGED(2), RANGED(3), RANGED(4), RANGED(5), RANGED(6), RANGED(7),
+    RANGED(8), RANGED(9), RANGED(10), RANGED(11), RANGED(12), RANGED(13), RANGED(14), RANGED(15),
 #endif
 #ifdef __AVX512BF16__
     {"vcvtneps2bf16", vcvtneps2bf16, APFLOAT_CONVERT, APFLOAT_SINGLE, APFLOAT_BFLOAT, ANY_MODE},
@@ -253,6 +265,10 @@ THREE(fmadd) THREE(fmsub) THREE(fnmadd) THREE(fnmsub) TWO(fnmul)
 STEP(fjcvtzs, "fjcvtzs w0, d1")
 STEP(fcvt_h_s, "fcvt s0, h1") STEP(fcvt_h_d, "fcvt d0, h1") STEP(fcvt_s_h, "fcvt h0, s1") STEP(fcvt_s_d, "fcvt d0, s1")
 STEP(fcvt_d_h, "fcvt h0, d1") STEP(fcvt_d_s, "fcvt s0, d1") STEP(bfcvt, "bfcvt h0, s1")
+// With FPCR.AHP.
+#define ALTERNATIVE(NAME, STEPS) STEP(NAME, "mrs x9, fpcr\n\torr x9, x9, #0x4000000\n\tmsr fpcr, x9\n\t" STEPS)
+ALTERNATIVE(alternative_h_s, "fcvt s0, h1") ALTERNATIVE(alternative_h_d, "fcvt d0, h1")
+ALTERNATIVE(alternative_s_h, "fcvt h0, s1") ALTERNATIVE(alternative_d_h, "fcvt h0, d1")
 #define EACH(NAME, OPERATION, TO, MODE)                                                                                \
     {#NAME "_h", NAME##_h, OPERATION, APFLOAT_HALF, TO, MODE}, BOTH(NAME, OPERATION, TO, MODE)
 #define CONVERSION(NAME, FROM, TO) {#NAME, NAME, APFLOAT_CONVERT, FROM, TO, ANY_MODE}
@@ -277,6 +293,10 @@ static const Instruction INSTRUCTIONS[] = {
     CONVERSION(fcvt_s_h, APFLOAT_SINGLE, APFLOAT_HALF), CONVERSION(fcvt_s_d, APFLOAT_SINGLE, APFLOAT_DOUBLE),
     CONVERSION(fcvt_d_h, APFLOAT_DOUBLE, APFLOAT_HALF), CONVERSION(fcvt_d_s, APFLOAT_DOUBLE, APFLOAT_SINGLE),
     CONVERSION(bfcvt, APFLOAT_SINGLE, APFLOAT_BFLOAT),
+    {"alternative_h_s", alternative_h_s, APFLOAT_FROM_ALTERNATIVE_HALF, APFLOAT_SINGLE, 0, ANY_MODE},
+    {"alternative_h_d", alternative_h_d, APFLOAT_FROM_ALTERNATIVE_HALF, APFLOAT_DOUBLE, 0, ANY_MODE},
+    {"alternative_s_h", alternative_s_h, APFLOAT_TO_ALTERNATIVE_HALF, APFLOAT_SINGLE, 0, ANY_MODE},
+    {"alternative_d_h", alternative_d_h, APFLOAT_TO_ALTERNATIVE_HALF, APFLOAT_DOUBLE, 0, ANY_MODE},
 };
 
 #elif defined(__riscv)
@@ -493,7 +513,9 @@ static int operand_count(uint32_t operation) {
     case APFLOAT_CONVERT:
     case APFLOAT_TO_U128:
     case APFLOAT_TO_I128:
-    case APFLOAT_TO_I128_MODULO: return 1;
+    case APFLOAT_TO_I128_MODULO:
+    case APFLOAT_TO_ALTERNATIVE_HALF:
+    case APFLOAT_FROM_ALTERNATIVE_HALF: return 1;
     default: return 2;
     }
 }
@@ -504,6 +526,7 @@ static int result_width(const Instruction *made) {
     case APFLOAT_TO_U128:
     case APFLOAT_TO_I128:
     case APFLOAT_TO_I128_MODULO: return (int)made->to;
+    case APFLOAT_TO_ALTERNATIVE_HALF: return 16;
     }
     const Format *f = format_of(made->operation == APFLOAT_CONVERT ? made->to : made->format);
     return 1 + f->field_bits + f->trailing;
@@ -530,8 +553,9 @@ static void write_word(int place, uint64_t bits) {
 
 static void write_line(const Instruction *made) {
     static const uint32_t PRECISIONS[] = {0, 0, DIGITS_24, DIGITS_53};
-    const Format *f = format_of(made->format);
-    const bool is_unit = made->format == APFLOAT_X87 || made->to == APFLOAT_X87;
+    const Format *f = format_of(made->operation == APFLOAT_FROM_ALTERNATIVE_HALF ? APFLOAT_HALF : made->format);
+    const bool to_unit = made->operation == APFLOAT_CONVERT && made->to == APFLOAT_X87;
+    const bool is_unit = made->format == APFLOAT_X87 || to_unit;
     Setting setting = drawn_setting();
     uint64_t x[3] = {0};
     uint32_t flags;

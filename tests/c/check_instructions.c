@@ -27,7 +27,9 @@ static const struct code calls[] = {
     {"to_u128", APFLOAT_TO_U128}, {"integral", APFLOAT_INTEGRAL},
     {"to_i128", APFLOAT_TO_I128}, {"least", APFLOAT_LEAST},
     {"greatest", APFLOAT_GREATEST}, {"to_i128_modulo", APFLOAT_TO_I128_MODULO},
-    {"mul_extended", APFLOAT_MUL_EXTENDED}};
+    {"mul_extended", APFLOAT_MUL_EXTENDED}, {"range", APFLOAT_RANGE},
+    {"to_alternative_half", APFLOAT_TO_ALTERNATIVE_HALF},
+    {"from_alternative_half", APFLOAT_FROM_ALTERNATIVE_HALF}};
 
 static const struct code machines[] = {{"x86", APFLOAT_MACHINE_X86},
                                        {"x87", APFLOAT_MACHINE_X87},
@@ -50,7 +52,7 @@ static const struct code rules[] = {
     {"first_nan", APFLOAT_RULE_FIRST_NAN},     {"number_2008", APFLOAT_RULE_NUMBER_2008},
     {"number_2019", APFLOAT_RULE_NUMBER_2019}, {"propagated", APFLOAT_RULE_PROPAGATED}};
 
-/* What a conversion goes to, the width of an integer, or the rule of a minimum. */
+/* What a conversion goes to, the width of an integer, or the rule of a minimum or of VRANGE. */
 static uint32_t to_of(char *word) {
     uint32_t code = code_of(rules, COUNT(rules), word);
     if (code == NO_CODE) code = format_of(word);
@@ -124,6 +126,13 @@ static const struct refusal refusals[] = {
     {X86, APFLOAT_TO_I128_MODULO, FORMAT, 0, 7, 32, 0, APFLOAT_LACKING_OPERATION},
     {X86, APFLOAT_MUL_EXTENDED, FORMAT, 0, 7, 0, 1, APFLOAT_WIDE_OPERAND},
     {APFLOAT_MACHINE_RISC_V, APFLOAT_MUL_EXTENDED, FORMAT, 0, 4, 0, 0, APFLOAT_LACKING_OPERATION},
+    {X86, APFLOAT_RANGE, FORMAT, 0, 7, 16, 1, APFLOAT_NO_SUCH_OPERATION},
+    {X86, APFLOAT_RANGE, FORMAT, 0, 7, 15, 1, APFLOAT_WIDE_OPERAND},
+    {APFLOAT_MACHINE_ARM, APFLOAT_RANGE, FORMAT, 0, 7, 15, 0, APFLOAT_LACKING_OPERATION},
+    {X86, APFLOAT_TO_ALTERNATIVE_HALF, FORMAT, 0, 7, 0, 1, APFLOAT_WIDE_OPERAND},
+    {X86, APFLOAT_TO_ALTERNATIVE_HALF, FORMAT, 0, 7, 0, 0, APFLOAT_LACKING_OPERATION},
+    {X86, APFLOAT_FROM_ALTERNATIVE_HALF, APFLOAT_E5M2, 0, 7, 0, 1, APFLOAT_WIDE_OPERAND},
+    {X86, APFLOAT_FROM_ALTERNATIVE_HALF, APFLOAT_E5M2, 0, 7, 0, 0, APFLOAT_LACKING_OPERATION},
     {X87, APFLOAT_FMA, APFLOAT_X87, 0, APFLOAT_ROUND_TO_24_DIGITS, 0, 0, APFLOAT_LACKING_OPERATION},
     {X87, APFLOAT_FMA, APFLOAT_X87, 0, APFLOAT_UNMASKED, 0, 0, APFLOAT_LACKING_OPERATION},
     {X87, ADD, APFLOAT_X87, 0, APFLOAT_UNMASKED, 0, UINT64_C(1) << 16, APFLOAT_WIDE_OPERAND},

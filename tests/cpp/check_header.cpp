@@ -628,6 +628,12 @@ void check_machines() {
     CHECK(least && least->value == INT32_MIN && least->status == flag::invalid_op);
     CHECK(to_integer_on<std::uint64_t>(machine::arm, quiet, even)->value == 0);
     CHECK(to_integer_on<std::uint8_t>(machine::x87, one, even).error() == errc::lacking_operation);
+    const auto ranged = range_on(machine::x86, extremum::maximum_magnitude, range_sign::negative, quiet, one);
+    CHECK(ranged && ranged->value.bits() == (-one).bits() && ranged->status == flags());
+    CHECK(range_on(machine::arm, extremum::minimum, range_sign::of_first, one, one).error() == errc::lacking_operation);
+    CHECK(to_alternative_half_on(machine::arm, one, even)->value == 0x3c00);
+    CHECK(to_alternative_half_on(machine::arm, quiet, even)->status == flag::invalid_op);
+    CHECK(from_alternative_half_on<binary32>(machine::arm, 0x7fff, even)->value.bits() == 0x47ffe000);
     CHECK(on_machine(static_cast<machine>(16), machine_operation::add, even, one, one).error() ==
           errc::unknown_machine);
 }

@@ -10,3 +10,4 @@ pub mod FlushedSettling
 pub mod RaisedFlags
 pub mod Twos
 pub mod WrappedAnswers
+pub mod AlternativeHalves

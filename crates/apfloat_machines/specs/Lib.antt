@@ -5,7 +5,9 @@ pub mod Operations
 pub mod Conversions
 pub mod WholeNumbers
 pub mod Modulo
+pub mod AlternativeHalves
 pub mod Minima
+pub mod Ranges
 pub mod Flushing
 pub mod Theorems
 pub mod FlushedOperations

@@ -6,6 +6,7 @@
 //! instruction.
 #![tactic(auto)]
 
+mod alternative_half;
 mod conversions;
 mod extended;
 mod flushing;
@@ -14,10 +15,12 @@ mod machine;
 mod minima;
 mod modulo;
 mod nans;
+mod ranges;
 mod theorems;
 mod whole_numbers;
 mod wrapping;
 
+pub use alternative_half::{from_alternative_half, to_alternative_half};
 pub use conversions::{is_lost_nan, settled_conversion};
 pub use extended::extended_product;
 pub use flushing::{Flush, flushed, has_denormal, without_denormal};
@@ -28,6 +31,7 @@ pub use machine::{
 pub use minima::{MinimumRule, greatest, least};
 pub use modulo::to_signed_modulo;
 pub use nans::{default_nan, machine_nan, negated_number, settled, settled_unary};
+pub use ranges::{RangeRule, RangeSign, range};
 pub use theorems::{
     conversions_have_one_answer, flags_go_together, flushed_fused_sums_are_settled,
     flushed_machine_operations_have_one_answer, flushed_operations_have_one_answer,

@@ -26,6 +26,8 @@ use Rattle.coded_calls.specs.declared.machine_call.MachineOperation.TheVariants.
 use Rattle.coded_calls.specs.declared.machine_call.MachineOperation.TheVariants.{IntegralExact, Integral, ToUnsigned}
 use Rattle.coded_calls.specs.declared.machine_call.MachineOperation.TheVariants.{ToSigned, ToSignedModulo}
 use Rattle.coded_calls.specs.declared.machine_call.MachineOperation.TheVariants.{ExtendedProduct, Least, Greatest}
+use Rattle.coded_calls.specs.declared.machine_call.MachineOperation.TheVariants.{Range, ToAlternativeHalf}
+use Rattle.coded_calls.specs.declared.machine_call.MachineOperation.TheVariants.{FromAlternativeHalf}
 use Rattle.coded_calls.specs.{Answers.IsLeftBy, Answers.IsValueWritten, KnownCalls.answered}
 use Rattle.coded_calls.specs.MachineCalls.{are_usual, fits, is_root_of, is_tiny_before, machine_fault, wide_operand}
 use Rattle.coded_calls.specs.FewerDigits.{IsShorter, IsYielded, exact_of, narrow_format, widened}
@@ -160,6 +162,9 @@ exact_fits machine tiny g (Operation (ToUnsigned x width)) F h = absurd h
 exact_fits machine tiny g (Operation (ToSigned x width)) F h = absurd h
 exact_fits machine tiny g (Operation (ToSignedModulo x width)) F h = absurd h
 exact_fits machine tiny g (Operation (ExtendedProduct x y)) F h = absurd h
+exact_fits machine tiny g (Operation (Range rule x y)) F h = absurd h
+exact_fits machine tiny g (Operation (ToAlternativeHalf x)) F h = absurd h
+exact_fits machine tiny g (Operation (FromAlternativeHalf x)) F h = absurd h
 exact_fits machine tiny g (Operation (Least rule x y)) F h = absurd h
 exact_fits machine tiny g (Operation (Greatest rule x y)) F h = absurd h
 exact_fits machine tiny g (Conversion x target) F h = absurd h

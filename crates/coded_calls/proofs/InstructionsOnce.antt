@@ -28,8 +28,8 @@ use Rattle.coded_calls.specs.FewerDigits.{exact_of, exact_of_any, widened}
 use Rattle.coded_calls.specs.Instructions.{AreRead, IsCalled, IsDelivered, IsFinished, IsFinishedBy, IsFlushedBy}
 use Rattle.coded_calls.specs.Instructions.{IsInstructionAnswer, IsRoundedUp, IsShortened, IsTaken, IsWithAllDigits}
 use Rattle.coded_calls.specs.Instructions.{constants_for, finishes, has_bit, is_denormal_in, mode_by, narrow_in, notes}
-use Rattle.coded_calls.specs.Instructions.{IsMasked, IsTold, IsUnmasked, IsWrappedIn, result_format, toward_zero}
-use Rattle.coded_calls.specs.Instructions.{whole_operand, wide_format}
+use Rattle.coded_calls.specs.Instructions.{IsMasked, IsTold, IsUnmasked, IsWrappedIn, are_values, no_operands}
+use Rattle.coded_calls.specs.Instructions.{result_format, toward_zero, whole_operand, wide_format}
 use Rattle.coded_calls.proofs.{AugmentedOnce.encoding_once, ExportsOnce.OnceAnswer, ExportsOnce.unchanged}
 use Rattle.coded_calls.proofs.{IeeeOnce.in_format_once, MachineOnce.machine_call_once}
 
@@ -264,8 +264,10 @@ pub instruction_reply_once : IsInstructionReplyOnce
 instruction_reply_once (Err error) operation to of old a b code other h k =
     (h.0 ∙ sym k.0, unchanged old a b h.1 k.1)
 instruction_reply_once (Ok it) operation to of old a b code other h k =
-    let call = λ (read : ReadOperands). machine_call operation to read.taken.x read.taken.y read.taken.z in
+    let call = λ (read : ReadOperands).
+    machine_call operation to (if are_values operation then read.taken.x else of.x) read.taken.y read.taken.z in
     called_once it (call k.read) k.read.has_denormal old a b code other
     (subst (λ (read : ReadOperands). IsCalled it (call read) read.has_denormal old a code)
-    (read_once it.format it.control of h.read k.read h.are_read k.are_read) h.is_called)
+    (read_once it.format it.control (if are_values operation then of else no_operands) h.read k.read h.are_read
+    k.are_read) h.is_called)
     k.is_called

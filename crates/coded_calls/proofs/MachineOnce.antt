@@ -1,12 +1,14 @@
 -- An operation of a machine leaves one code and one result.
 use Rattle.std.proofs.Common.{ℕ, Ok, Err, sym, ap, ◌∙◌}
-use Rattle.std.specs.{Prelude.unsigned_abs, Int.w128, Int.cast_unsigned}
+use Rattle.std.specs.{Prelude.unsigned_abs, Prelude.true, Int.w128, Int.cast_unsigned}
 use Rattle.rustc_apfloat.specs.{declared.Round.Round, declared.StatusAnd.StatusAnd, Datum.Datum, Determined.Determines}
 use Rattle.rustc_apfloat.specs.{Flags.Gives, Flags.bits_of, Format.Format, Lawful.Constants, Lawful.format_with}
 use Rattle.apfloat_model.proofs.{Determined.gives_once, Determined.same_answer, Once.answer_once}
 use Rattle.apfloat_machines.specs.{declared.machine.Machine.Machine, WholeNumbers.IsMachineUnsigned}
 use Rattle.apfloat_machines.proofs.Once.{operations_once, fused_sums_once, conversions_once, whole_numbers_once}
-use Rattle.apfloat_machines.proofs.{Residues.modulo_once, Once.extended_product_once}
+use Rattle.apfloat_machines.proofs.{Residues.modulo_once, Once.converted_once, Once.extended_product_once}
+use Rattle.apfloat_machines.proofs.AlternativeHalves.{alternative_half_once}
+use Rattle.apfloat_machines.specs.AlternativeHalves.{number_coded, wide_half}
 use Rattle.formats_at_run_time.specs.declared.Arithmetic.{Arithmetic, TheVariants.Sum}
 use Rattle.formats_at_run_time.specs.declared.Arithmetic.TheVariants.{Difference, Product, Quotient, NearestRemainder}
 use Rattle.formats_at_run_time.specs.{declared.Arithmetic.TheVariants.TruncatedRemainder, BuiltIns.constants_in}
@@ -19,6 +21,8 @@ use Rattle.coded_calls.specs.declared.machine_call.MachineOperation.TheVariants.
 use Rattle.coded_calls.specs.declared.machine_call.MachineOperation.TheVariants.{IntegralExact, Integral, ToUnsigned}
 use Rattle.coded_calls.specs.declared.machine_call.MachineOperation.TheVariants.{ToSigned, Least, Greatest}
 use Rattle.coded_calls.specs.declared.machine_call.MachineOperation.TheVariants.{ToSignedModulo, ExtendedProduct}
+use Rattle.coded_calls.specs.declared.machine_call.MachineOperation.TheVariants.{Range, ToAlternativeHalf}
+use Rattle.coded_calls.specs.declared.machine_call.MachineOperation.TheVariants.{FromAlternativeHalf}
 use Rattle.coded_calls.specs.MachineCalls.{IsInteger, IsMachineAnswer, IsMachineCallAnswer, IsMachineOfTwo, choices}
 use Rattle.coded_calls.specs.{MachineCalls.format_on, OneReply.IsMachineReplyOnce}
 use Rattle.coded_calls.proofs.{ExportsOnce.OnceAnswer, ExportsOnce.unchanged, IeeeOnce.in_format_once}
@@ -78,6 +82,12 @@ machine_answer_once c has machine mode (ToSignedModulo x width) =
 machine_answer_once c has machine mode (ExtendedProduct x y) =
     in_format_once c has mode _
     (extended_product_once (format_with c) (choices machine) mode (value_of c x) (value_of c y))
+machine_answer_once c has machine mode (Range rule x y) =
+    in_format_once c has mode _ (gives_once _ (answer_once _ _))
+machine_answer_once c has machine mode (ToAlternativeHalf x) =
+    integer_once (λ n. n) _ (gives_once _ (alternative_half_once (format_with c) mode (value_of c x)))
+machine_answer_once c has machine mode (FromAlternativeHalf x) =
+    in_format_once c has mode _ (gives_once _ (converted_once (wide_half true) (format_with c) mode (number_coded x)))
 
 -- a call on a machine has one result
 pub machine_call_once : (machine : CodedMachine) (m : MachineFormat) (mode : Round) (call : MachineCall)

@@ -8,7 +8,8 @@ use Rattle.coded_calls.specs.declared.machine_call.MachineOperation.{MachineOper
 use Rattle.coded_calls.specs.declared.machine_call.MachineOperation.TheVariants.{FusedSum, SquareRoot, IntegralExact}
 use Rattle.coded_calls.specs.declared.machine_call.MachineOperation.TheVariants.{Integral, ToUnsigned, ToSigned, Least}
 use Rattle.coded_calls.specs.declared.machine_call.MachineOperation.TheVariants.{Greatest, ToSignedModulo}
-use Rattle.coded_calls.specs.declared.machine_call.MachineOperation.TheVariants.{ExtendedProduct}
+use Rattle.coded_calls.specs.declared.machine_call.MachineOperation.TheVariants.{ExtendedProduct, Range}
+use Rattle.coded_calls.specs.declared.machine_call.MachineOperation.TheVariants.{ToAlternativeHalf, FromAlternativeHalf}
 use Rattle.coded_calls.specs.{Answers.IsLeftBy, KnownCalls.answered, KnownCalls.unless, KnownCalls.width_fault}
 use Rattle.coded_calls.specs.MachineCalls.{choices, has_modulo, lacking_unless, machine_fault, operation_fault}
 use Rattle.coded_calls.specs.MachineCalls.{or_fault, wide_operand}
@@ -42,6 +43,9 @@ operation_code machine (ToSignedModulo x width) =
     or_code (width_fault 2 width) (lacking_unless (has_modulo machine)) (unless_code _ _ (lit< tt))
     (unless_code _ _ (lit< tt))
 operation_code machine (ExtendedProduct x y) = unless_code _ _ (lit< tt)
+operation_code machine (Range rule x y) = unless_code _ _ (lit< tt)
+operation_code machine (ToAlternativeHalf x) = unless_code _ _ (lit< tt)
+operation_code machine (FromAlternativeHalf x) = unless_code _ _ (lit< tt)
 
 fitting_code : (fits : Bool) (fault : Option ℕ) → HasCode fault
     → HasCode (if fits then fault else Some wide_operand)

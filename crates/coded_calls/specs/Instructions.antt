@@ -29,7 +29,8 @@ use Rattle.coded_calls.specs.declared.machine_call.{MachineCall.MachineCall, Mac
 use Rattle.coded_calls.specs.declared.machine_call.MachineCall.TheVariants.{Operation, Conversion}
 use Rattle.coded_calls.specs.declared.machine_call.MachineOperation.TheVariants.{IntegralExact, Integral, ToUnsigned}
 use Rattle.coded_calls.specs.declared.machine_call.MachineOperation.TheVariants.{ToSigned, Least, Greatest}
-use Rattle.coded_calls.specs.declared.machine_call.MachineOperation.TheVariants.{ToSignedModulo}
+use Rattle.coded_calls.specs.declared.machine_call.MachineOperation.TheVariants.{ToSignedModulo, Range}
+use Rattle.coded_calls.specs.declared.machine_call.MachineOperation.TheVariants.{ToAlternativeHalf}
 use Rattle.coded_calls.specs.declared.instructions.{Control.Control, Instruction.Instruction, Operands.Operands}
 use Rattle.coded_calls.specs.declared.instructions.{ReadOperands.ReadOperands, Rounding.Rounding}
 use Rattle.coded_calls.specs.Answers.{IsLeftBy, IsValue, whole}
@@ -103,12 +104,12 @@ abbrev pub IsSaidOf : (Constants → Type 0) → Kind → Type 0
 IsSaidOf Says (of_format c) = Says c
 IsSaidOf Says of_pairs = ⊥
 
--- 0 stands for what an operation does not take: up to the code 7, and from 14 on but for 16, it takes a second one
+-- 0 stands for what an operation does not take: up to the code 7, and from 14 to 18 but for 16, it takes a second one
 abbrev pub operands_of : ℕ → ℕ → ℕ → ℕ → Operands
 operands_of code x y z =
     record {
       x = x;
-      y = if ltb code 8 || (ltb 13 code && not (code == 16)) then y else 0;
+      y = if ltb code 8 || (ltb 13 code && (ltb code 19 && not (code == 16))) then y else 0;
       z = if code == 7 then z else 0;
     }
 
@@ -196,16 +197,19 @@ pub record IsFinishedBy (c : Constants) (rounding : Rounding) (control : Control
   pub is_told : IsTold c given plain
   pub is_value : IsValue (in_format c) (IsFinished (format_with c) rounding control plain) answer
 
--- whether the result is an operand as it is, as those of MINSS are, and of FMIN with FPCR.AH
-abbrev pub keeps_operand : MachineCall → Bool
-keeps_operand (Operation (Least Second x y)) = true
-keeps_operand (Operation (Greatest Second x y)) = true
-keeps_operand call = false
+-- whether the result is left as it is: an operand, as of MINSS, VRANGE, and FMIN with FPCR.AH, and the bits of an
+-- alternative half
+abbrev pub is_left_alone : MachineCall → Bool
+is_left_alone (Operation (Least Second x y)) = true
+is_left_alone (Operation (Greatest Second x y)) = true
+is_left_alone (Operation (Range rule x y)) = true
+is_left_alone (Operation (ToAlternativeHalf x)) = true
+is_left_alone call = false
 
 -- whether anything may become of a result; integers and integral values are odd by the mode, and never tiny
 abbrev pub finishes : Control → Rounding → MachineCall → Bool
 finishes control rounding call =
-    is_none (whole_operand call) && not (keeps_operand call) && (rounding.to_odd || is_some control.flush)
+    is_none (whole_operand call) && not (is_left_alone call) && (rounding.to_odd || is_some control.flush)
 
 -- the format of the result, if it has one
 abbrev pub result_format : MachineFormat → MachineCall → MachineFormat
@@ -330,13 +334,21 @@ IsCalled it (Err error) denormal old new code = (code ≡ error) × (new ≡ old
 IsCalled it (Ok call) denormal old new code =
     IsLeftBy (machine_fault it.machine it.format call) (IsInstructionAnswer it call denormal) old new code
 
+-- whether operands are values of the format, as the bits of an alternative half are not
+abbrev pub are_values : ℕ → Bool
+are_values operation = not (operation == 20)
+
+abbrev pub no_operands : Operands
+no_operands = record { x = 0; y = 0; z = 0 }
+
 -- the same of operands that are read before
 pub record IsCarriedOut (it : Instruction) (operation to : ℕ) (of : Operands) (old new : Answer) (code : ℕ)
     : Type 0 where
   pub read : ReadOperands
-  pub are_read : AreRead (constants_for it.format) it.control of read
-  pub is_called : IsCalled it (machine_call operation to read.taken.x read.taken.y read.taken.z) read.has_denormal
-      old new code
+  pub are_read : AreRead (constants_for it.format) it.control (if are_values operation then of else no_operands) read
+  pub is_called : IsCalled it
+      (machine_call operation to (if are_values operation then read.taken.x else of.x) read.taken.y read.taken.z)
+      read.has_denormal old new code
 
 -- the code 0 and the result, or the code of the first error and the previous contents
 abbrev pub IsInstructionReply : Result Instruction ℕ → ℕ → ℕ → Operands → Answer → Answer → ℕ → Type 0

@@ -1,5 +1,6 @@
 -- The operations of machines, as their export makes them.
-use Rattle.std.specs.Prelude.{◌≡◌, ℕ, ◌^◌, ◌==◌, ltb, pos, Bool, true, false, not, ◌&&◌, if◌then◌else◌, Option, Some}
+use Rattle.std.specs.Prelude.{◌≡◌, ℕ, ◌/◌, ◌%◌, ◌^◌, ◌==◌, ltb, pos, Bool, true, false, not, ◌&&◌, if◌then◌else◌}
+use Rattle.std.specs.Prelude.{Option, Some}
 use Rattle.std.specs.Prelude.{None, ok_or, option_and_then, option_map, Result, Ok, Err, [], ◌∷◌}
 use Rattle.std.specs.Int.{w128, cast_unsigned}
 use Rattle.apfloat_model.specs.declared.kinds.NonfiniteBehavior.TheVariants.{IEEE754}
@@ -9,7 +10,12 @@ use Rattle.rustc_apfloat.specs.declared.{Round.Round, StatusAnd.StatusAnd}
 use Rattle.apfloat_machines.specs.declared.{machine.Machine.Machine, minima.MinimumRule.MinimumRule}
 use Rattle.apfloat_machines.specs.declared.minima.MinimumRule.TheVariants.{Second, SecondQuietly, FirstNan, Number2008}
 use Rattle.apfloat_machines.specs.declared.minima.MinimumRule.TheVariants.{Number2019, Propagated}
-use Rattle.apfloat_machines.specs.Conversions.{IsMachineConversion}
+use Rattle.apfloat_machines.specs.declared.ranges.{RangeRule.RangeRule, RangeSign.RangeSign}
+use Rattle.apfloat_machines.specs.declared.ranges.{RangeSign.TheVariants.OfFirst}
+use Rattle.apfloat_machines.specs.declared.ranges.RangeSign.TheVariants.{OfChosen, Positive, Negative}
+use Rattle.apfloat_machines.specs.{AlternativeHalves.IsAlternativeHalf, AlternativeHalves.IsOfAlternativeHalf}
+use Rattle.apfloat_machines.specs.{Conversions.IsMachineConversion, Ranges.IsRange}
+use Rattle.ieee_operations.specs.declared.extrema.Extremum.{Extremum}
 use Rattle.apfloat_machines.specs.Machines.{x86, x87, arm, arm_default_nan, arm_alternate, arm_alternate_default_nan}
 use Rattle.apfloat_machines.specs.Machines.{risc_v, power, s390x, webassembly, ptx, mips_2008, loongarch, sparc, m68k}
 use Rattle.apfloat_machines.specs.{Minima.IsLeast, Minima.IsGreatest, Modulo.IsSignedModulo}
@@ -31,7 +37,8 @@ use Rattle.formats_at_run_time.specs.ValueKinds.{Kind, of_format, of_pairs, valu
 use Rattle.coded_calls.specs.declared.{data.Answer.Answer, machine_call.CodedMachine.CodedMachine}
 use Rattle.coded_calls.specs.declared.machine_call.{MachineCall.TheVariants.Conversion, MachineFormat.MachineFormat}
 use Rattle.coded_calls.specs.declared.machine_call.MachineOperation.TheVariants.{Greatest, ToSignedModulo}
-use Rattle.coded_calls.specs.declared.machine_call.MachineOperation.TheVariants.{ExtendedProduct}
+use Rattle.coded_calls.specs.declared.machine_call.MachineOperation.TheVariants.{ExtendedProduct, Range}
+use Rattle.coded_calls.specs.declared.machine_call.MachineOperation.TheVariants.{ToAlternativeHalf, FromAlternativeHalf}
 use Rattle.coded_calls.specs.declared.machine_call.OneOperation.{OneOperation}
 use Rattle.coded_calls.specs.declared.machine_call.CodedMachine.TheVariants.{X86, X87, Arm, ArmDefaultNan, ArmAlternate}
 use Rattle.coded_calls.specs.declared.machine_call.CodedMachine.TheVariants.{RiscV, Power, S390x}
@@ -48,7 +55,7 @@ use Rattle.coded_calls.specs.declared.machine_call.OneOperation.TheVariants.{ToU
 use Rattle.coded_calls.specs.declared.machine_call.OneOperation.TheVariants.{ToSigned as ToSignedOf}
 use Rattle.coded_calls.specs.Answers.{IsLeftBy, IsValue, whole}
 use Rattle.coded_calls.specs.KnownCalls.{◌>>=◌, answered, no_such_operation, unknown_format, unknown_mode, unless}
-use Rattle.coded_calls.specs.KnownCalls.{counted, width_fault, without}
+use Rattle.coded_calls.specs.{IeeeCalls.extremum_coded, KnownCalls.counted, KnownCalls.width_fault, KnownCalls.without}
 
 -- ---- errors
 
@@ -87,6 +94,10 @@ is_aarch64 ArmDefaultNan = true
 is_aarch64 ArmAlternate = true
 is_aarch64 ArmAlternateDefaultNan = true
 is_aarch64 machine = false
+
+abbrev pub is_x86 : CodedMachine → Bool
+is_x86 X86 = true
+is_x86 machine = false
 
 -- whether it has conversions to integers modulo a power of two: FJCVTZS, FCVTMOD.W.D
 abbrev pub has_modulo : CodedMachine → Bool
@@ -143,7 +154,22 @@ abbrev pub greatest_by : Option MinimumRule → ℕ → ℕ → Option MachineOp
 greatest_by None x y = None
 greatest_by (Some rule) x y = Some (Greatest rule x y)
 
--- `to` is the width of an integer, or the code of a rule of minima
+abbrev pub sign_coded : ℕ → Option RangeSign
+sign_coded code = counted 0 (OfFirst ∷ OfChosen ∷ Positive ∷ Negative ∷ []) code
+
+-- bits 1:0 and 3:2 of the immediate operand of VRANGE
+abbrev pub range_coded : ℕ → Option RangeRule
+range_coded code =
+    option_and_then
+    (λ (extremum : Extremum).
+    option_map (λ (sign : RangeSign). record { extremum = extremum; sign = sign }) (sign_coded (code / 4)))
+    (extremum_coded (code % 4))
+
+abbrev pub range_by : Option RangeRule → ℕ → ℕ → Option MachineOperation
+range_by None x y = None
+range_by (Some rule) x y = Some (Range rule x y)
+
+-- `to` is the width of an integer, or the code of a rule of minima or of VRANGE
 abbrev pub machine_operation : ℕ → ℕ → ℕ → ℕ → ℕ → Option MachineOperation
 machine_operation code to x y z =
     if code == 1 then Some (OfTwo Sum x y)
@@ -162,6 +188,9 @@ machine_operation code to x y z =
     else if code == 15 then greatest_by (rule_coded to) x y
     else if code == 16 then Some (ToSignedModulo x to)
     else if code == 17 then Some (ExtendedProduct x y)
+    else if code == 18 then range_by (range_coded to) x y
+    else if code == 19 then Some (ToAlternativeHalf x)
+    else if code == 20 then Some (FromAlternativeHalf x)
     else None
 
 abbrev pub conversion_call : Option FlaggedKind → ℕ → Result MachineCall ℕ
@@ -192,7 +221,7 @@ of_one ToSignedOf to x = ToSigned x to
 abbrev pub fits : ℕ → ℕ → Bool
 fits width bits = ltb bits (2 ^ width)
 
--- no operand has a bit at or above the width
+-- no operand has a bit at or above the width, which is 16 of an alternative half
 abbrev pub operands_fit : ℕ → MachineOperation → Bool
 operands_fit width (OfTwo arithmetic x y) = fits width x && fits width y
 operands_fit width (FusedSum x y z) = fits width x && (fits width y && fits width z)
@@ -205,6 +234,9 @@ operands_fit width (Least rule x y) = fits width x && fits width y
 operands_fit width (Greatest rule x y) = fits width x && fits width y
 operands_fit width (ToSignedModulo x digits) = fits width x
 operands_fit width (ExtendedProduct x y) = fits width x && fits width y
+operands_fit width (Range rule x y) = fits width x && fits width y
+operands_fit width (ToAlternativeHalf x) = fits width x
+operands_fit width (FromAlternativeHalf x) = fits 16 x
 
 abbrev pub call_fits : ℕ → MachineCall → Bool
 call_fits width (Operation operation) = operands_fit width operation
@@ -227,6 +259,9 @@ operation_fault machine (ToSigned x width) = width_fault 2 width
 operation_fault machine (ToSignedModulo x width) =
     or_fault (width_fault 2 width) (lacking_unless (has_modulo machine))
 operation_fault machine (ExtendedProduct x y) = lacking_unless (is_aarch64 machine)
+operation_fault machine (Range rule x y) = lacking_unless (is_x86 machine)
+operation_fault machine (ToAlternativeHalf x) = lacking_unless (is_aarch64 machine)
+operation_fault machine (FromAlternativeHalf x) = lacking_unless (is_aarch64 machine)
 operation_fault machine operation = None
 
 -- operands that are too wide come first
@@ -360,6 +395,12 @@ IsMachineAnswer c machine mode (ExtendedProduct x y) answer =
     IsValue (in_format c)
     (λ given. Gives (IsExtendedProduct (format_with c) (choices machine) mode (value_of c x) (value_of c y)) given)
     answer
+IsMachineAnswer c machine mode (Range rule x y) answer =
+    IsValue (in_format c) (λ given. Gives (IsRange rule (format_with c) (value_of c x) (value_of c y)) given) answer
+IsMachineAnswer c machine mode (ToAlternativeHalf x) answer =
+    IsInteger (λ n. n) (λ given. Gives (IsAlternativeHalf (format_with c) mode (value_of c x)) given) answer
+IsMachineAnswer c machine mode (FromAlternativeHalf x) answer =
+    IsValue (in_format c) (λ given. Gives (IsOfAlternativeHalf (format_with c) mode x) given) answer
 
 -- the value that bits of a kind encode, in another
 abbrev pub IsMachineConvertedFrom : Kind → CodedMachine → Round → ℕ → Kind → Answer → Type 0

@@ -14,7 +14,7 @@ ghost use Rattle.coded_calls.specs.Instructions.{IsInstructionReply, IsSaidOf, I
 ghost use Rattle.coded_calls.specs.Instructions.{IsUpTold, IsWithAllDigits, any_is_denormal, any_is_nan};
 ghost use Rattle.coded_calls.specs.Instructions.{constants_for, control_coded, finishes, has_bit};
 ghost use Rattle.coded_calls.specs.Instructions.{has_denormal, has_precision, is_above_even, is_denormal_in};
-ghost use Rattle.coded_calls.specs.Instructions.{keeps_operand, known_instruction, mode_by, notes, odd_mode};
+ghost use Rattle.coded_calls.specs.Instructions.{is_left_alone, known_instruction, mode_by, notes, odd_mode};
 ghost use Rattle.coded_calls.specs.Instructions.{operands_of, precision_coded, precision_in, result_format};
 ghost use Rattle.coded_calls.specs.Instructions.{IsMasked, IsWrappedBy, has_unmasked, wide_format};
 ghost use Rattle.coded_calls.specs.Instructions.{rounding_coded, whole_operand};
@@ -107,6 +107,12 @@ const BOTH_PRECISIONS: u32 = 24;
 
 /// The least control word that asks for a precision.
 const PRECISIONS: u32 = 8;
+
+/// The operation whose operand is no value of the format.
+const FROM_ALTERNATIVE_HALF: u32 = 20;
+
+/// What is read where no operand is a value of the format.
+const NO_OPERANDS: Operands = Operands { x: 0, y: 0, z: 0 };
 
 /// Rounding toward zero.
 const TOWARD_ZERO: Rounding = Rounding {
@@ -214,7 +220,7 @@ fn operands_of(code: u32, x: u128, y: u128, z: u128) -> Operands
 {
     Operands {
         x,
-        y: if code < 8 || (13 < code && code != 16) {
+        y: if code < 8 || (13 < code && code < 19 && code != 16) {
             y
         } else {
             0
@@ -396,11 +402,14 @@ impl InFlaggedFormat for Finishing {
     }
 }
 
-/// Whether the result is an operand as it is, as those of MINSS are, and of FMIN with FPCR.AH.
-fn keeps_operand(call: MachineCall) -> bool
-    ensures { result ≡ keeps_operand call }
+/// Whether the result is left as it is: an operand, as of MINSS, VRANGE, and FMIN with FPCR.AH, and the bits of an
+/// alternative half.
+fn is_left_alone(call: MachineCall) -> bool
+    ensures { result ≡ is_left_alone call }
 {
     match call {
+        MachineCall::Operation(MachineOperation::Range(_, _, _)) => true,
+        MachineCall::Operation(MachineOperation::ToAlternativeHalf(_)) => true,
         MachineCall::Operation(MachineOperation::Least(MinimumRule::Second, _, _)) => true,
         MachineCall::Operation(MachineOperation::Greatest(MinimumRule::Second, _, _)) => true,
         _ => false,
@@ -412,7 +421,7 @@ fn finishes(control: Control, rounding: Rounding, call: MachineCall) -> bool
     ensures { result ≡ finishes control rounding call }
 {
     whole_operand(call).is_none()
-        && !keeps_operand(call)
+        && !is_left_alone(call)
         && (rounding.to_odd || control.flush.is_some())
 }
 
@@ -732,8 +741,13 @@ impl Instruction {
         ensures { IsCarriedOut self operation to of answer.old answer.new result }
     {
         let control = self.control;
-        let read = self.format.run_without_rule(Reading { control, of });
-        match machine_call(operation, to, read.taken.x, read.taken.y, read.taken.z) {
+        let is_value = operation != FROM_ALTERNATIVE_HALF;
+        let read = self.format.run_without_rule(Reading {
+            control,
+            of: if is_value { of } else { NO_OPERANDS },
+        });
+        let x = if is_value { read.taken.x } else { of.x };
+        match machine_call(operation, to, x, read.taken.y, read.taken.z) {
             Err(fault) => fault,
             Ok(call) => self.answered(call, read.has_denormal, answer),
         }

@@ -7,11 +7,13 @@ ghost use Rattle.formats_at_run_time.specs.{Modes.mode_coded, ValueKinds.of_form
 ghost use Rattle.coded_calls.specs.{Answers.whole, declared.machine_call.MachineCall.TheVariants.Operation};
 ghost use Rattle.coded_calls.specs.declared.machine_call.MachineOperation.TheVariants.{OfTwo};
 ghost use Rattle.coded_calls.specs.MachineCalls.{choices, conversion_call, format_on, has_modulo, is_aarch64};
+ghost use Rattle.coded_calls.specs.MachineCalls.{is_x86, range_coded, sign_coded};
 ghost use Rattle.coded_calls.specs.MachineCalls.{is_tiny_before, kind_without_rule, machine_call, machine_coded};
 ghost use Rattle.coded_calls.specs.MachineCalls.{machine_format, machine_operation, of_one, operation_call, rule_coded};
 
 use crate::codes::{NO_SUCH_OPERATION, UNKNOWN_FORMAT};
-use apfloat_machines::{Machine, MinimumRule};
+use crate::ieee_call::extremum_coded;
+use apfloat_machines::{Machine, MinimumRule, RangeRule, RangeSign};
 use formats_at_run_time::{
     Arithmetic, BuiltInKind, FillsInFormat, FlaggedFormat, FlaggedKind, IeeeFormat,
     InFlaggedFormat, mode_coded,
@@ -119,6 +121,16 @@ impl CodedMachine {
         }
     }
 
+    /// Whether the machine is x86 with SSE and AVX.
+    pub fn is_x86(self) -> bool
+        ensures { result ≡ is_x86 self }
+    {
+        match self {
+            CodedMachine::X86 => true,
+            _ => false,
+        }
+    }
+
     /// Whether the machine has conversions to integers modulo a power of two.
     pub fn has_modulo(self) -> bool
         ensures { result ≡ has_modulo self }
@@ -172,6 +184,12 @@ pub enum MachineOperation {
     ToSignedModulo(u128, u32),
     /// The product of two values, of which an infinity times a zero is 2.
     ExtendedProduct(u128, u128),
+    /// A minimum or a maximum of two values, with a sign that is chosen.
+    Range(RangeRule, u128, u128),
+    /// A value in the bits of Arm's alternative half precision.
+    ToAlternativeHalf(u128),
+    /// The value of bits of Arm's alternative half precision.
+    FromAlternativeHalf(u128),
 }
 
 /// An operation on one value, without the value.
@@ -337,8 +355,34 @@ pub fn rule_coded(code: u32) -> Option<MinimumRule>
     }
 }
 
+/// The rule of VRANGE of bits 3:0 of its immediate operand, if the others are 0.
+fn range_coded(code: u32) -> Option<RangeRule>
+    ensures { result ≡ range_coded code }
+{
+    match extremum_coded(code % 4) {
+        None => None,
+        Some(extremum) => match sign_coded(code / 4) {
+            None => None,
+            Some(sign) => Some(RangeRule { extremum, sign }),
+        },
+    }
+}
+
+/// The sign of this code, if there is one.
+fn sign_coded(code: u32) -> Option<RangeSign>
+    ensures { result ≡ sign_coded code }
+{
+    match code {
+        0 => Some(RangeSign::OfFirst),
+        1 => Some(RangeSign::OfChosen),
+        2 => Some(RangeSign::Positive),
+        3 => Some(RangeSign::Negative),
+        _ => None,
+    }
+}
+
 /// What this code asks for, on as many of the values as it takes, or the error: `to` is the code of the format of a
-/// conversion, the binary digits of an integer, or the code of a rule of minima.
+/// conversion, the binary digits of an integer, or the code of a rule of minima or of VRANGE.
 #[inline(always)]
 pub fn machine_call(code: u32, to: u32, x: u128, y: u128, z: u128) -> Result<MachineCall, u32>
     ensures { result ≡ machine_call code to x y z }
@@ -383,6 +427,9 @@ fn machine_operation(code: u32, to: u32, x: u128, y: u128, z: u128) -> Option<Ma
         15 => Some(MachineOperation::Greatest(rule_coded(to)?, x, y)),
         16 => Some(MachineOperation::ToSignedModulo(x, to)),
         17 => Some(MachineOperation::ExtendedProduct(x, y)),
+        18 => Some(MachineOperation::Range(range_coded(to)?, x, y)),
+        19 => Some(MachineOperation::ToAlternativeHalf(x)),
+        20 => Some(MachineOperation::FromAlternativeHalf(x)),
         _ => None,
     }
 }

@@ -16,7 +16,9 @@ ghost use Rattle.coded_calls.specs.declared.machine_call.MachineOperation.TheVar
 ghost use Rattle.coded_calls.specs.declared.machine_call.MachineOperation.TheVariants.{IntegralExact, Integral};
 ghost use Rattle.coded_calls.specs.declared.machine_call.MachineOperation.TheVariants.{ToUnsigned, ToSigned, Least};
 ghost use Rattle.coded_calls.specs.declared.machine_call.MachineOperation.TheVariants.{Greatest, ToSignedModulo};
-ghost use Rattle.coded_calls.specs.declared.machine_call.MachineOperation.TheVariants.{ExtendedProduct};
+ghost use Rattle.coded_calls.specs.declared.machine_call.MachineOperation.TheVariants.{ExtendedProduct, Range};
+ghost use Rattle.coded_calls.specs.declared.machine_call.MachineOperation.TheVariants.{ToAlternativeHalf};
+ghost use Rattle.coded_calls.specs.declared.machine_call.MachineOperation.TheVariants.{FromAlternativeHalf};
 ghost use Rattle.coded_calls.specs.declared.exported_call.ExportedCall.TheVariants.{OfTwo as PlainOfTwo};
 ghost use Rattle.coded_calls.specs.declared.exported_call.ExportedCall.TheVariants.{RoundToIntegral as PlainIntegral};
 ghost use Rattle.coded_calls.specs.Answers.{IsKindAnswer, IsLeftBy, whole};
@@ -45,8 +47,9 @@ use crate::usual_operands::{
     is_normal, is_normal_beyond_words, is_number, is_root_of, one_word, three_words, two_words,
 };
 use apfloat_machines::{
-    MinimumRule, default_nan, extended_product, greatest, least, settled, settled_conversion,
-    settled_fused, settled_signed, settled_unary, settled_unsigned, to_signed_modulo,
+    MinimumRule, RangeRule, default_nan, extended_product, from_alternative_half, greatest, least,
+    range, settled, settled_conversion, settled_fused, settled_signed, settled_unary,
+    settled_unsigned, to_alternative_half, to_signed_modulo,
 };
 use fast_bits::{add_normal, convert_normal, signed_of_bits, subtract_normal, unsigned_of_bits};
 use formats_at_run_time::{Arithmetic, FillsInFormat, FlaggedKind, mode_coded};
@@ -110,6 +113,15 @@ impl FillsInFormat for OnMachine {
             }
             MachineOperation::ExtendedProduct(x, y) => {
                 extended_in::<S>(answer, machine, round, x, y)
+            }
+            MachineOperation::Range(rule, x, y) => {
+                range_in::<S>(answer, machine, round, rule, x, y)
+            }
+            MachineOperation::ToAlternativeHalf(x) => {
+                to_alternative_half_in::<S>(answer, machine, round, x)
+            }
+            MachineOperation::FromAlternativeHalf(x) => {
+                from_alternative_half_in::<S>(answer, machine, round, x)
             }
         }
     }
@@ -1368,6 +1380,109 @@ fn extended<S: Flagged>(answer: &mut Answer, machine: CodedMachine, round: Round
     let (x, y) = (value::<S>(x), value::<S>(y));
     let product = settled(machine.choices(), x, y, x.wide_mul_r(y, round));
     *answer = written(extended_product(x, y, product));
+}
+
+/// A minimum or a maximum of two values with a sign that is chosen, if the bits of both fit.
+#[inline(never)]
+fn range_in<S: Flagged>(
+    answer: &mut Answer,
+    machine: CodedMachine,
+    round: Round,
+    rule: RangeRule,
+    x: u128,
+    y: u128,
+) -> u32
+    requires { S.PRECISION < S.BITS }
+    ensures { IsMachineLeftIn (of_format (constants_of S.Flagged)) machine round (Range rule x y)
+        answer.old answer.new result }
+{
+    if !both_fit::<S>(x, y) {
+        return WIDE_OPERAND;
+    }
+    if !machine.is_x86() {
+        return LACKING_OPERATION;
+    }
+    *answer = ranged::<S>(machine, round, rule, x, y);
+    ANSWERED
+}
+
+/// The minimum or the maximum with its sign.
+#[inline(always)]
+fn ranged<S: Flagged>(
+    machine: CodedMachine,
+    round: Round,
+    rule: RangeRule,
+    x: u128,
+    y: u128,
+) -> Answer
+    requires { S.PRECISION < S.BITS }
+    ensures { IsMachineAnswer (constants_of S.Flagged) machine round (Range rule x y) result }
+{
+    written(range(rule, value::<S>(x), value::<S>(y)))
+}
+
+/// A value in the bits of the alternative half precision, if its own bits fit.
+#[inline(never)]
+fn to_alternative_half_in<S: Flagged>(
+    answer: &mut Answer,
+    machine: CodedMachine,
+    round: Round,
+    x: u128,
+) -> u32
+    requires { S.PRECISION < S.BITS }
+    ensures { IsMachineLeftIn (of_format (constants_of S.Flagged)) machine round
+        (ToAlternativeHalf x) answer.old answer.new result }
+{
+    if !fits::<S>(x) {
+        return WIDE_OPERAND;
+    }
+    if !machine.is_aarch64() {
+        return LACKING_OPERATION;
+    }
+    *answer = alternative_half_of::<S>(machine, round, x);
+    ANSWERED
+}
+
+/// The bits of a value in the alternative half precision.
+#[inline(always)]
+fn alternative_half_of<S: Flagged>(machine: CodedMachine, round: Round, x: u128) -> Answer
+    requires { S.PRECISION < S.BITS }
+    ensures { IsMachineAnswer (constants_of S.Flagged) machine round (ToAlternativeHalf x) result }
+{
+    let half = to_alternative_half(value::<S>(x), round);
+    Answer::of(half.value as u128, half.status, 0)
+}
+
+/// The value of bits of the alternative half precision, if there are 16 of them.
+#[inline(never)]
+fn from_alternative_half_in<S: Flagged>(
+    answer: &mut Answer,
+    machine: CodedMachine,
+    round: Round,
+    x: u128,
+) -> u32
+    requires { S.PRECISION < S.BITS }
+    ensures { IsMachineLeftIn (of_format (constants_of S.Flagged)) machine round
+        (FromAlternativeHalf x) answer.old answer.new result }
+{
+    if x >= 1 << 16 {
+        return WIDE_OPERAND;
+    }
+    if !machine.is_aarch64() {
+        return LACKING_OPERATION;
+    }
+    *answer = of_alternative_half::<S>(machine, round, x as u16);
+    ANSWERED
+}
+
+/// The value of bits of the alternative half precision.
+#[inline(always)]
+fn of_alternative_half<S: Flagged>(machine: CodedMachine, round: Round, x: u16) -> Answer
+    requires { S.PRECISION < S.BITS }
+    ensures { IsMachineAnswer (constants_of S.Flagged) machine round (FromAlternativeHalf x)
+        result }
+{
+    written(from_alternative_half::<S>(x, round))
 }
 
 /// A value as an integer modulo a power of two, if its bits fit.

@@ -104,7 +104,7 @@ macro_rules! same_types {
     )*};
 }
 
-same_types! { bool, i32, u32, i128, u128, usize, crate::Round, core::cmp::Ordering }
+same_types! { bool, i32, u16, u32, i128, u128, usize, crate::Round, core::cmp::Ordering }
 
 /// Formats of the module `library`, the one of that name in the scope, whose trait has the same constants.
 macro_rules! library_formats {

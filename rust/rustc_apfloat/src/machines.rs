@@ -22,13 +22,15 @@
 //! assert_eq!(composed.checked(), Err(Contradiction::QuietAddendKept));
 //! ```
 
-use crate::StatusAnd;
+use crate::{Round, StatusAnd};
 use crate::erased::apfloat_machines as library;
 use crate::ieee::{IeeeFloat, Semantics};
 
-pub use library::{Contradiction, Flush, FusedOrder, Machine, MinimumRule, NanChoice, WholeOfNan};
+pub use library::{
+    Contradiction, Flush, FusedOrder, Machine, MinimumRule, NanChoice, RangeRule, RangeSign, WholeOfNan,
+};
 
-same_types! { Flush, Machine, MinimumRule }
+same_types! { Flush, Machine, MinimumRule, RangeRule }
 
 /// Machines as they were named when they were variants, and their choices when they were calls.
 macro_rules! names_of_before {
@@ -139,6 +141,15 @@ library_calls! {
     /// In a format without bits.
     fn greatest<S>(rule: MinimumRule, machine: Machine, x: IeeeFloat<S>, y: IeeeFloat<S>) -> StatusAnd<IeeeFloat<S>>
         where S::BITS > S::PRECISION => "a format without bits";
+    /// A minimum or a maximum with a sign that is chosen, as VRANGEPS of x86 and its forms give it: the first signaling
+    /// operand quieted, or the operand that the rule chooses, a number rather than a NaN.
+    fn range<S>(rule: RangeRule, x: IeeeFloat<S>, y: IeeeFloat<S>) -> StatusAnd<IeeeFloat<S>>;
+
+    /// The bits of a value in Arm's alternative half precision (FPCR.AHP), tininess detected as in `S`. What rounds to
+    /// 2^17 or more, and an infinity, is the greatest number of its sign, and a NaN the zero, with INVALID_OP alone.
+    fn to_alternative_half<S>(x: IeeeFloat<S>, round: Round) -> StatusAnd<u16>;
+    /// The value of bits of that precision, rounded once.
+    fn from_alternative_half<S>(bits: u16, round: Round) -> StatusAnd<IeeeFloat<S>>;
 
     /// The answer of an operation, where tiny results are flushed to the zero of their sign; the answer is one of a
     /// format with the flags of IEEE 754, whose rule of tininess is the machine's.
