@@ -9,3 +9,4 @@ pub mod OrderedNumbers
 pub mod Magnitudes
 pub mod Integrals
 pub mod lanes_lemmas
+pub mod OddNumbers
