@@ -85,7 +85,7 @@ pub extern "C" fn apfloat_div(
         (OfTwo Quotient (whole x) (whole y))) answer.old answer.new result }
 {
     let (x, y) = (x.number(), y.number());
-    reply(format, mode, QuotientCall { x, y }, answer)
+    reply_in_kind(format, mode, QuotientCall { x, y }, answer)
 }
 
 /// The remainder by the integer nearest to the quotient, ties to even.

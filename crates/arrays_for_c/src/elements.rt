@@ -105,10 +105,7 @@ fn call_in_format<S: Flagged>(map: MapCall, x: u128, y: u128, z: u128, answer: &
             Arithmetic::Sum => SumCall { x, y }.in_format::<S>(round, answer),
             Arithmetic::Difference => DifferenceCall { x, y }.in_format::<S>(round, answer),
             Arithmetic::Product => ProductCall { x, y }.in_format::<S>(round, answer),
-            Arithmetic::Quotient => {
-                let operation = QuotientCall { x, y };
-                InType { operation }.in_format::<S>(round, answer)
-            }
+            Arithmetic::Quotient => QuotientCall { x, y }.in_format::<S>(round, answer),
             Arithmetic::NearestRemainder => {
                 let operation = NearestRemainderCall { x, y };
                 InType { operation }.in_format::<S>(round, answer)
@@ -134,10 +131,7 @@ fn call_in_pairs(map: MapCall, x: u128, y: u128, z: u128, answer: &mut Answer) -
             Arithmetic::Sum => SumCall { x, y }.in_pairs(round, answer),
             Arithmetic::Difference => DifferenceCall { x, y }.in_pairs(round, answer),
             Arithmetic::Product => ProductCall { x, y }.in_pairs(round, answer),
-            Arithmetic::Quotient => {
-                let operation = QuotientCall { x, y };
-                InType { operation }.in_pairs(round, answer)
-            }
+            Arithmetic::Quotient => QuotientCall { x, y }.in_pairs(round, answer),
             Arithmetic::NearestRemainder => {
                 let operation = NearestRemainderCall { x, y };
                 InType { operation }.in_pairs(round, answer)

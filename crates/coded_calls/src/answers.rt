@@ -21,8 +21,9 @@ use crate::codes::{
 };
 use crate::data::Answer;
 use fast_bits::{
-    Encoded, add_normal, compare_bits, convert_normal, has_ordered_words, multiply_bits, root_bits,
-    round_number, signed_of_bits, subtract_normal, unsigned_of_bits, word_of,
+    Encoded, add_normal, compare_bits, convert_normal, divide_normal, has_ordered_words,
+    multiply_add_normal, multiply_bits, root_bits, round_number, signed_of_bits, subtract_normal,
+    unsigned_of_bits, word_of,
 };
 use formats_at_run_time::{FillsInFormat, FlaggedKind, ValueType};
 use rustc_apfloat::ieee::{Flagged, IeeeFloat};
@@ -156,9 +157,34 @@ pub fn product<F: ValueType>(answer: &mut Answer, round: Round, x: u128, y: u128
     product_of_type_here::<F>(answer, round, x, y)
 }
 
+/// A quotient in a format, in line: from bits to bits, if these are of normal numbers that fit in a word.
+#[inline(always)]
+pub fn quotient_here<S: Flagged>(answer: &mut Answer, round: Round, x: u128, y: u128)
+    requires { S.PRECISION < S.BITS }
+    ensures { let kind = of_format (constants_of S.Flagged) in
+        IsKindAnswer kind round (OfTwo Quotient x y) answer.new }
+{
+    if let Some(quotient) = divide_normal::<S>(x, y, round) {
+        *answer = with_bits(quotient);
+    } else {
+        let (x, y) = (word_of::<S>(x), word_of::<S>(y));
+        quotient_of_type_here::<IeeeFloat<S>>(answer, round, x, y);
+    }
+}
+
+/// A quotient in a format.
+#[inline(never)]
+pub fn quotient_in<S: Flagged>(answer: &mut Answer, round: Round, x: u128, y: u128)
+    requires { S.PRECISION < S.BITS }
+    ensures { let kind = of_format (constants_of S.Flagged) in
+        IsKindAnswer kind round (OfTwo Quotient x y) answer.new }
+{
+    quotient_here::<S>(answer, round, x, y)
+}
+
 /// A quotient, in line.
 #[inline(always)]
-pub fn quotient_here<F: ValueType>(answer: &mut Answer, round: Round, x: u128, y: u128)
+pub fn quotient_of_type_here<F: ValueType>(answer: &mut Answer, round: Round, x: u128, y: u128)
     requires { F.PRECISION < F.BITS }
     ensures { let of_type = relations_of F.Float.own F.partial_cmp F.takes_root in
         IsTypeAnswer of_type round (OfTwo Quotient x y) answer.new }
@@ -174,7 +200,7 @@ pub fn quotient<F: ValueType>(answer: &mut Answer, round: Round, x: u128, y: u12
     ensures { let of_type = relations_of F.Float.own F.partial_cmp F.takes_root in
         IsTypeAnswer of_type round (OfTwo Quotient x y) answer.new }
 {
-    quotient_here::<F>(answer, round, x, y)
+    quotient_of_type_here::<F>(answer, round, x, y)
 }
 
 /// The remainder by the integer nearest to the quotient.
@@ -199,9 +225,15 @@ pub fn truncated_remainder<F: ValueType>(answer: &mut Answer, round: Round, x: u
     *answer = written(x.c_fmod(y));
 }
 
-/// A product plus a third value, rounded once, in line, unless the format has too many digits for that.
+/// A product plus a third value of any kind, rounded once, in line.
 #[inline(always)]
-pub fn fused_sum_here<S: Flagged>(answer: &mut Answer, round: Round, x: u128, y: u128, z: u128)
+fn fused_sum_of_values_here<S: Flagged>(
+    answer: &mut Answer,
+    round: Round,
+    x: u128,
+    y: u128,
+    z: u128,
+)
     requires { S.PRECISION < S.BITS }
     ensures { let kind = of_format (constants_of S.Flagged) in
         IsKindAnswer kind round (FusedSum x y z) answer.new }
@@ -216,6 +248,22 @@ pub fn fused_sum_here<S: Flagged>(answer: &mut Answer, round: Round, x: u128, y:
     } else {
         x.wide_mul_add_r(y, z, round)
     });
+}
+
+/// A product plus a third value, rounded once, in line: from bits to bits, if these are of normal numbers that fit in a
+/// word.
+#[inline(always)]
+pub fn fused_sum_here<S: Flagged>(answer: &mut Answer, round: Round, x: u128, y: u128, z: u128)
+    requires { S.PRECISION < S.BITS }
+    ensures { let kind = of_format (constants_of S.Flagged) in
+        IsKindAnswer kind round (FusedSum x y z) answer.new }
+{
+    if let Some(sum) = multiply_add_normal::<S>(x, y, z, round) {
+        *answer = with_bits(sum);
+    } else {
+        let (x, y, z) = (word_of::<S>(x), word_of::<S>(y), word_of::<S>(z));
+        fused_sum_of_values_here::<S>(answer, round, x, y, z);
+    }
 }
 
 /// A product plus a third value, rounded once.

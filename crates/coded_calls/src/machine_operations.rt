@@ -619,7 +619,7 @@ impl InLine for QuotientInLine {
 
     #[inline(always)]
     fn plain_here<S: Flagged>(self, answer: &mut Answer, round: Round, x: u128, y: u128) {
-        answers::quotient_here::<IeeeFloat<S>>(answer, round, x, y);
+        answers::quotient_here::<S>(answer, round, x, y);
     }
 }
 
@@ -684,7 +684,7 @@ fn plain_of_two<S: Flagged>(
         Arithmetic::Sum => answers::sum_in::<S>(answer, round, x, y),
         Arithmetic::Difference => answers::difference_in::<S>(answer, round, x, y),
         Arithmetic::Product => answers::product_in::<S>(answer, round, x, y),
-        Arithmetic::Quotient => answers::quotient::<IeeeFloat<S>>(answer, round, x, y),
+        Arithmetic::Quotient => answers::quotient_in::<S>(answer, round, x, y),
         Arithmetic::NearestRemainder => {
             answers::nearest_remainder::<IeeeFloat<S>>(answer, round, x, y)
         }

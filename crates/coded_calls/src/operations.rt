@@ -18,8 +18,9 @@ ghost use Rattle.coded_calls.specs.{Answers.IsReturned, Answers.IsTypeLeft, Know
 use crate::answers::{
     class, comparison, comparison_in, converted, difference, difference_in, exponent, fraction,
     from_signed, from_unsigned, fused_sum, nearest_remainder, next_down, next_up, product,
-    product_in, quotient, read, root, root_in, round_to_integral, round_to_integral_in, scaled,
-    sum, sum_in, to_signed, to_signed_in, to_unsigned, to_unsigned_in, truncated_remainder,
+    product_in, quotient, quotient_in, read, root, root_in, round_to_integral,
+    round_to_integral_in, scaled, sum, sum_in, to_signed, to_signed_in, to_unsigned,
+    to_unsigned_in, truncated_remainder,
 };
 use crate::codes::{ANSWERED, NO_SUCH_OPERATION, UNKNOWN_FORMAT, UNKNOWN_MODE};
 use crate::data::Answer;
@@ -197,12 +198,18 @@ pub struct QuotientCall {
     pub y: u128,
 }
 
-impl Operation for QuotientCall {
+impl KindOperation for QuotientCall {
     ghost call = { λ it. OfTwo Quotient it.x it.y };
 
     #[inline(always)]
-    fn made_in<V: ValueType>(self, round: Round, answer: &mut Answer) -> u32 {
-        quotient::<V>(answer, round, self.x, self.y);
+    fn in_format<S: Flagged>(self, round: Round, answer: &mut Answer) -> u32 {
+        quotient_in::<S>(answer, round, self.x, self.y);
+        ANSWERED
+    }
+
+    #[inline(always)]
+    fn in_pairs(self, round: Round, answer: &mut Answer) -> u32 {
+        quotient::<DoubleDouble>(answer, round, self.x, self.y);
         ANSWERED
     }
 }

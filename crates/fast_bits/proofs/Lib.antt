@@ -10,3 +10,4 @@ pub mod Magnitudes
 pub mod Integrals
 pub mod RoundedIntegers
 pub mod lanes_lemmas
+pub mod OddNumbers

@@ -1,6 +1,8 @@
 -- Normal numbers and their encodings.
-use Rattle.std.specs.Prelude.{◌≡◌, ℕ, ◌-◌, ◌*◌, ◌^◌, ◌<◌, ◌≤◌, ◌⊎◌, Bool, false, not, if◌then◌else◌}
+use Rattle.std.specs.Prelude.{◌≡◌, ℕ, ◌-◌, ◌*◌, ◌^◌, ◌<◌, ◌≤◌, ◌⊎◌, ◌≤ℤ◌, pos, neg_ℤ, Bool, false, not, if◌then◌else◌}
 use Rattle.apfloat_model.specs.formats.{Datum.finite, Lawful.Constants}
+use Rattle.apfloat_model.specs.rounding.{Bounds.exponent_bound, Standing.up, Standing.down}
+use Rattle.apfloat_words.specs.declared.terms.Term.{Term}
 use Rattle.fast_bits.specs.{declared.numbers.Number.Number, declared.numbers.Ordered.Ordered, Encoded.value_in}
 
 -- a format of at most 64 bits with an implied integer bit, and of at most 59 digits
@@ -44,3 +46,12 @@ pub record AreOrderedNumbers (c : Constants) (x y : ℕ) (changed : Bool) (o : O
   pub same : ((o.high ≡ left) × (o.low ≡ opposite_if changed right))
       ⊎ ((o.high ≡ opposite_if changed right) × (o.low ≡ left))
   pub is_ordered : IsOrdered o
+
+-- an amount with that sign, as a significand with all of so many digits at an exponent
+pub record IsTermOf (digits : ℕ) (sign : Bool) (amount : ℕ) (term : Term) : Type 0 where
+  pub negative : term.negative ≡ sign
+  pub above : neg_ℤ (pos 1) ≤ℤ term.exponent
+  pub below : term.exponent ≤ℤ pos exponent_bound
+  pub fits : term.significand < 2 ^ digits
+  pub full : 2 ^ (digits - 1) ≤ term.significand
+  pub counted : term.significand * 2 ^ up term.exponent ≡ amount * 2 ^ down term.exponent

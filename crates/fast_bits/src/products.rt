@@ -15,14 +15,14 @@ use apfloat_words::{full_product, power_of_two};
 
 /// The product of two significands, and how many places it was moved up.
 #[derive(Clone, Copy)]
-struct Raised {
-    significand: u128,
-    moved: u32,
+pub(crate) struct Raised {
+    pub significand: u128,
+    pub moved: u32,
 }
 
 /// The product of two significands, moved up to twice their number of digits.
 #[inline(always)]
-fn raised_product(precision: u32, left: u64, right: u64) -> Raised
+pub(crate) fn raised_product(precision: u32, left: u64, right: u64) -> Raised
     requires some { 0 < precision }
     requires short { precision ≤ 59 }
     requires left_fits { left < 2 ^ precision }
@@ -48,9 +48,9 @@ fn raised_product(precision: u32, left: u64, right: u64) -> Raised
     }
 }
 
-/// The sign of a product (IEEE 754-2019 6.3).
+/// The sign of a product or a quotient (IEEE 754-2019 6.3).
 #[inline(always)]
-fn sign_of_product(left: bool, right: bool) -> bool
+pub(crate) fn sign_of_product(left: bool, right: bool) -> bool
     ensures { result ≡ product_sign left right }
 {
     left != right

@@ -41,7 +41,7 @@ fn moved_place(place: u32, precision: u32) -> ExpInt
 
 /// The number, or the next one if it is even and something was lost below it.
 #[inline(always)]
-fn odd_if(number: u64, lost: bool) -> u64
+pub(crate) fn odd_if(number: u64, lost: bool) -> u64
     ensures { result ≡ (if lost then number + (1 - number % 2) else number) }
 {
     number | u64::from(lost)

@@ -35,6 +35,41 @@ fn kept_place(precision: u32, digits: u32, unit: ExpInt) -> ExpInt
     unit + digits as ExpInt - precision as ExpInt
 }
 
+/// `encode_odd` of a significand whose digits have been counted.
+#[inline(always)]
+pub(crate) fn encode_counted<S: Flagged>(
+    significand: u64,
+    digits: u32,
+    unit: ExpInt,
+    negative: bool,
+    round: Round,
+) -> Option<Encoded>
+    requires bits { S.PRECISION < S.BITS }
+    requires word { FitsWord (constants_of S.Flagged) }
+    requires any { 0 < digits }
+    requires short { digits ≤ 64 }
+    requires fits { significand < 2 ^ digits }
+    requires full { 2 ^ (digits - 1) ≤ significand }
+    requires within { IsWithin unit_bound unit }
+    ensures { (amount parts : ℕ) → 0 < parts
+        → IsRoundedToOdd (2 ^ (S.PRECISION + 1)) significand (amount * 2 ^ down unit)
+        (parts * 2 ^ up unit)
+        → IfSome result (IsEncodedNumber (constants_of S.Flagged) round negative amount parts) }
+{
+    let precision = precision_of::<S>();
+    let top = at_top(significand, digits);
+    let last = power_of(64 - precision);
+    let half = power_of(64 - precision - 1);
+    let from = kept_place(precision, digits, unit);
+    if let Some(place) = inner_place::<S>(from) {
+        let kept = top / last;
+        let rest = top % last;
+        Some(encode_cut::<S>(negative, kept, rest, half, place, round))
+    } else {
+        None
+    }
+}
+
 /// The encoding of `significand * 2^unit` quanta, which were rounded to odd, rounded, if the result is a normal number.
 #[inline(always)]
 pub fn encode_odd<S: Flagged>(
@@ -52,17 +87,6 @@ pub fn encode_odd<S: Flagged>(
         (parts * 2 ^ up unit)
         → IfSome result (IsEncodedNumber (constants_of S.Flagged) round negative amount parts) }
 {
-    let precision = precision_of::<S>();
     let digits = digits(significand as u128);
-    let top = at_top(significand, digits);
-    let last = power_of(64 - precision);
-    let half = power_of(64 - precision - 1);
-    let from = kept_place(precision, digits, unit);
-    if let Some(place) = inner_place::<S>(from) {
-        let kept = top / last;
-        let rest = top % last;
-        Some(encode_cut::<S>(negative, kept, rest, half, place, round))
-    } else {
-        None
-    }
+    encode_counted::<S>(significand, digits, unit, negative, round)
 }

@@ -1,10 +1,9 @@
-use Rattle.std.proofs.Math.Path.{subst₂}
+use Rattle.rustc_apfloat.specs.FlaggedTypes.{constants_of}
+use Rattle.coded_calls.proofs.NumberAnswers.{value_of_encoded}
 use Rattle.coded_calls.proofs.answers.quotient_here.Goals as goal
 
-pub returns : goal.returns
-returns g c = record {
-  given = c.div_r.result;
-  holds = subst₂ (λ x y. g.F.Float.meaning.divides x y c.args.round c.div_r.result) c.from_bits-x.ensures
-      c.from_bits-y.ensures c.div_r.ensures;
-  is_written = c.written.ensures;
-}
+pub returns-in-Some : goal.returns-in-Some
+returns-in-Some g c =
+    let value = value_of_encoded (constants_of g.S.Flagged) _ c.in-Some.quotient c.with_bits.result
+    c.in-Some.ensures.is_answer c.with_bits.ensures.bits c.with_bits.ensures.status c.with_bits.ensures.number in
+    record { given = value.given; holds = value.holds; is_written = value.is_written }
