@@ -3,7 +3,7 @@ use Rattle.std.specs.Prelude.{◌≡◌, ℕ, ◌+◌, ◌-◌, ◌*◌, ◌/◌
 use Rattle.std.specs.Bool.{MatchBool}
 use Rattle.apfloat_model.specs.declared.kinds.{NonfiniteBehavior.TheVariants.IEEE754, Round.TheVariants.TowardZero}
 use Rattle.apfloat_model.specs.declared.status.StatusAnd.{StatusAnd}
-use Rattle.apfloat_model.specs.formats.{Format.Format, Datum.Datum, Datum.finite, Datum.infinite, Datum.nan}
+use Rattle.apfloat_model.specs.formats.{Format.Format, Datum.Datum, Datum.finite}
 use Rattle.apfloat_model.specs.formats.Members.{IsFiniteOf}
 use Rattle.apfloat_model.specs.rounding.{Answer.IsAnswer, Flags.bits_of, Rounding.overflow_bit, Rounding.underflow_bit}
 use Rattle.apfloat_model.specs.arithmetic.{Conversions.IsConversion, Exact.up, Exact.down, Scaling.IsScaling}
