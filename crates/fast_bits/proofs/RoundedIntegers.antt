@@ -115,7 +115,8 @@ cut_word precision s place places scale shift precise fits some most near far at
     let half : 2 ^ 63 ≡ 2 ^ (shift - 1) * 2 ^ (64 - shift) =
     ap (λ (n : ℕ). 2 ^ n) up ∙ pow-add 2 (shift - 1) (64 - shift) in
     let rest : word * 2 ^ (64 - shift) % 2 ^ 64 ≡ word % 2 ^ shift * 2 ^ (64 - shift) =
-    ap (λ (n : ℕ). word * 2 ^ (64 - shift) % n) whole ∙ rest_scaled word (2 ^ shift) (2 ^ (64 - shift)) (pow_pos (64 - shift)) in
+    ap (λ (n : ℕ). word * 2 ^ (64 - shift) % n) whole
+    ∙ rest_scaled word (2 ^ shift) (2 ^ (64 - shift)) (pow_pos (64 - shift)) in
     let loss : loss_at (word * 2 ^ (64 - shift) % 2 ^ 64) (2 ^ 63) ≡ loss_at (word % 2 ^ shift) (2 ^ (shift - 1)) =
     ap (λ (n : ℕ). loss_at n (2 ^ 63)) rest
     ∙ ap (λ (n : ℕ). loss_at (word % 2 ^ shift * 2 ^ (64 - shift)) n) half
@@ -135,7 +136,8 @@ cut_word precision s place places scale shift precise fits some most near far at
 pub normal_is : (c : Constants) (mode : Round) (bits biased s word shift : ℕ) (negative moved : Bool) (x : Rounded)
     → c.explicit_integer_bit ≡ false → negative ≡ (fields_of (format_with c) (layout_with c) bits).negative
     → biased ≡ (fields_of (format_with c) (layout_with c) bits).biased_exponent → 0 < biased
-    → biased + 1 < 2 ^ c.exp_bits → s ≡ 2 ^ (c.precision - 1) + (fields_of (format_with c) (layout_with c) bits).trailing
+    → biased + 1 < 2 ^ c.exp_bits
+    → s ≡ 2 ^ (c.precision - 1) + (fields_of (format_with c) (layout_with c) bits).trailing
     → IsCutWord s (biased - 1) (format_with c).scale word shift
     → moved ≡ rounds_up mode negative (loss_at (word * 2 ^ (64 - shift) % 2 ^ 64) (2 ^ 63))
     (eqb (word / 2 ^ shift % 2) 1)
