@@ -2,10 +2,11 @@
 use Rattle.std.proofs.Common.{◌≡◌, ℕ, ◌+◌, ◌-◌, ◌*◌, ◌/◌, ◌%◌, ◌^◌, ◌<◌, ◌≤◌, Bool, true, false, cond, not, ◌&&◌, eqb}
 use Rattle.std.proofs.Common.{IfSome, Option, Some, None, refl, sym, ap, ◌∙◌, subst, ⊎_elim, arith, ℤ, pos, neg_ℤ}
 use Rattle.std.proofs.Common.{◌≤ℤ◌}
-use Rattle.std.proofs.Math.{Bool.and-true, Nat.mod-eq_of_lt, Nat.mul-div-mul_right, Nat.mul-pos, Nat.pow-le-pow_right}
-use Rattle.std.proofs.lemmas.{Bool.Decides.eqb_tells, Bool.ne_eqb, Int.ints, Nat.pow-add, Nat.pow_pos}
+use Rattle.std.proofs.Math.{Bool.and-true, Nat.mod-add-div', Nat.mod-eq_of_lt, Nat.mul-div-mul_right, Nat.mul-pos}
+use Rattle.std.proofs.Math.Nat.{mul-lt-mul_of_pos_right, pow-le-pow_right}
+use Rattle.std.proofs.lemmas.{Bool.cases_lt, Bool.Decides.eqb_tells, Bool.ne_eqb, Int.ints, Nat.pow-add, Nat.pow_pos}
 use Rattle.apfloat_model.specs.{arithmetic.Exact.signed, declared.kinds.Round.Round, formats.Datum.finite}
-use Rattle.apfloat_model.specs.declared.loss.Loss.TheVariants.{ExactlyZero}
+use Rattle.apfloat_model.specs.declared.loss.Loss.{Loss}
 use Rattle.apfloat_model.specs.declared.kinds.NonfiniteBehavior.TheVariants.{IEEE754}
 use Rattle.apfloat_model.specs.{bits.Interchange.IsInterchange, bits.Layout.fields_of}
 use Rattle.apfloat_model.specs.formats.Lawful.{AreParameters, Constants, format_with, layout_with}
@@ -13,12 +14,12 @@ use Rattle.apfloat_model.specs.rounding.{Enclosure.rounds_up, Flags.bits_of, Sta
 use Rattle.apfloat_model.specs.whole_numbers.WholeNumbers.{whole_pick}
 use Rattle.apfloat_model.specs.whole_numbers.WholeNumbersOut.{IsWhole, Whole, ranged, to_signed, to_unsigned}
 use Rattle.apfloat_model.proofs.{general.Choices.no_zero, general.Powers.two_pos, whole_numbers.SignedTests.less_not}
-use Rattle.apfloat_model.proofs.rounding.{KeptDigits.fits_cut, KeptDigits.fits_shifted, Losses.cut_at}
+use Rattle.apfloat_model.proofs.rounding.KeptDigits.{fits_cut, fits_shifted}
 use Rattle.apfloat_rounding.specs.Cuts.{loss_at}
-use Rattle.apfloat_rounding.proofs.CutRests.{rest_below, rest_stands}
+use Rattle.apfloat_rounding.proofs.CutRests.{loss_half, loss_less, loss_more, loss_zero}
 use Rattle.apfloat_conversions.specs.{Results.GivesSigned, Results.GivesWhole, Wholes.signed_limit}
 use Rattle.apfloat_conversions.specs.declared.integers.{Signed.Signed, Unsigned.Unsigned}
-use Rattle.apfloat_conversions.proofs.Wholes.{cut_whole_stands, exact_at, rest_exact, rest_inexact, whole_at}
+use Rattle.apfloat_conversions.proofs.Wholes.{exact_at, rest_exact, rest_inexact, whole_at, word_cut_stands}
 use Rattle.fast_bits.specs.{Encoded.value_in, Order.quanta_at, declared.integers.Rounded.Rounded}
 use Rattle.fast_bits.specs.Integers.{IsRounded, IsSignedOf, IsUnsignedOf}
 use Rattle.fast_bits.proofs.{Integrals.below_one, Integrals.flags_are, Reading.number_read, Roundings.moved_high}
@@ -56,85 +57,105 @@ exact_zero negative rest quanta none =
     (λ z. rw (z.0, none z.1) (sym (ap not (and-true negative))))
     (λ z. rw z.0 refl) (eqb_tells rest 0)
 
--- ---- numbers of at least 1
+-- ---- normal numbers
 
-powers : (place precision digits scale : ℕ) → precision ≤ 64 → digits + scale ≡ place + precision
-    → 2 ^ place * 2 ^ 64 ≡ 2 ^ (64 - precision) * 2 ^ digits * 2 ^ scale
-powers place precision digits scale most at =
-    let left = pow-add 2 place 64 in
-    let right = pow-add 2 (64 - precision + digits) scale in
-    let two = pow-add 2 (64 - precision) digits in
-    let same : place + 64 ≡ 64 - precision + digits + scale = omega (arith, most, at) in
-    let e = ap (λ (n : ℕ). 2 ^ n) same in
-    let t = ap (λ (n : ℕ). n * 2 ^ scale) two in
-    sym left ∙ e ∙ right ∙ t
+-- a rest in smaller units
+rest_scaled : (a b w : ℕ) → 0 < w → a * w % (b * w) ≡ a % b * w
+rest_scaled a b w p =
+    let q : a * w / (b * w) ≡ a / b = mul-div-mul_right a b p in
+    let e : a * w % (b * w) + a * w / (b * w) * (b * w) ≡ a * w = mod-add-div' (a * w) (b * w) in
+    let f : a * w / (b * w) * (b * w) ≡ a / b * (b * w) = ap (λ (x : ℕ). x * (b * w)) q in
+    let g : (a % b + a / b * b) * w ≡ a * w = ap (λ (x : ℕ). x * w) (mod-add-div' a b) in
+    omega arith
 
--- the digits of a number at the top of a word, cut at the binary point
-pub record IsCutWord (precision s place digits scale word : ℕ) : Type 0 where
-  pub stands : StandsFor (word / 2 ^ (64 - digits)) (loss_at (word * 2 ^ digits % 2 ^ 64) (2 ^ 63)) (s * 2 ^ place)
+loss_scaled : (r h m : ℕ) → 0 < m → loss_at (r * m) (h * m) ≡ loss_at r h
+loss_scaled r h m some =
+    ⊎_elim
+    (λ (z : r < 1).
+    let none : r ≡ 0 = omega (arith, z) in
+    loss_zero (r * m) (h * m) (ap (λ (n : ℕ). n * m) none ∙ omega arith) ∙ sym (loss_zero r h none))
+    (λ (s : 1 ≤ r).
+    let up : 1 ≤ r * m = mul-pos s some in
+    ⊎_elim
+    (λ (l : r < h). loss_less (r * m) (h * m) up (mul-lt-mul_of_pos_right l some) ∙ sym (loss_less r h s l))
+    (λ (g : h ≤ r).
+    ⊎_elim
+    (λ (p : h < r). loss_more (r * m) (h * m) (mul-lt-mul_of_pos_right p some) ∙ sym (loss_more r h p))
+    (λ (w : r ≤ h).
+    let e : r ≡ h = omega (arith, g, w) in
+    loss_half (r * m) (h * m) up (ap (λ (n : ℕ). n * m) e) ∙ sym (loss_half r h s e))
+    (cases_lt h r))
+    (cases_lt r h))
+    (cases_lt r 1)
+
+powers : (place places precision scale : ℕ) → precision ≤ 62 → place + places + precision ≡ 62 + scale
+    → 2 ^ place * 2 ^ places ≡ 2 ^ (62 - precision) * 2 ^ scale
+powers place places precision scale most at =
+    let same : place + places ≡ 62 - precision + scale = omega (arith, most, at) in
+    sym (pow-add 2 place places) ∙ ap (λ (n : ℕ). 2 ^ n) same ∙ pow-add 2 (62 - precision) scale
+
+-- the digits of a number in a word, cut at the binary point, with those below it at the top of a word
+pub record IsCutWord (s place scale word shift : ℕ) : Type 0 where
+  pub stands : StandsFor (word / 2 ^ shift) (loss_at (word * 2 ^ (64 - shift) % 2 ^ 64) (2 ^ 63)) (s * 2 ^ place)
       (2 ^ scale)
-  pub small : word / 2 ^ (64 - digits) + 1 ≤ 2 ^ 62
+  pub small : word / 2 ^ shift + 1 ≤ 2 ^ 62
 
-pub cut_word : (precision s place digits scale : ℕ) → precision ≤ 59 → s < 2 ^ precision → digits ≤ 62
-    → digits + scale ≡ place + precision
-    → IsCutWord precision s place digits scale (s * 2 ^ (64 - precision) % 2 ^ 64)
-cut_word precision s place digits scale precise fits few at =
-    let word = s * 2 ^ (64 - precision) in
-    let shifted = s * 2 ^ (64 - precision) * 2 ^ digits in
-    let in_word = fits_shifted s precision (64 - precision) 64 fits (omega (arith, precise)) in
-    let same : s * 2 ^ (64 - precision) % 2 ^ 64 ≡ s * 2 ^ (64 - precision) = mod-eq_of_lt in_word in
-    let rest = shifted % 2 ^ 64 in
-    let sixty : 64 ≡ 64 - digits + digits = omega (arith, few) in
-    let whole : 2 ^ 64 ≡ 2 ^ (64 - digits) * 2 ^ digits =
-    ap (λ (n : ℕ). 2 ^ n) sixty ∙ pow-add 2 (64 - digits) digits in
-    let kept : shifted / 2 ^ 64 ≡ word / 2 ^ (64 - digits) =
-    ap (λ (n : ℕ). shifted / n) whole ∙ mul-div-mul_right word (2 ^ (64 - digits)) (pow_pos digits) in
-    let cut = cut_at shifted 64 (2 ^ 63) (shifted % 2 ^ 64) ExactlyZero (loss_at (shifted % 2 ^ 64) (2 ^ 63))
-    (omega arith) refl refl
-    (λ q a u v g. rest_stands q (2 ^ 63) (shifted % 2 ^ 64) a u v
-    (rest_below shifted 64 (2 ^ 63) (shifted % 2 ^ 64) (omega arith) refl refl) g) (shifted * 2 ^ scale) (2 ^ scale)
-    (pow_pos scale) refl in
-    let units : s * 2 ^ place * 2 ^ 64 ≡ shifted * 2 ^ scale =
-    omega (arith, ap (λ (n : ℕ). s * n) (powers place precision digits scale (omega (arith, precise)) at)) in
-    let stands = cut_whole_stands shifted (shifted / 2 ^ 64) 64 (s * 2 ^ place) (2 ^ scale)
-    (loss_at (shifted % 2 ^ 64) (2 ^ 63)) units cut in
-    let below : word / 2 ^ (64 - digits) < 2 ^ digits =
-    fits_cut word 64 (64 - digits) digits in_word (omega (arith, few)) in
-    let most : 2 ^ digits ≤ 2 ^ 62 = pow-le-pow_right two_pos few in
+pub cut_word : (precision s place places scale shift : ℕ) → precision ≤ 59 → s < 2 ^ precision → 0 < shift
+    → shift ≤ 63 → (places ≤ 63 → shift ≡ places) → (63 < places → shift ≡ 63)
+    → place + places + precision ≡ 62 + scale
+    → IsCutWord s place scale (s * 2 ^ (62 - precision) % 2 ^ 64) shift
+cut_word precision s place places scale shift precise fits some most near far at =
+    let word = s * 2 ^ (62 - precision) in
+    let in_word = fits_shifted s precision (62 - precision) 62 fits (omega (arith, precise)) in
+    let same : s * 2 ^ (62 - precision) % 2 ^ 64 ≡ s * 2 ^ (62 - precision) = mod-eq_of_lt (omega (arith, in_word)) in
+    let sixty : 64 ≡ shift + (64 - shift) = omega (arith, most) in
+    let whole : 2 ^ 64 ≡ 2 ^ shift * 2 ^ (64 - shift) =
+    ap (λ (n : ℕ). 2 ^ n) sixty ∙ pow-add 2 shift (64 - shift) in
+    let up : 63 ≡ shift - 1 + (64 - shift) = omega (arith, some, most) in
+    let half : 2 ^ 63 ≡ 2 ^ (shift - 1) * 2 ^ (64 - shift) =
+    ap (λ (n : ℕ). 2 ^ n) up ∙ pow-add 2 (shift - 1) (64 - shift) in
+    let rest : word * 2 ^ (64 - shift) % 2 ^ 64 ≡ word % 2 ^ shift * 2 ^ (64 - shift) =
+    ap (λ (n : ℕ). word * 2 ^ (64 - shift) % n) whole
+    ∙ rest_scaled word (2 ^ shift) (2 ^ (64 - shift)) (pow_pos (64 - shift)) in
+    let loss : loss_at (word * 2 ^ (64 - shift) % 2 ^ 64) (2 ^ 63) ≡ loss_at (word % 2 ^ shift) (2 ^ (shift - 1)) =
+    ap (λ (n : ℕ). loss_at n (2 ^ 63)) rest
+    ∙ ap (λ (n : ℕ). loss_at (word % 2 ^ shift * 2 ^ (64 - shift)) n) half
+    ∙ loss_scaled (word % 2 ^ shift) (2 ^ (shift - 1)) (2 ^ (64 - shift)) (pow_pos (64 - shift)) in
+    let units : s * 2 ^ place * 2 ^ places ≡ word * 2 ^ scale =
+    omega (arith, ap (λ (n : ℕ). s * n) (powers place places precision scale (omega (arith, precise)) at)) in
+    let stands = word_cut_stands word places shift (2 ^ (shift - 1)) (word % 2 ^ shift) (s * 2 ^ place) (2 ^ scale)
+    in_word near far some refl refl (pow_pos scale) units in
+    let below : word / 2 ^ shift < 2 ^ 61 = fits_cut word 62 shift 61 in_word (omega (arith, some)) in
     record {
       stands =
           rw same
-          (subst (λ (n : ℕ). StandsFor n (loss_at (shifted % 2 ^ 64) (2 ^ 63)) (s * 2 ^ place) (2 ^ scale)) kept
-          stands);
-      small = rw same (omega (arith, below, most));
+          (subst (λ (l : Loss). StandsFor (word / 2 ^ shift) l (s * 2 ^ place) (2 ^ scale)) (sym loss) stands);
+      small = rw same (omega (arith, below));
     }
 
-pub from_one_is : (c : Constants) (mode : Round) (bits biased digits s half : ℕ) (negative moved : Bool) (x : Rounded)
-    → AreParameters c.precision c.min_exp c.max_exp → c.explicit_integer_bit ≡ false
-    → negative ≡ (fields_of (format_with c) (layout_with c) bits).negative
-    → biased ≡ (fields_of (format_with c) (layout_with c) bits).biased_exponent → biased + 1 < 2 ^ c.exp_bits
-    → 0 < digits → digits + (format_with c).scale ≡ biased + (c.precision - 1)
+pub normal_is : (c : Constants) (mode : Round) (bits biased s word shift : ℕ) (negative moved : Bool) (x : Rounded)
+    → c.explicit_integer_bit ≡ false → negative ≡ (fields_of (format_with c) (layout_with c) bits).negative
+    → biased ≡ (fields_of (format_with c) (layout_with c) bits).biased_exponent → 0 < biased
+    → biased + 1 < 2 ^ c.exp_bits
     → s ≡ 2 ^ (c.precision - 1) + (fields_of (format_with c) (layout_with c) bits).trailing
-    → IsCutWord c.precision s (biased - 1) digits (format_with c).scale half
-    → moved ≡ rounds_up mode negative (loss_at (half * 2 ^ digits % 2 ^ 64) (2 ^ 63))
-    (eqb (half / 2 ^ (64 - digits) % 2) 1)
-    → x.magnitude ≡ cond moved (half / 2 ^ (64 - digits) + 1) (half / 2 ^ (64 - digits))
-    → (half * 2 ^ digits % 2 ^ 64 ≡ 0 → bits_of x.status ≡ 0)
-    → ((half * 2 ^ digits % 2 ^ 64 ≡ 0 → ⊥) → bits_of x.status ≡ 16)
-    → x.is_exact ≡ eqb (half * 2 ^ digits % 2 ^ 64) 0 → IsRounded c mode bits negative x
-from_one_is c mode bits biased digits s half negative moved x are implied sign biased_is number some at s_is cut
-    moved_is magnitude exact inexact is_exact =
-    let fields = fields_of (format_with c) (layout_with c) bits in
-    let above : 0 < biased = omega (arith, ints, are, at, some) in
-    let read = number_read c bits implied (subst (λ (n : ℕ). 0 < n) biased_is above)
+    → IsCutWord s (biased - 1) (format_with c).scale word shift
+    → moved ≡ rounds_up mode negative (loss_at (word * 2 ^ (64 - shift) % 2 ^ 64) (2 ^ 63))
+    (eqb (word / 2 ^ shift % 2) 1)
+    → x.magnitude ≡ cond moved (word / 2 ^ shift + 1) (word / 2 ^ shift)
+    → (word * 2 ^ (64 - shift) % 2 ^ 64 ≡ 0 → bits_of x.status ≡ 0)
+    → ((word * 2 ^ (64 - shift) % 2 ^ 64 ≡ 0 → ⊥) → bits_of x.status ≡ 16)
+    → x.is_exact ≡ eqb (word * 2 ^ (64 - shift) % 2 ^ 64) 0 → IsRounded c mode bits negative x
+normal_is c mode bits biased s word shift negative moved x implied sign biased_is normal number s_is cut moved_is
+    magnitude exact inexact is_exact =
+    let rest = word * 2 ^ (64 - shift) % 2 ^ 64 in
+    let read = number_read c bits implied (subst (λ (n : ℕ). 0 < n) biased_is normal)
     (subst (λ (n : ℕ). n + 1 < 2 ^ c.exp_bits) biased_is number) in
     let there : value_in c bits ≡ finite negative (s * 2 ^ (biased - 1)) = rw (sign, biased_is, s_is) read in
     let left : 0 < s = omega (arith, s_is, pow_pos (c.precision - 1)) in
     let quanta : 0 < s * 2 ^ (biased - 1) = mul-pos left (pow_pos (biased - 1)) in
     let nonzero : eqb (s * 2 ^ (biased - 1)) 0 ≡ false = ne_eqb _ 0 (λ e. omega (arith, quanta, e)) in
-    rounded_is c mode bits (s * 2 ^ (biased - 1)) (half / 2 ^ (64 - digits)) (half * 2 ^ digits % 2 ^ 64) (2 ^ 63)
-    negative moved x there cut.stands moved_is magnitude exact inexact
-    (is_exact ∙ sym (rw nonzero (no_zero negative (eqb (half * 2 ^ digits % 2 ^ 64) 0)))) cut.small
+    rounded_is c mode bits (s * 2 ^ (biased - 1)) (word / 2 ^ shift) rest (2 ^ 63) negative moved x there cut.stands
+    moved_is magnitude exact inexact (is_exact ∙ sym (rw nonzero (no_zero negative (eqb rest 0)))) cut.small
 
 -- ---- numbers below 1
 

@@ -10,7 +10,7 @@ ghost use Rattle.fast_bits.specs.{Encoded.value_in, Integers.IsRounded, Integers
 ghost use Rattle.fast_bits.specs.Numbers.{FitsWord};
 
 use crate::cuts::status_of;
-use crate::integral::{moves_to_one, place_of_one};
+use crate::integral::moves_to_one;
 use crate::numbers::{
     biased_exponent, exponents, fits_word, is_minus, magnitude_of, significand_of,
 };
@@ -31,14 +31,26 @@ pub(crate) struct Rounded {
     pub is_exact: bool,
 }
 
-/// A number of at least 1 with at most 62 digits above the binary point, rounded. Those below it are at the top of a
-/// word, so that half of 1 is the same for all.
+/// How far a word of 62 digits is shifted: 63 places already leave nothing of it.
 #[inline(always)]
-fn round_from_one<S: Flagged>(
+fn word_places(places: u32) -> u32
+    ensures near { places ≤ 63 → result ≡ places }
+    ensures far { 63 < places → result ≡ 63 }
+    ensures bound { result ≤ 63 }
+    ensures some { 0 < places → 0 < result }
+{
+    if places > 63 { 63 } else { places }
+}
+
+/// A normal number whose significand, as a word of 62 digits, has that many below the binary point, rounded. These are
+/// moved to the top of a word, so that half of 1 is the same for all. There is no branch on whether some are above the
+/// point, since a processor cannot predict it.
+#[inline(always)]
+fn round_normal<S: Flagged>(
     bits: u128,
     negative: bool,
     biased: u32,
-    digits: u32,
+    places: u32,
     round: Round,
 ) -> Rounded
     requires fit { FitsWord (constants_of S.Flagged) }
@@ -46,15 +58,16 @@ fn round_from_one<S: Flagged>(
         ≡ (fields_of (format_of S.Flagged) (layout_of S.Flagged) bits).negative }
     requires biased { biased
         ≡ (fields_of (format_of S.Flagged) (layout_of S.Flagged) bits).biased_exponent }
+    requires normal { 0 < biased }
     requires number { biased + 1 < 2 ^ S.EXP_BITS }
-    requires some { 0 < digits }
-    requires few { digits ≤ 62 }
-    requires at { digits + (format_of S.Flagged).scale ≡ biased + (S.PRECISION - 1) }
+    requires some { 0 < places }
+    requires at { biased + places + (S.PRECISION - 1) ≡ 62 + (format_of S.Flagged).scale }
     ensures { IsRounded (constants_of S.Flagged) round bits negative result }
 {
-    let word = significand_of::<S>(bits) << (64 - S::PRECISION as u32);
-    let rest = word << digits;
-    let kept = word >> (64 - digits);
+    let word = significand_of::<S>(bits) << (62 - S::PRECISION as u32);
+    let shift = word_places(places);
+    let rest = word << (64 - shift);
+    let kept = word >> shift;
     let moved = moves_past(round, negative, rest, 1 << 63, kept % 2 == 1);
     Rounded {
         magnitude: next_word_if(kept, moved),
@@ -95,11 +108,11 @@ fn round_to_integer<S: Flagged>(bits: u128, negative: bool, round: Round) -> Opt
     ensures { IfSome result (IsRounded (constants_of S.Flagged) round bits negative) }
 {
     let biased = biased_exponent::<S>(bits);
-    let digits = biased as ExpInt + S::MIN_EXP;
-    if (0 < digits) & (digits <= 62) & (biased + 1 < exponents::<S>()) {
-        return Some(round_from_one::<S>(bits, negative, biased, digits as u32, round));
+    let places = 62 - S::MIN_EXP - biased as ExpInt;
+    if (biased != 0) & (places > 0) & (biased + 1 < exponents::<S>()) {
+        return Some(round_normal::<S>(bits, negative, biased, places as u32, round));
     }
-    if biased <= place_of_one::<S>() {
+    if biased == 0 {
         return Some(round_to_one::<S>(bits, negative, round));
     }
     None
