@@ -164,11 +164,12 @@ pub fn quotient_here<S: Flagged>(answer: &mut Answer, round: Round, x: u128, y: 
     ensures { let kind = of_format (constants_of S.Flagged) in
         IsKindAnswer kind round (OfTwo Quotient x y) answer.new }
 {
-    if let Some(quotient) = divide_normal::<S>(x, y, round) {
+    let left = word_of::<S>(x);
+    let right = word_of::<S>(y);
+    if let Some(quotient) = divide_normal::<S>(left, right, round) {
         *answer = with_bits(quotient);
     } else {
-        let (x, y) = (word_of::<S>(x), word_of::<S>(y));
-        quotient_of_type_here::<IeeeFloat<S>>(answer, round, x, y);
+        quotient_of_type_here::<IeeeFloat<S>>(answer, round, left, right);
     }
 }
 
@@ -258,11 +259,13 @@ pub fn fused_sum_here<S: Flagged>(answer: &mut Answer, round: Round, x: u128, y:
     ensures { let kind = of_format (constants_of S.Flagged) in
         IsKindAnswer kind round (FusedSum x y z) answer.new }
 {
-    if let Some(sum) = multiply_add_normal::<S>(x, y, z, round) {
+    let left = word_of::<S>(x);
+    let right = word_of::<S>(y);
+    let addend = word_of::<S>(z);
+    if let Some(sum) = multiply_add_normal::<S>(left, right, addend, round) {
         *answer = with_bits(sum);
     } else {
-        let (x, y, z) = (word_of::<S>(x), word_of::<S>(y), word_of::<S>(z));
-        fused_sum_of_values_here::<S>(answer, round, x, y, z);
+        fused_sum_of_values_here::<S>(answer, round, left, right, addend);
     }
 }
 

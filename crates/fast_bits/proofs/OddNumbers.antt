@@ -1,8 +1,9 @@
 -- Quotients and totals that are rounded to odd.
-use Rattle.std.proofs.Common.{◌≡◌, ℕ, ℤ, pos, ◌+ℤ◌, ◌-ℤ◌, ◌≤ℤ◌, ◌+◌, ◌-◌, ◌*◌, ◌%◌, ◌^◌, ◌<◌, ◌≤◌, ◌⊎◌, Bool, true, false, cond, eqb, Option, Some, None}
-use Rattle.std.proofs.Common.{refl, sym, ap, ◌∙◌, subst, inl, inr, ⊎_elim, arith}
-use Rattle.std.proofs.Math.{Path.subst₂, Nat.add-mul-mod_self_right, Nat.mod-eq_of_lt, Nat.mul-le-mul_right, Nat.mul-pos}
-use Rattle.std.proofs.Math.Nat.{eq_of_mul-eq-mul_right}
+use Rattle.std.proofs.Common.{◌≡◌, ℕ, ℤ, pos, ◌+ℤ◌, ◌-ℤ◌, ◌≤ℤ◌, ◌+◌, ◌-◌, ◌*◌, ◌%◌, ◌^◌, ◌<◌, ◌≤◌, ◌⊎◌}
+use Rattle.std.proofs.Common.{Bool, true, false, cond, eqb, Option, Some, None, refl, sym, ap, ◌∙◌, subst}
+use Rattle.std.proofs.Common.{inl, inr, ⊎_elim, arith}
+use Rattle.std.proofs.Math.{Path.subst₂, Nat.add-mul-mod_self_right, Nat.eq_of_mul-eq-mul_right, Nat.mod-eq_of_lt}
+use Rattle.std.proofs.Math.Nat.{mul-le-mul_right, mul-pos}
 use Rattle.std.proofs.lemmas.{Bool.cases_lt, Bool.eq-eqb, Bool.ne_eqb, Int.ints, Nat.pow-add, Nat.pow_pos}
 use Rattle.std.specs.Prelude.{neg_ℤ, IfSome}
 use Rattle.apfloat_model.specs.rounding.{RoundingToOdd.IsRoundedToOdd, RoundingToOdd.odd_for_rest}
@@ -122,7 +123,8 @@ is_long precision m n up q short close is =
           subst (λ (x : ℕ). 2 ^ x ≤ q) last (odd_quotient_long q (m * 2 ^ up) n places some near.0 there);
       rounded =
           subst₂ (λ (x : ℕ) (y : ℕ). IsRoundedToOdd (2 ^ places) x y n) (sym there) (moved_places m up places)
-          (quotient_to_odd (2 ^ places) (m * 2 ^ up * 2 ^ places) n some (quotient_long (m * 2 ^ up) n places some near.0));
+          (quotient_to_odd (2 ^ places) (m * 2 ^ up * 2 ^ places) n some
+          (quotient_long (m * 2 ^ up) n places some near.0));
     }
 
 -- a quotient of significands as that of their numbers of quanta
@@ -247,7 +249,8 @@ pub total_in_quanta : (least q amount s scale : ℕ) (exponent place : ℤ)
 total_in_quanta least q amount s scale exponent place at given =
     let balance : up exponent + 64 + down place ≡ scale + up place + (down exponent + s) = omega (arith, ints, at) in
     let power : 2 ^ up exponent * 2 ^ 64 * 2 ^ down place ≡ 2 ^ scale * 2 ^ up place * 2 ^ (down exponent + s) =
-    sym (pow3 (up exponent) 64 (down place)) ∙ ap (λ (x : ℕ). 2 ^ x) balance ∙ pow3 scale (up place) (down exponent + s) in
+    sym (pow3 (up exponent) 64 (down place)) ∙ ap (λ (x : ℕ). 2 ^ x) balance
+    ∙ pow3 scale (up place) (down exponent + s) in
     let left : amount * 2 ^ down exponent * 2 ^ s ≡ amount * 2 ^ (down exponent + s) =
     omega (arith, ap (λ (x : ℕ). amount * x) (pow-add 2 (down exponent) s)) in
     let right : 1 * 2 ^ up exponent * 2 ^ 64 ≡ 1 * (2 ^ up exponent * 2 ^ 64) = omega arith in

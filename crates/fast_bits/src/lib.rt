@@ -1,5 +1,5 @@
-//! Sums, differences, products, roots and conversions from encodings to encodings, for callers that have bits and want
-//! bits.
+//! Sums, differences, products, quotients, fused sums, roots and conversions from encodings to encodings, for callers
+//! that have bits and want bits.
 //!
 //! A value is unpacked to compute with it, and packed to write its bits, and both ways treat zeros, denormal numbers,
 //! infinities and NaNs apart. Where operands and the result are normal numbers of formats of at most 64 bits with an

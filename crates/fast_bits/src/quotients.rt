@@ -100,9 +100,9 @@ fn divide_numbers<S: Flagged>(x: Number, y: Number, round: Round) -> Option<Enco
 {
     let precision = precision_of::<S>();
     let up = one_if_less(x.significand, y.significand);
+    let place = quotient_place::<S>(x.place, y.place, up);
+    let negative = sign_of_product(x.negative, y.negative);
     if let Some(quotient) = quotient_to_odd(precision, x.significand << up, y.significand) {
-        let place = quotient_place::<S>(x.place, y.place, up);
-        let negative = sign_of_product(x.negative, y.negative);
         encode_counted::<S>(quotient, precision + 2, place, negative, round)
     } else {
         None
@@ -126,8 +126,8 @@ fn divide_words<S: Flagged>(x: u128, y: u128, round: Round) -> Option<Encoded>
     }
 }
 
-/// The quotient of two values as `div_r` of them (IEEE 754-2019 5.4.1), if they and their quotient are normal numbers of
-/// a format that fits in a word. Very few such quotients are left to that.
+/// The quotient of two values as `div_r` of them (IEEE 754-2019 5.4.1), if they and it are normal numbers of a format
+/// that fits in a word. The few for which a guess fails are left to that, too.
 #[inline(always)]
 pub fn divide_normal<S: Flagged>(x: u128, y: u128, round: Round) -> Option<Encoded>
     requires { S.PRECISION < S.BITS }

@@ -10,7 +10,7 @@ pub returns-in-Product : goal.returns-in-Product
 returns-in-Product g c = rw (c.in-Product.is) c.product_in.ensures
 
 pub returns-in-Quotient : goal.returns-in-Quotient
-returns-in-Quotient g c = rw (c.in-Quotient.is) c.quotient.ensures
+returns-in-Quotient g c = rw (c.in-Quotient.is) c.quotient_in.ensures
 
 pub returns-in-NearestRemainder : goal.returns-in-NearestRemainder
 returns-in-NearestRemainder g c = rw (c.in-NearestRemainder.is) c.nearest_remainder.ensures

@@ -9,7 +9,8 @@ returns g c =
     let z = c.args.z in
     let raised = rw c.precision_of.ensures at c.raised_addend.ensures in
     let at = c.addend_exponent.ensures in
-    let w : to_z w32 (of_z w32 c.addend_exponent.result) ≡ c.addend_exponent.result = omega (arith, ints, at, c.requires.z.near, c.requires.word.precise, g.S.Flagged.lawful.parameters) in
+    let w : to_z w32 (of_z w32 c.addend_exponent.result) ≡ c.addend_exponent.result =
+    omega (arith, ints, at, c.requires.z.near, c.requires.word.precise, g.S.Flagged.lawful.parameters) in
     rw w (record {
       negative = refl;
       above = omega (arith, ints, at, c.requires.z.near, c.requires.word.precise, g.S.Flagged.lawful.parameters);

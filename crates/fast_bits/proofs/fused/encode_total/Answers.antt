@@ -9,7 +9,8 @@ use Rattle.fast_bits.proofs.fused.encode_total.Goals as goal
 
 pub upper_word-word-requires : goal.upper_word-word-requires
 upper_word-word-requires g c =
-    let any = some_digits c.args.total.significand c.digits-digits.result c.requires.some c.digits-digits.ensures.below in
+    let any =
+    some_digits c.args.total.significand c.digits-digits.result c.requires.some c.digits-digits.ensures.below in
     rw c.at_double_top.ensures
     (top_full 128 c.args.total.significand c.digits-digits.result any c.digits-digits.ensures.bound
     (c.digits-digits.ensures.full any))

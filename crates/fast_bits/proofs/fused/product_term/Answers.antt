@@ -10,7 +10,8 @@ returns g c =
     let product = c.raised_product-product in
     let raised = rw c.precision_of.ensures at product.ensures in
     let at = c.product_exponent.ensures in
-    let w : to_z w32 (of_z w32 c.product_exponent.result) ≡ c.product_exponent.result = omega (arith, ints, at, c.requires.x.near, c.requires.y.near, raised.moved) in
+    let w : to_z w32 (of_z w32 c.product_exponent.result) ≡ c.product_exponent.result =
+    omega (arith, ints, at, c.requires.x.near, c.requires.y.near, raised.moved) in
     rw w (record {
       negative = c.sign_of_product.ensures;
       above = omega (arith, ints, at, c.requires.x.near, c.requires.y.near, raised.moved);

@@ -20,10 +20,12 @@ quotient g c =
     (rw c.precision_of-precision.ensures at c.in-Some.ensures)
 
 pub encode_counted-requires-clause-fits : goal.encode_counted-requires-clause-fits
-encode_counted-requires-clause-fits g c = rw c.precision_of-precision.ensures (quotient g (goal.at.encode_counted-requires-clause-fits g c).In-Some).fits
+encode_counted-requires-clause-fits g c =
+    rw c.precision_of-precision.ensures (quotient g (goal.at.encode_counted-requires-clause-fits g c).In-Some).fits
 
 pub encode_counted-requires-clause-full : goal.encode_counted-requires-clause-full
-encode_counted-requires-clause-full g c = rw c.precision_of-precision.ensures (quotient g (goal.at.encode_counted-requires-clause-full g c).In-Some).full
+encode_counted-requires-clause-full g c =
+    rw c.precision_of-precision.ensures (quotient g (goal.at.encode_counted-requires-clause-full g c).In-Some).full
 
 pub returns-in-Some : goal.returns-in-Some
 returns-in-Some g c =
@@ -33,11 +35,20 @@ returns-in-Some g c =
     let place = c.quotient_place-place.result in
     let at = c.quotient_place-place.ensures in
     let w : to_z w32 (of_z w32 place) ≡ place =
-    omega (arith, ints, at, c.requires.x.near, c.requires.y.near, c.requires.word.precise, g.S.Flagged.lawful.parameters) in
+    omega (
+      arith,
+      ints,
+      at,
+      c.requires.x.near,
+      c.requires.y.near,
+      c.requires.word.precise,
+      g.S.Flagged.lawful.parameters,
+    ) in
     let d = rw w at c.encode_counted.ensures in
     let number = d (quanta_of x * 2 ^ scale) (quanta_of y) (quanta_some (constants_of g.S.Flagged) y c.requires.y)
     (quotient_in_quanta (2 ^ (g.S.Flagged.PRECISION + 1)) c.in-Some.quotient x.significand x.place y.significand
-    y.place scale (g.S.Flagged.PRECISION + 1 + c.one_if_less-up.result) (up place) (down place) (omega (arith, ints, at))
+    y.place scale (g.S.Flagged.PRECISION + 1 + c.one_if_less-up.result) (up place) (down place)
+    (omega (arith, ints, at))
     (quotient g (goal.at.returns-in-Some g c).In-Some).rounded) in
     subst
     (λ (b : Bool). IfSome c.encode_counted.result (IsEncodedNumber (constants_of g.S.Flagged) c.args.round b
