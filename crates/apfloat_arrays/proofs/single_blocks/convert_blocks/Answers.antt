@@ -2,7 +2,7 @@ use Rattle.std.proofs.{Math.Nat.mul-le-mul_right, Math.Nat.suc-mul, lemmas.List.
 use Rattle.std.proofs.Common.{◌≡◌, ℕ, suc, ◌+◌, ◌-◌, ◌*◌, ◌^◌, ◌<◌, ◌≤◌, length, [], ◌∙◌, refl, sym, ap, subst, arith}
 use Rattle.rustc_apfloat.specs.FlaggedTypes.{constants_of}
 use Rattle.apfloat_arrays.specs.{Outcomes.counts_of, Tasks.AreConverted, Values.IsConvertedBy}
-use Rattle.apfloat_arrays.proofs.{Joined.block_joined, Places.block_named, Places.block_none}
+use Rattle.apfloat_arrays.proofs.{Joined.block_joined, Places.block_named, Places.block_none, Places.place_below}
 use Rattle.apfloat_arrays.proofs.single_blocks.convert_blocks.Goals as goal
 
 pub returns-then-blocks-eq0 : goal.returns-then-blocks-eq0
@@ -24,6 +24,23 @@ loop-index-init g c =
     let none : 0 ≡ 0 * g.row.N = omega arith in
     subst (λ (n : ℕ). AreConverted from to task c.args.width n c.args.output.now (counts_of [])) none
     (block_none (IsConvertedBy task.overflow from to task.round) 4 c.args.width task.input.now c.args.output.now)
+
+pub slice_bounds-block-end : goal.slice_bounds-block-end
+slice_bounds-block-end g c =
+    let all : (c.loop-index.index * g.row.N + g.row.N) * 4 ≤ length c.args.task.input.now =
+    omega (arith, place_below c.loop-index.index c.args.blocks g.row.N c.loop-index-test.true, c.requires.given.input) in
+    all
+
+pub slice_bounds-target-count : goal.slice_bounds-target-count
+slice_bounds-target-count g c = mul-le-mul_right c.args.width (omega arith)
+
+pub slice_bounds-target-end : goal.slice_bounds-target-end
+slice_bounds-target-end g c =
+    let within : c.loop-index.index * g.row.N + g.row.N ≤ c.args.task.count =
+    omega (arith, place_below c.loop-index.index c.args.blocks g.row.N c.loop-index-test.true) in
+    let all : (c.loop-index.index * g.row.N + g.row.N) * c.args.width ≤ length c.loop-index.output =
+    omega (arith, mul-le-mul_right c.args.width within, c.loop-index.auto.output, c.requires.given.output) in
+    all
 
 pub returns : goal.returns
 returns g c =

@@ -1,9 +1,15 @@
-use Rattle.std.proofs.Common.{◌≡◌, ℕ, ◌*◌, ◌/◌, ◌≤◌, length, ◌∙◌, ap, sym, arith}
+use Rattle.std.proofs.Common.{◌≡◌, ℕ, ◌*◌, ◌/◌, ◌≤◌, length, ◌∙◌, ap, sym, arith, lit≤}
 use Rattle.std.proofs.Math.Nat.{div-mul-le_self, mul-le-mul_right}
 use Rattle.rustc_apfloat.specs.FlaggedTypes.{constants_of}
 use Rattle.apfloat_arrays.specs.{Values.IsConvertedBy, Widths.bytes_of}
 use Rattle.apfloat_arrays.proofs.Tasks.{singles_after, singles_joined, singles_width}
 use Rattle.apfloat_arrays.proofs.single_blocks.convert_many.Goals as goal
+
+pub convert_blocks-counts-requires-clause-few : goal.convert_blocks-counts-requires-clause-few
+convert_blocks-counts-requires-clause-few g c = lit≤ tt
+
+pub convert_blocks-counts-requires-clause-blocks : goal.convert_blocks-counts-requires-clause-blocks
+convert_blocks-counts-requires-clause-blocks g c = div-mul-le_self c.args.task.count 256
 
 pub convert_blocks-counts-requires-clause-given : goal.convert_blocks-counts-requires-clause-given
 convert_blocks-counts-requires-clause-given g c =
@@ -19,14 +25,17 @@ convert_rest-requires-clause-given g c =
     c.convert_blocks-counts.auto.output c.requires.given
 
 pub slice_bounds-target-count : goal.slice_bounds-target-count
-slice_bounds-target-count g c =
-    mul-le-mul_right c.bytes_of-width.result (div-mul-le_self c.args.task.count 256)
+slice_bounds-target-count g c = mul-le-mul_right c.bytes_of-width.result (div-mul-le_self c.args.task.count 256)
 
 pub slice_bounds-target-end : goal.slice_bounds-target-end
 slice_bounds-target-end g c =
-    let width : c.bytes_of-width.result ≡ bytes_of g.T.Flagged.BITS = c.bytes_of-width.ensures ∙ ap bytes_of c.BITS.ensures in
     let room : c.args.task.count * c.bytes_of-width.result ≤ length c.convert_blocks-counts.new.output =
-    omega (arith, c.convert_blocks-counts.auto.output, c.requires.given.output, ap (λ (n : ℕ). c.args.task.count * n) width) in
+    omega (
+      arith,
+      c.convert_blocks-counts.auto.output,
+      c.requires.given.output,
+      ap (λ (n : ℕ). c.args.task.count * n) (c.bytes_of-width.ensures ∙ ap bytes_of c.BITS.ensures),
+    ) in
     room
 
 pub returns : goal.returns
