@@ -1,4 +1,4 @@
-use Rattle.std.proofs.{Math.Nat.mul-le-mul_right, Math.Nat.suc-mul, lemmas.List.Edits.length-between}
+use Rattle.std.proofs.{Math.Nat.le_antisymm, Math.Nat.mul-le-mul_right, Math.Nat.suc-mul, lemmas.List.Edits.length-between}
 use Rattle.std.proofs.Common.{◌≡◌, ℕ, suc, ◌+◌, ◌-◌, ◌*◌, ◌^◌, ◌<◌, ◌≤◌, length, [], ◌∙◌, refl, sym, ap, subst, arith}
 use Rattle.rustc_apfloat.specs.FlaggedTypes.{constants_of}
 use Rattle.apfloat_arrays.specs.{Outcomes.counts_of, Tasks.AreConverted, Values.IsConvertedBy}
@@ -31,6 +31,11 @@ slice_bounds-block-end g c =
     omega (arith, place_below c.loop-index.index c.args.blocks g.row.N c.loop-index-test.true, c.requires.given.input) in
     all
 
+pub overflow_add-last : goal.overflow_add-last
+overflow_add-last g c =
+    let at = place_below c.loop-index.index c.args.blocks g.row.N c.loop-index-test.true in
+    record { fits = omega (arith, at, c.requires.given.input) }
+
 pub slice_bounds-target-count : goal.slice_bounds-target-count
 slice_bounds-target-count g c = mul-le-mul_right c.args.width (omega arith)
 
@@ -43,9 +48,7 @@ slice_bounds-target-end g c =
     all
 
 pub returns : goal.returns
-returns g c =
-    let last : c.loop-index.index ≡ c.args.blocks = omega (arith, c.loop-index-test.false, c.loop-index.auto.index-end) in
-    rw last at c.loop-index.invariant
+returns g c = rw (le_antisymm c.loop-index.auto.index-end c.loop-index-test.false) at c.loop-index.invariant
 
 pub loop-index-preserved : goal.loop-index-preserved
 loop-index-preserved g c =

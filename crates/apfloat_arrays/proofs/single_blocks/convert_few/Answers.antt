@@ -1,15 +1,9 @@
-use Rattle.std.proofs.Common.{◌≡◌, ℕ, ◌*◌, ◌/◌, ◌≤◌, length, ◌∙◌, ap, sym, arith, lit≤}
+use Rattle.std.proofs.Common.{◌≡◌, ℕ, ◌*◌, ◌/◌, ◌≤◌, length, ◌∙◌, ap, sym, arith}
 use Rattle.std.proofs.Math.Nat.{div-mul-le_self, mul-le-mul_right}
 use Rattle.rustc_apfloat.specs.FlaggedTypes.{constants_of}
 use Rattle.apfloat_arrays.specs.{Values.IsConvertedBy, Widths.bytes_of}
 use Rattle.apfloat_arrays.proofs.Tasks.{singles_after, singles_joined, singles_width}
 use Rattle.apfloat_arrays.proofs.single_blocks.convert_few.Goals as goal
-
-pub convert_blocks-counts-requires-clause-few : goal.convert_blocks-counts-requires-clause-few
-convert_blocks-counts-requires-clause-few g c = lit≤ tt
-
-pub convert_blocks-counts-requires-clause-blocks : goal.convert_blocks-counts-requires-clause-blocks
-convert_blocks-counts-requires-clause-blocks g c = div-mul-le_self c.args.task.count 64
 
 pub convert_blocks-counts-requires-clause-given : goal.convert_blocks-counts-requires-clause-given
 convert_blocks-counts-requires-clause-given g c =
