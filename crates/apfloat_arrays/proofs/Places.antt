@@ -36,18 +36,17 @@ counts_push outcomes outcome =
 -- counts of fewer values than a machine word can count
 pub room_for : (outcomes : List Outcome) (counts : Counts) → counts ≡ counts_of outcomes
     → length outcomes < 2 ^ 64 - 1 → HaveRoom counts
-room_for outcomes counts e l =
-    let values : counts.values ≡ length outcomes = ap (λ (k : Counts). k.values) e in
-    let few : (test : Outcome → Bool) (n : ℕ) → n ≡ count_by test outcomes → n < 2 ^ 64 - 1 =
-    λ test n is. let most = count_by-le-length test outcomes in omega (arith, is, most, l) in
-    record {
-      values = omega (arith, values, l);
-      inexact = few (raised 16) counts.inexact (ap (λ (k : Counts). k.inexact) e);
-      underflow = few (raised 8) counts.underflow (ap (λ (k : Counts). k.underflow) e);
-      overflow = few (raised 4) counts.overflow (ap (λ (k : Counts). k.overflow) e);
-      invalid = few (raised 1) counts.invalid (ap (λ (k : Counts). k.invalid) e);
-      nans = few became_nan counts.nans (ap (λ (k : Counts). k.nans) e);
-    }
+room_for outcomes counts are l =
+    let few : (test : Outcome → Bool) → count_by test outcomes < 2 ^ 64 - 1 =
+    λ test. omega (arith, count_by-le-length test outcomes, l) in
+    rw are (record {
+      values = l;
+      inexact = few (raised 16);
+      underflow = few (raised 8);
+      overflow = few (raised 4);
+      invalid = few (raised 1);
+      nans = few became_nan;
+    })
 
 -- ---- places
 

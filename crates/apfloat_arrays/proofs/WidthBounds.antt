@@ -25,15 +25,6 @@ in_bytes bits some few = room (div_ceil bits 8 == 3) refl
         record { least = omega arith; greatest = omega arith; enough = omega arith }
     room false e = record { least = omega arith; greatest = omega arith; enough = omega arith }
 
--- at most sixteen bits take at most two
-pub narrow : (bits : ℕ) → bits ≤ 16 → bytes_of bits ≤ 2
-narrow bits few = two (div_ceil bits 8 == 3) refl
-  where
-    two : (three : Bool) → (div_ceil bits 8 == 3) ≡ three → (if three then 4 else div_ceil bits 8) ≤ 2
-    two true e =
-        let is : div_ceil bits 8 ≡ 3 = eqb-true (div_ceil bits 8) 3 e in absurd (omega (arith, is, few))
-    two false e = omega (arith, few)
-
 -- sixteen bytes have room for the bits
 padded : (bits : ℕ) (explicit : Bool) → 1 ≤ bits → bits ≤ 128 → HasRoom bits (if explicit then 16 else bytes_of bits)
 padded bits true some few = record { least = omega arith; greatest = omega arith; enough = omega arith }

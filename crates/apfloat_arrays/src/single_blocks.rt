@@ -41,7 +41,8 @@ fn convert_blocks<P: BlockPlan<N>, S: Flagged, T: Flagged, const N: usize>(
     let mut uppers = [0; N];
     let mut lowers = [0; N];
     for index in 0..blocks {
-        let (first, last) = (index * N, index * N + N);
+        let first = index * N;
+        let last = first + N;
         let block = Task {
             input: &task.input[first * 4..last * 4],
             ..task

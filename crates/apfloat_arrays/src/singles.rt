@@ -251,7 +251,7 @@ fn convert_between<S: Flagged, T: Flagged>(
         &mut [0; BLOCK],
         made,
     );
-    output.copy_from_slice(&room[..count * width]);
+    output.copy_from_slice(&made[..count * width]);
     Counts {
         values: count as u64,
         ..counts

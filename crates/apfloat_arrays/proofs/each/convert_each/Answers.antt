@@ -1,4 +1,5 @@
 use Rattle.std.proofs.Common.{◌≡◌, ◌*◌, length, ◌∙◌, sym, ap, arith}
+use Rattle.std.proofs.Math.Nat.{le_antisymm}
 use Rattle.std.proofs.Math.Path.{subst₂}
 use Rattle.apfloat_arrays.proofs.Places.{block_none, block_more, place_below, place_size, room_for}
 use Rattle.apfloat_arrays.proofs.each.convert_each.Goals as goal
@@ -39,9 +40,7 @@ count-requires g c =
     room_for so_far.outcomes c.loop-index.counts so_far.counted (omega (arith, so_far.size, c.loop-index-test.true))
 
 pub returns : goal.returns
-returns g c =
-    let last : c.loop-index.index ≡ c.args.count = omega (arith, c.loop-index-test.false, c.loop-index.auto.index-end) in
-    rw last at c.loop-index.invariant
+returns g c = rw (le_antisymm c.loop-index.auto.index-end c.loop-index-test.false) at c.loop-index.invariant
 
 pub loop-index-preserved : goal.loop-index-preserved
 loop-index-preserved g c =

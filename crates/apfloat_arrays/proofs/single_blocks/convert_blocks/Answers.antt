@@ -1,8 +1,8 @@
-use Rattle.std.proofs.{Math.Nat.mul-le-mul_right, Math.Nat.suc-mul, lemmas.List.Edits.length-between}
+use Rattle.std.proofs.{Math.Nat.le_antisymm, Math.Nat.mul-le-mul_right, Math.Nat.suc-mul, lemmas.List.Edits.length-between}
 use Rattle.std.proofs.Common.{◌≡◌, ℕ, suc, ◌+◌, ◌-◌, ◌*◌, ◌^◌, ◌<◌, ◌≤◌, length, [], ◌∙◌, refl, sym, ap, subst, arith}
 use Rattle.rustc_apfloat.specs.FlaggedTypes.{constants_of}
 use Rattle.apfloat_arrays.specs.{Outcomes.counts_of, Tasks.AreConverted, Values.IsConvertedBy}
-use Rattle.apfloat_arrays.proofs.{Joined.block_joined, Places.block_named, Places.block_none}
+use Rattle.apfloat_arrays.proofs.{Joined.block_joined, Places.block_named, Places.block_none, Places.place_below}
 use Rattle.apfloat_arrays.proofs.single_blocks.convert_blocks.Goals as goal
 
 pub returns-then-blocks-eq0 : goal.returns-then-blocks-eq0
@@ -25,10 +25,30 @@ loop-index-init g c =
     subst (λ (n : ℕ). AreConverted from to task c.args.width n c.args.output.now (counts_of [])) none
     (block_none (IsConvertedBy task.overflow from to task.round) 4 c.args.width task.input.now c.args.output.now)
 
+pub slice_bounds-block-end : goal.slice_bounds-block-end
+slice_bounds-block-end g c =
+    let all : (c.loop-index.index * g.row.N + g.row.N) * 4 ≤ length c.args.task.input.now =
+    omega (arith, place_below c.loop-index.index c.args.blocks g.row.N c.loop-index-test.true, c.requires.given.input) in
+    all
+
+pub overflow_add-last : goal.overflow_add-last
+overflow_add-last g c =
+    let at = place_below c.loop-index.index c.args.blocks g.row.N c.loop-index-test.true in
+    record { fits = omega (arith, at, c.requires.given.input) }
+
+pub slice_bounds-target-count : goal.slice_bounds-target-count
+slice_bounds-target-count g c = mul-le-mul_right c.args.width (omega arith)
+
+pub slice_bounds-target-end : goal.slice_bounds-target-end
+slice_bounds-target-end g c =
+    let within : c.loop-index.index * g.row.N + g.row.N ≤ c.args.task.count =
+    omega (arith, place_below c.loop-index.index c.args.blocks g.row.N c.loop-index-test.true) in
+    let all : (c.loop-index.index * g.row.N + g.row.N) * c.args.width ≤ length c.loop-index.output =
+    omega (arith, mul-le-mul_right c.args.width within, c.loop-index.auto.output, c.requires.given.output) in
+    all
+
 pub returns : goal.returns
-returns g c =
-    let last : c.loop-index.index ≡ c.args.blocks = omega (arith, c.loop-index-test.false, c.loop-index.auto.index-end) in
-    rw last at c.loop-index.invariant
+returns g c = rw (le_antisymm c.loop-index.auto.index-end c.loop-index-test.false) at c.loop-index.invariant
 
 pub loop-index-preserved : goal.loop-index-preserved
 loop-index-preserved g c =

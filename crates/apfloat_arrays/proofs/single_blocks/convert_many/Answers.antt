@@ -19,14 +19,17 @@ convert_rest-requires-clause-given g c =
     c.convert_blocks-counts.auto.output c.requires.given
 
 pub slice_bounds-target-count : goal.slice_bounds-target-count
-slice_bounds-target-count g c =
-    mul-le-mul_right c.bytes_of-width.result (div-mul-le_self c.args.task.count 256)
+slice_bounds-target-count g c = mul-le-mul_right c.bytes_of-width.result (div-mul-le_self c.args.task.count 256)
 
 pub slice_bounds-target-end : goal.slice_bounds-target-end
 slice_bounds-target-end g c =
-    let width : c.bytes_of-width.result ≡ bytes_of g.T.Flagged.BITS = c.bytes_of-width.ensures ∙ ap bytes_of c.BITS.ensures in
     let room : c.args.task.count * c.bytes_of-width.result ≤ length c.convert_blocks-counts.new.output =
-    omega (arith, c.convert_blocks-counts.auto.output, c.requires.given.output, ap (λ (n : ℕ). c.args.task.count * n) width) in
+    omega (
+      arith,
+      c.convert_blocks-counts.auto.output,
+      c.requires.given.output,
+      ap (λ (n : ℕ). c.args.task.count * n) (c.bytes_of-width.ensures ∙ ap bytes_of c.BITS.ensures),
+    ) in
     room
 
 pub returns : goal.returns

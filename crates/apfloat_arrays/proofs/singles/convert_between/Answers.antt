@@ -1,40 +1,10 @@
-use Rattle.std.proofs.Common.{◌≡◌, ℕ, ◌*◌, ◌≤◌, List, ◌++◌, length, take, drop, ◌∙◌, ap, refl, length-append, length-drop}
-use Rattle.std.proofs.{Common.arith, Math.Nat.mul-le-mul_right, lemmas.List.length-take-le, lemmas.List.take-append-le}
+use Rattle.std.proofs.Common.{◌≡◌, ℕ, ◌*◌, List, ◌++◌, length, drop, ◌∙◌, ap}
 use Rattle.std.specs.Prelude.{replicate}
 use Rattle.rustc_apfloat.specs.FlaggedTypes.{constants_of}
 use Rattle.apfloat_arrays.specs.{Blocks.value_at, Bytes.number_of, Values.IsConvertedBy, Widths.bytes_of}
 use Rattle.apfloat_arrays.proofs.FirstValues.{block_first, padded_first, padded_zero}
-use Rattle.apfloat_arrays.proofs.{Joined.block_width, Rows.zeros_quiet, WidthBounds.narrow}
+use Rattle.apfloat_arrays.proofs.{Joined.block_width, Rows.zeros_quiet}
 use Rattle.apfloat_arrays.proofs.singles.convert_between.Goals as goal
-
-pub convert_block-counts-requires : goal.convert_block-counts-requires
-convert_block-counts-requires g c =
-    let given = c.requires.given in
-    let plan = c.plan_of-plan.ensures in
-    let width : c.bytes_of-width.result ≡ bytes_of g.T.Flagged.BITS =
-    c.bytes_of-width.ensures ∙ ap bytes_of c.BITS.ensures in
-    let short : bytes_of g.T.Flagged.BITS ≤ 2 = narrow g.T.Flagged.BITS given.target.bits in (
-      omega arith,
-      (
-        record { format = cc; layout = cc; saturates_is = cc; round_is = plan.round },
-        (
-          refl,
-          (
-            omega arith,
-            record {
-              read = given.read;
-              written = given.written;
-              single = given.single;
-              target = given.target;
-              width = omega (arith, width, given.width);
-              input = simp (length-append, length-drop)
-                  (omega (arith, c.requires.few, ap length (c.copy_from_slice.ensures.after), given.input, ap length c.requires.zeros));
-              output = length-take-le (64 * c.bytes_of-width.result) c.args.room.now (omega (arith, c.requires.room, width, short));
-            },
-          ),
-        ),
-      ),
-    )
 
 pub returns : goal.returns
 returns g c =
@@ -46,26 +16,15 @@ returns g c =
     let few = c.requires.few in
     let width : c.bytes_of-width.result ≡ bytes_of g.T.Flagged.BITS =
     c.bytes_of-width.ensures ∙ ap bytes_of c.BITS.ensures in
-    let short : bytes_of g.T.Flagged.BITS ≤ 2 = narrow g.T.Flagged.BITS c.requires.given.target.bits in
     let given = c.copy_from_slice.new.self in
     let filled : c.copy_from_slice.new.self ≡ c.args.task.input.now = c.copy_from_slice.ensures.after in
     let size : length c.copy_from_slice.new.self ≡ c.args.task.count * 4 =
     ap length filled ∙ c.requires.given.input in
     let zeros : c.args.singles.now ≡ replicate 256 0 = c.requires.zeros in
     let singles : List ℕ = given ++ drop (count * 4) c.args.singles.now in
-    let old = c.args.room.now in
-    let wide = c.requires.room in
     let made = c.convert_block-counts.new.output in
-    let long : length c.convert_block-counts.new.output ≡ 64 * c.bytes_of-width.result =
-    c.convert_block-counts.auto.output ∙ length-take-le (64 * target) old (omega (arith, wide, width, short)) in
-    let least : c.args.task.count * c.bytes_of-width.result ≤ 64 * c.bytes_of-width.result =
-    mul-le-mul_right target few in
-    let output : c.copy_from_slice-2.new.self
-    ≡ take (c.args.task.count * c.bytes_of-width.result) c.convert_block-counts.new.output =
-    c.copy_from_slice-2.ensures.after
-    ∙ take-append-le (count * target) made (drop (64 * target) old) (omega (arith, long, least)) in
     block_width Holds 4 target (bytes_of g.T.Flagged.BITS) count c.args.task.input.now _ _ width
-    (rw output
+    (rw c.copy_from_slice-2.ensures.after
     (block_first Holds 4 target 64 count singles c.args.task.input.now made c.convert_block-counts.result few
     (λ k low. padded_first count k c.args.singles.now given size low ∙ ap (value_at 4 k) filled)
     (λ k after low bytes o it. zeros_quiet c.args.task.overflow from to c.args.task.round c.requires.given.single

@@ -1,4 +1,5 @@
 use Rattle.std.proofs.Common.{◌≡◌, ℕ, ◌*◌, length, ap, ◌∙◌, inr, arith}
+use Rattle.std.proofs.Math.Nat.{le_antisymm}
 use Rattle.apfloat_arrays.proofs.Places.{place_size}
 use Rattle.arrays_for_c.specs.ArrayCalls.{bytes_in}
 use Rattle.arrays_for_c.proofs.ElementCalls.{elements_more, place_in, place_within, room_for}
@@ -28,9 +29,7 @@ count-requires g c =
     (omega (arith, so_far.places.size, c.loop-index-test.true))
 
 pub returns : goal.returns
-returns g c =
-    let last : c.loop-index.index ≡ c.args.count = omega (arith, c.loop-index-test.false, c.loop-index.auto.index-end) in
-    rw last at c.loop-index.invariant
+returns g c = rw (le_antisymm c.loop-index.auto.index-end c.loop-index-test.false) at c.loop-index.invariant
 
 pub loop-index-preserved : goal.loop-index-preserved
 loop-index-preserved g c =

@@ -1,7 +1,11 @@
-use Rattle.std.proofs.Common.{◌≡◌, ◌*◌, length, ◌∙◌}
+use Rattle.std.proofs.Common.{◌≡◌, ◌*◌, length, ◌∙◌, arith}
+use Rattle.std.proofs.Math.Nat.{le_antisymm}
 use Rattle.apfloat_arrays.proofs.Places.{place_size}
 use Rattle.convert_values.proofs.Converted.{converted_next}
 use Rattle.convert_values.proofs.blocks.BlockConversion.convert_each.Goals as goal
+
+pub returns : goal.returns
+returns c = rw (le_antisymm c.loop-index.auto.index-end c.loop-index-test.false) at c.loop-index.invariant
 
 pub loop-index-preserved : goal.loop-index-preserved
 loop-index-preserved c =

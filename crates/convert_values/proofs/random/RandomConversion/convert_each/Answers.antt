@@ -1,4 +1,4 @@
-use Rattle.std.proofs.Common.{rules, ◌≡◌, ℕ, ◌+◌, ◌*◌, ◌<◌, ◌≤◌, length, sym, ap, ◌∙◌, subst}
+use Rattle.std.proofs.Common.{arith, ◌≡◌, ℕ, ◌+◌, ◌*◌, ◌<◌, ◌≤◌, length, sym, ap, ◌∙◌, subst}
 use Rattle.apfloat_arrays.specs.declared.Widths.{Widths}
 use Rattle.apfloat_arrays.proofs.Places.{place_below, place_size}
 use Rattle.convert_values.proofs.random.RandomConversion.convert_each.Goals as goal
@@ -9,30 +9,26 @@ within index count width size before all =
 
 pub overflow_mul-from : goal.overflow_mul-from
 overflow_mul-from c =
-    let room : c.loop-index.index * c.args.widths.source + c.args.widths.source ≤ length c.args.input.now =
-    within _ c.args.count _ _ c.loop-index-test.true c.requires.input in
-    search rules
+    let at = place_below c.loop-index.index c.args.count c.args.widths.source c.loop-index-test.true in
+    record { fits = omega (arith, at, c.requires.input) }
 
 pub overflow_add-source : goal.overflow_add-source
 overflow_add-source c =
-    let room : c.loop-index.index * c.args.widths.source + c.args.widths.source ≤ length c.args.input.now =
-    within _ c.args.count _ _ c.loop-index-test.true c.requires.input in
-    search rules
+    let at = place_below c.loop-index.index c.args.count c.args.widths.source c.loop-index-test.true in
+    record { fits = omega (arith, at, c.requires.input) }
 
 pub slice_bounds-source-end : goal.slice_bounds-source-end
 slice_bounds-source-end c = within _ c.args.count c.args.widths.source _ c.loop-index-test.true c.requires.input
 
 pub overflow_mul-to : goal.overflow_mul-to
 overflow_mul-to c =
-    let room : c.loop-index.index * c.args.widths.target + c.args.widths.target ≤ length c.loop-index.output =
-    within _ c.args.count _ _ c.loop-index-test.true (c.loop-index.auto.output ∙ c.requires.output) in
-    search rules
+    let at = place_below c.loop-index.index c.args.count c.args.widths.target c.loop-index-test.true in
+    record { fits = omega (arith, at, c.loop-index.auto.output, c.requires.output) }
 
 pub overflow_add-target : goal.overflow_add-target
 overflow_add-target c =
-    let room : c.loop-index.index * c.args.widths.target + c.args.widths.target ≤ length c.loop-index.output =
-    within _ c.args.count _ _ c.loop-index-test.true (c.loop-index.auto.output ∙ c.requires.output) in
-    search rules
+    let at = place_below c.loop-index.index c.args.count c.args.widths.target c.loop-index-test.true in
+    record { fits = omega (arith, at, c.loop-index.auto.output, c.requires.output) }
 
 pub slice_bounds-target-end : goal.slice_bounds-target-end
 slice_bounds-target-end c =

@@ -5,6 +5,9 @@ use Rattle.exact_reductions.specs.Amounts.{difference}
 use Rattle.exact_reductions.proofs.Tallies.{first_none, infinite_tally, nan_tally, none_more, same_tally}
 use Rattle.exact_reductions.proofs.exact_sum.ExactSum.add_special.Goals as goal
 
+pub overflow_add-self : goal.overflow_add-self
+overflow_add-self g c = record { fits = rw (← c.self.view_is) at c.requires.room }
+
 pub returns-in-Infinity : goal.returns-in-Infinity
 returns-in-Infinity g c =
     let a = c.self.inside in

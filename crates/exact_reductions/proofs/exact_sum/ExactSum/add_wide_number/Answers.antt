@@ -44,6 +44,9 @@ invariant_of-self g c =
       c.self.invariant.2,
     )
 
+pub overflow_add-self : goal.overflow_add-self
+overflow_add-self g c = record { fits = rw (← c.self.view_is) at c.requires.room }
+
 pub returns : goal.returns
 returns g c =
     let a = c.self.inside in

@@ -1,4 +1,5 @@
 use Rattle.std.proofs.Common.{◌≡◌, ℕ, ◌*◌, [], length, refl, ap, ◌∙◌, arith}
+use Rattle.std.proofs.Math.Nat.{le_antisymm}
 use Rattle.apfloat_arrays.proofs.Places.{place_below, place_size, places_none, room_for}
 use Rattle.apfloat_arrays.specs.stored.ByMode.{IsStoredAt}
 use Rattle.apfloat_arrays.proofs.stored_lemmas.ByMode.{random_within, stored_more}
@@ -33,9 +34,7 @@ count-requires c =
     (omega (arith, so_far.places.size, c.loop-index-test.true))
 
 pub returns : goal.returns
-returns c =
-    let last : c.loop-index.index ≡ c.args.count = omega (arith, c.loop-index-test.false, c.loop-index.auto.index-end) in
-    rw last at c.loop-index.invariant
+returns c = rw (le_antisymm c.loop-index.auto.index-end c.loop-index-test.false) at c.loop-index.invariant
 
 pub loop-index-preserved : goal.loop-index-preserved
 loop-index-preserved c =
