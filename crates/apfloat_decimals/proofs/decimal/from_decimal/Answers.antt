@@ -19,8 +19,7 @@ deliver-requires-2-clause-fine g c =
 pub returns : goal.returns
 returns g c =
     let exact : to_z w32 (of_z w32 c.args.decimal.exponent) ≡ c.args.decimal.exponent = omega (arith, ints) in
-    let near : to_z w32 (of_z w32 c.nearest.result) ≡ c.nearest.result =
-    to_z-of_z w32 c.nearest.result (record { sfits = c.nearest.type_inv }) in
+    let near = to_z-of_z w32 c.nearest.result (record { sfits = c.nearest.type_inv }) in
     let within = c.scaled-ratio.ensures.within in
     let ratio : to_z w32 (of_z w32 c.scaled-ratio.result.exponent) ≡ c.scaled-ratio.result.exponent =
     omega (arith, ints) in

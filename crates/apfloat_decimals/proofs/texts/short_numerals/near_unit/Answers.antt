@@ -7,10 +7,8 @@ use Rattle.apfloat_decimals.proofs.texts.short_numerals.near_unit.Goals as goal
 pub returns-clause-same : goal.returns-clause-same
 returns-clause-same c = λ exact near.
     let within = c.in_ok-unit.ensures.within in
-    let given : to_z w128 (of_z w128 c.args.exponent) ≡ c.args.exponent =
-    to_z-of_z w128 c.args.exponent c.ranges.exponent in
-    let wide : to_z w128 (of_z w128 c.unit_of.result) ≡ c.unit_of.result =
-    to_z-of_z w128 c.unit_of.result (record { sfits = c.unit_of.type_inv }) in
+    let given = to_z-of_z w128 c.args.exponent c.ranges.exponent in
+    let wide = to_z-of_z w128 c.unit_of.result (record { sfits = c.unit_of.type_inv }) in
     let same : c.in_ok-unit.unit ≡ c.unit_of.result = rw wide at c.in_ok-unit.ensures.same in
     let narrow : to_z w32 (of_z w32 c.in_ok-unit.unit) ≡ c.in_ok-unit.unit = omega (arith, ints) in
     let low : neg_ℤ (pos 5020) ≤ℤ (pos 0 +ℤ c.unit_of.result) = omega (arith, ints, within, same) in

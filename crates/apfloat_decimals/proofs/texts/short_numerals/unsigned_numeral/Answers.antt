@@ -33,8 +33,7 @@ returns-in_ok-exponent-in-Ok-clause-spelled c =
     (sym c.split_fraction_number-digits.ensures.digits)) in
     let word : digits ≡ number 10 (whole ++ fraction) =
     word_is (number 10 (whole ++ fraction)) digits (c.is_of_word.ensures c.if-not-is_of_word.false) joined in
-    let wide : to_z w128 (of_z w128 c.in-Ok.written) ≡ c.in-Ok.written =
-    to_z-of_z w128 c.in-Ok.written (exponent_fits c.in-Ok.written e.1) in
+    let wide = to_z-of_z w128 c.in-Ok.written (exponent_fits c.in-Ok.written e.1) in
     let unit : c.in_ok-exponent-in-Ok.exponent ≡ exponent_number (drop 1 tail) -ℤ pos (length fraction) =
     c.in_ok-exponent-in-Ok.ensures.same (exponent_number (drop 1 tail)) (rw wide e.0) in
     let within = c.in_ok-exponent-in-Ok.ensures.within in
