@@ -527,9 +527,10 @@ fn round_to_integral_in_mode<S: Flagged>(answer: &mut Answer, round: Round, x: u
     round_to_integral_in_line::<S>(answer, round, x)
 }
 
-/// A value rounded to an integral value in a format. The usual mode is a constant, which leaves more registers.
+/// A value rounded to an integral value in a format whose words are ordered. The usual mode is a constant, which leaves
+/// more registers.
 #[inline(never)]
-pub fn round_to_integral_in<S: Flagged>(answer: &mut Answer, round: Round, x: u128) -> u32
+fn round_word_to_integral<S: Flagged>(answer: &mut Answer, round: Round, x: u128) -> u32
     requires { S.PRECISION < S.BITS }
     ensures { IsLeft (of_format (constants_of S.Flagged)) round (RoundToIntegral x)
         answer.old answer.new result }
@@ -539,6 +540,21 @@ pub fn round_to_integral_in<S: Flagged>(answer: &mut Answer, round: Round, x: u1
             round_to_integral_in_line::<S>(answer, Round::NearestTiesToEven, x)
         }
         _ => round_to_integral_in_mode::<S>(answer, round, x),
+    }
+}
+
+/// A value rounded to an integral value in a format.
+#[inline(always)]
+pub fn round_to_integral_in<S: Flagged>(answer: &mut Answer, round: Round, x: u128) -> u32
+    requires { S.PRECISION < S.BITS }
+    ensures { IsLeft (of_format (constants_of S.Flagged)) round (RoundToIntegral x)
+        answer.old answer.new result }
+{
+    if has_ordered_words::<S>() {
+        round_word_to_integral::<S>(answer, round, x)
+    } else {
+        round_to_integral::<IeeeFloat<S>>(answer, round, x);
+        ANSWERED
     }
 }
 

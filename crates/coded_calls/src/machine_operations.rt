@@ -51,7 +51,7 @@ use apfloat_machines::{
     range, settled, settled_conversion, settled_fused, settled_signed, settled_unary,
     settled_unsigned, to_alternative_half, to_signed_modulo,
 };
-use fast_bits::{add_normal, convert_normal, signed_of_bits, subtract_normal, unsigned_of_bits};
+use fast_bits::{add_normal, convert_normal, subtract_normal};
 use formats_at_run_time::{Arithmetic, FillsInFormat, FlaggedKind, mode_coded};
 use ieee_operations::round_to_integral_in;
 use rustc_apfloat::ieee::{
@@ -1126,15 +1126,6 @@ fn valid_to_unsigned<S: Flagged>(
 {
     if is_width(1, width) && fits::<S>(x) {
         let given = value::<S>(x);
-        if let Some(plain) = unsigned_of_bits::<S>(x, width, round) {
-            return match settled_unsigned(machine.choices(), given, width as usize, plain.answer) {
-                None => LACKING_OPERATION,
-                Some(integer) => {
-                    *answer = Answer::of(integer.value, integer.status, 0);
-                    ANSWERED
-                }
-            };
-        }
         let mut is_exact = false;
         let plain = given.to_u128_r(width as usize, round, &mut is_exact);
         if plain.status == Status::INVALID_OP {
@@ -1246,13 +1237,8 @@ fn valid_to_signed<S: Flagged>(
         answer.old answer.new result }
 {
     if is_width(2, width) && fits::<S>(x) {
-        let given = value::<S>(x);
-        if let Some(plain) = signed_of_bits::<S>(x, width, round) {
-            let integer = settled_signed(machine.choices(), given, width as usize, plain.answer);
-            *answer = Answer::of(integer.value.cast_unsigned(), integer.status, 0);
-            return ANSWERED;
-        }
         answer.bits = Halves::of(x);
+        let given = value::<S>(x);
         let mut is_exact = false;
         let plain = given.to_i128_r(width as usize, round, &mut is_exact);
         if plain.status == Status::INVALID_OP {
