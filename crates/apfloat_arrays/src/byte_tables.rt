@@ -59,7 +59,8 @@ pub(crate) fn convert_by_table<R: ByteResults>(
     requires few { width ≤ 16 }
     requires input { length input.now ≡ count * 1 }
     requires output { length output.old ≡ count * width }
-    ensures { IsBlock (IsConvertedIn (R.gives results.now)) 1 width count input.now output.new result }
+    ensures { IsBlock (IsConvertedIn (R.gives results.now)) 1 width count input.now output.new
+        result }
 {
     if R::bits() <= 32 {
         let mut table = [0_u8; ENTRY * PLACES];
@@ -92,7 +93,8 @@ fn convert_wide<R: Results>(
     requires outcomes { length outcomes.old ≡ 256 }
     requires input { length input.now ≡ count * 1 }
     requires output { length output.old ≡ count * width }
-    ensures { IsBlock (IsConvertedIn (R.gives results.now)) 1 width count input.now output.new result }
+    ensures { IsBlock (IsConvertedIn (R.gives results.now)) 1 width count input.now output.new
+        result }
 {
     fill_table(results, width, PLACES, values, outcomes);
     let tabled = Tabled {

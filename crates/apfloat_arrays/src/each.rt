@@ -34,8 +34,8 @@ pub(crate) fn convert_each<C: ValueConversion>(
     requires can { C.can conversion.now widths.source widths.target }
     requires input { length input.now ≡ count * widths.source }
     requires output { length output.old ≡ count * widths.target }
-    ensures { IsBlock (C.gives conversion.now) widths.source widths.target count input.now output.new
-        result }
+    ensures { IsBlock (C.gives conversion.now) widths.source widths.target count input.now
+        output.new result }
 {
     let mut counts = Counts::NONE;
     for index in 0..count {

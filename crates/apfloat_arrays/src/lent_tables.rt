@@ -125,8 +125,8 @@ impl<S: Flagged> WritesInFormat for TableCallFrom<S> {
         × at_format kind (λ d. d.bits ≤ 32) × (length old ≡ 65536 * 8) };
 
     ghost gives = { λ it kind old new none.
-        at_format kind (λ d. IsResultTable (IsAnswerAt it.conversion.overflow (constants_of S.Flagged) d
-        it.conversion.round) 65536 new) };
+        at_format kind (λ d. IsResultTable (IsAnswerAt it.conversion.overflow
+        (constants_of S.Flagged) d it.conversion.round) 65536 new) };
 
     fn write_in_format<T: Flagged>(self, table: &mut [u8]) {
         let ArrayConversion {

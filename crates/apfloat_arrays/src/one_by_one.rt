@@ -29,7 +29,8 @@ pub fn convert_one_by_one<S: Flagged, T: Flagged>(
 ) -> Counts
     requires { HasBytes (constants_of S.Flagged) (constants_of T.Flagged) widths count input.now
         output.old }
-    ensures { IsBlock (IsConvertedBy overflow (constants_of S.Flagged) (constants_of T.Flagged) round)
+    ensures { IsBlock
+        (IsConvertedBy overflow (constants_of S.Flagged) (constants_of T.Flagged) round)
         widths.source widths.target count input.now output.new result }
 {
     let task = Task {

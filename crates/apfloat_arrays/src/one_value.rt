@@ -34,10 +34,12 @@ pub struct Between<'a, S: Flagged, T: Flagged> {
 }
 
 impl<S: Flagged, T: Flagged> ValueConversion for Between<'_, S, T> {
-    ghost can = { λ it source target. HaveWidths (constants_of S.Flagged) (constants_of T.Flagged) source target
+    ghost can = { λ it source target. HaveWidths (constants_of S.Flagged)
+        (constants_of T.Flagged) source target
         × IfSome it.far.now (AreFarAnswers it.overflow (constants_of T.Flagged) it.round) };
 
-    ghost gives = { λ it. IsConvertedBy it.overflow (constants_of S.Flagged) (constants_of T.Flagged) it.round };
+    ghost gives = { λ it.
+        IsConvertedBy it.overflow (constants_of S.Flagged) (constants_of T.Flagged) it.round };
 
     #[inline(always)]
     fn convert(&self, input: &[u8], output: &mut [u8]) -> Outcome {
@@ -62,7 +64,8 @@ impl<S: Flagged, T: Flagged> Results for Between<'_, S, T> {
     ghost has = { λ it place. (S.PRECISION < S.BITS) × (T.PRECISION < T.BITS)
         × IfSome it.far.now (AreFarAnswers it.overflow (constants_of T.Flagged) it.round) };
 
-    ghost gives = { λ it. IsAnswerAt it.overflow (constants_of S.Flagged) (constants_of T.Flagged) it.round };
+    ghost gives = { λ it.
+        IsAnswerAt it.overflow (constants_of S.Flagged) (constants_of T.Flagged) it.round };
 
     #[inline(always)]
     fn bits() -> usize

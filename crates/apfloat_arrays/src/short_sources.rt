@@ -298,7 +298,8 @@ impl<S: Flagged, Z: Flagged, T: Flagged> ValueConversion for Shortened<'_, S, Z,
     ghost can = { λ it. HasShortTable it.overflow (constants_of S.Flagged) (constants_of Z.Flagged)
         (constants_of T.Flagged) it.round it.values.now it.outcomes.now };
 
-    ghost gives = { λ it. IsConvertedBy it.overflow (constants_of S.Flagged) (constants_of T.Flagged) it.round };
+    ghost gives = { λ it.
+        IsConvertedBy it.overflow (constants_of S.Flagged) (constants_of T.Flagged) it.round };
 
     /// Converts a value by the table, or a NaN, whose payload may need more digits, in the general way.
     #[inline(always)]

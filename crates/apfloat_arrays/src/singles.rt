@@ -170,7 +170,8 @@ pub(crate) fn convert_block<P: BlockPlan<N>, S: Flagged, T: Flagged, const N: us
 impl SinglesPlan for Plan {
     ghost can = { λ layout precision least. ⊤ };
 
-    ghost is_for = { λ plan overflow d mode. IsPlanFor overflow d mode plan.target plan.saturates plan.round };
+    ghost is_for = { λ plan overflow d mode.
+        IsPlanFor overflow d mode plan.target plan.saturates plan.round };
 
     ghost bits = { λ plan. plan.target.bits };
 

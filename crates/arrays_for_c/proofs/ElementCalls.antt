@@ -14,7 +14,8 @@ use Rattle.arrays_for_c.specs.declared.array_calls.ElementOperation.{ElementOper
 use Rattle.arrays_for_c.specs.declared.array_calls.{ElementOperation.TheVariants.SquareRoot, MapCall.MapCall}
 use Rattle.arrays_for_c.specs.declared.array_data.{Element.Element, ElementCounts.ElementCounts}
 use Rattle.arrays_for_c.specs.{ArrayCalls.bytes_in, Arrays.AreElements}
-use Rattle.arrays_for_c.specs.Arrays.{HaveRoomFor, IsElement, IsElementAt, became_nan, call_of, counts_of, raised, with_element}
+use Rattle.arrays_for_c.specs.Arrays.{HaveRoomFor, IsElement, IsElementAt, became_nan, call_of, counts_of, raised}
+use Rattle.arrays_for_c.specs.Arrays.{with_element}
 use borrow.Rule.Slice.PartMut.{put_mid}
 
 -- counting one more element counts the list with that element

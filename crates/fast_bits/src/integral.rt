@@ -52,7 +52,8 @@ pub(crate) fn moves_to_one<S: Flagged>(round: Round, negative: bool, magnitude: 
     requires fit { FitsWord (constants_of S.Flagged) }
     requires nonfinite { S.NONFINITE_BEHAVIOR ≡ IEEE754 }
     ensures { (half : ℕ) → half + (S.PRECISION - 1) ≡ (format_of S.Flagged).scale
-        → result ≡ rounds_up round negative (loss_at magnitude (half * 2 ^ (S.PRECISION - 1))) false }
+        → result ≡ rounds_up round negative (loss_at magnitude (half * 2 ^ (S.PRECISION - 1)))
+        false }
 {
     let half = place_of_one::<S>() as u64 * integer_bit::<S>();
     moves_past(round, negative, magnitude, half, false)

@@ -116,7 +116,8 @@ pub(crate) fn load_codes<T: Flagged>(
     requires few { width ≤ 16 }
     requires input { length input.now ≡ count * 1 }
     requires output { length output.old ≡ count * width }
-    ensures { IsBlock (IsLoadedIn codes.now.overflow codes.now.source (constants_of T.Flagged) codes.now.round)
+    ensures { IsBlock
+        (IsLoadedIn codes.now.overflow codes.now.source (constants_of T.Flagged) codes.now.round)
         1 width count input.now output.new result }
 {
     convert_by_table(codes, width, count, input, output)
@@ -145,8 +146,8 @@ fn fill_codes<T: Flagged>(results: &Codes<T>, codes: usize, table: &mut [u8])
     requires few { T.BITS ≤ 32 }
     requires codes { codes ≤ 256 }
     requires table { length table.old ≡ 256 * 8 }
-    ensures { AreCodeEntries results.now.overflow results.now.source (constants_of T.Flagged) results.now.round
-        codes table.new }
+    ensures { AreCodeEntries results.now.overflow results.now.source (constants_of T.Flagged)
+        results.now.round codes table.new }
 {
     for place in 0..codes {
         let from = place * ENTRY;

@@ -89,7 +89,8 @@ impl<S: Semantics, F: StorageFormat> ValueConversion for Numbers<S, F> {
     ghost can = { λ it. HasNumbers (constants_of S.Semantics) (storage_constants_of F.StorageFormat)
         it.target it.plan };
 
-    ghost gives = { λ it. IsStoredIn it.overflow (constants_of S.Semantics) it.target it.plan.round };
+    ghost gives = { λ it.
+        IsStoredIn it.overflow (constants_of S.Semantics) it.target it.plan.round };
 
     #[inline(always)]
     fn convert(&self, input: &[u8], output: &mut [u8]) -> Outcome {

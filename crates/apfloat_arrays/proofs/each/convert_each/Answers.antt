@@ -6,12 +6,14 @@ use Rattle.apfloat_arrays.proofs.each.convert_each.Goals as goal
 
 pub loop-index-init : goal.loop-index-init
 loop-index-init g c =
-    block_none (g.C.ValueConversion.gives c.args.conversion.now) c.args.widths.source c.args.widths.target c.args.input.now
+    block_none (g.C.ValueConversion.gives c.args.conversion.now) c.args.widths.source c.args.widths.target
+    c.args.input.now
     c.args.output.now
 
 pub value_at-source-requires : goal.value_at-source-requires
 value_at-source-requires g c =
-    omega (arith, place_below c.loop-index.index c.args.count c.args.widths.source c.loop-index-test.true, c.requires.input)
+    omega
+    (arith, place_below c.loop-index.index c.args.count c.args.widths.source c.loop-index-test.true, c.requires.input)
 
 pub overflow_add-target : goal.overflow_add-target
 overflow_add-target g c = record {

@@ -1,4 +1,5 @@
-use Rattle.std.proofs.{Math.Nat.le_antisymm, Math.Nat.mul-le-mul_right, Math.Nat.suc-mul, lemmas.List.Edits.length-between}
+use Rattle.std.proofs.{Math.Nat.le_antisymm, Math.Nat.mul-le-mul_right, Math.Nat.suc-mul}
+use Rattle.std.proofs.lemmas.List.Edits.{length-between}
 use Rattle.std.proofs.Common.{◌≡◌, ℕ, suc, ◌+◌, ◌-◌, ◌*◌, ◌^◌, ◌<◌, ◌≤◌, length, [], ◌∙◌, refl, sym, ap, subst, arith}
 use Rattle.rustc_apfloat.specs.FlaggedTypes.{constants_of}
 use Rattle.apfloat_arrays.specs.{Outcomes.counts_of, Tasks.AreConverted, Values.IsConvertedBy}
@@ -28,7 +29,8 @@ loop-index-init g c =
 pub slice_bounds-block-end : goal.slice_bounds-block-end
 slice_bounds-block-end g c =
     let all : (c.loop-index.index * g.row.N + g.row.N) * 4 ≤ length c.args.task.input.now =
-    omega (arith, place_below c.loop-index.index c.args.blocks g.row.N c.loop-index-test.true, c.requires.given.input) in
+    omega
+    (arith, place_below c.loop-index.index c.args.blocks g.row.N c.loop-index-test.true, c.requires.given.input) in
     all
 
 pub overflow_add-last : goal.overflow_add-last

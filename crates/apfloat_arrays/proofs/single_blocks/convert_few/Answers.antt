@@ -20,7 +20,8 @@ convert_last-requires-2-clause-given g c =
 
 pub returns-then-done-count : goal.returns-then-done-count
 returns-then-done-count g c =
-    let width : c.bytes_of-width.result ≡ bytes_of g.T.Flagged.BITS = c.bytes_of-width.ensures ∙ ap bytes_of c.BITS.ensures in
+    let width : c.bytes_of-width.result ≡ bytes_of g.T.Flagged.BITS =
+    c.bytes_of-width.ensures ∙ ap bytes_of c.BITS.ensures in
     rw (width, c.if-done-count.true) at c.convert_blocks-counts.ensures
 
 pub slice_bounds-target-count : goal.slice_bounds-target-count

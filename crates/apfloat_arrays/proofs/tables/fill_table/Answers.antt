@@ -5,7 +5,8 @@ use Rattle.apfloat_arrays.proofs.tables.fill_table.Goals as goal
 
 pub loop-index-init : goal.loop-index-init
 loop-index-init g c =
-    places_none (λ place bytes outcome. g.R.Results.gives c.args.results.now place (number_of bytes) outcome) c.args.width
+    places_none (λ place bytes outcome. g.R.Results.gives c.args.results.now place (number_of bytes) outcome)
+    c.args.width
     c.args.values.now
 
 pub result_in-answer-requires : goal.result_in-answer-requires

@@ -10,12 +10,14 @@ use Rattle.small_formats.specs.Storage.{format_with as stored_format}
 use Rattle.small_formats.specs.Types.{constants_of as storage_constants_of}
 use Rattle.small_formats.specs.blocks.{Elements.IsQuotientBy, Places.AreCounted}
 use Rattle.small_formats.proofs.blocks_lemmas.Greatest.{finite_at}
-use Rattle.small_formats.proofs.blocks_lemmas.Places.{AreWritten, all_written, length_set, none_written, one_written, room_for}
+use Rattle.small_formats.proofs.blocks_lemmas.Places.{AreWritten, all_written, length_set, none_written}
+use Rattle.small_formats.proofs.blocks_lemmas.Places.{one_written, room_for}
 use Rattle.apfloat_arrays.specs.{Blocks.value_at, Bytes.number_of}
 use Rattle.apfloat_arrays.specs.scaled_blocks.Values.{value_in, values_in}
 use Rattle.apfloat_arrays.specs.stored.NumberCodes.{IsCodedNumber, is_minus, quanta_in}
 use Rattle.apfloat_arrays.proofs.{FarNumbers.scale_is, scaled_blocks_lemmas.Elements.coded_quotient}
-use Rattle.apfloat_arrays.proofs.scaled_blocks_lemmas.{Fitting.index_within, Fitting.value_within, Listed.values_at, Listed.values_length}
+use Rattle.apfloat_arrays.proofs.scaled_blocks_lemmas.{Fitting.index_within, Fitting.value_within}
+use Rattle.apfloat_arrays.proofs.scaled_blocks_lemmas.{Listed.values_at, Listed.values_length}
 use Rattle.apfloat_arrays.proofs.{scaled_blocks_lemmas.Numbers.number_if, stored_lemmas.Numbers.number_read}
 use Rattle.apfloat_arrays.proofs.scaled_blocks.elements.write_numbers.Goals as goal
 
@@ -63,7 +65,8 @@ loop-index-preserved g c =
     let before : index < length codes = omega (arith, c.loop-index-test.true, size) in
     let width : c.BITS-width.result / 8 ≡ call.width = omega (arith, c.requires.width, c.BITS-width.ensures) in
     let bits_are : bits ≡ number_of (value_at call.width (call.first + index) call.values.now) =
-    c.bits_in-bits.ensures.is ∙ ap number_of c.value_at.ensures.is ∙ ap (λ (w : ℕ). number_of (value_at w (call.first + index) call.values.now)) width in
+    c.bits_in-bits.ensures.is ∙ ap number_of c.value_at.ensures.is
+    ∙ ap (λ (w : ℕ). number_of (value_at w (call.first + index) call.values.now)) width in
     let number : is_finite (value_of k bits) ≡ true =
     ap (λ (n : ℕ). is_finite (value_of k n)) bits_are ∙ finite_at xs index x c.requires.given.finite
     (values_at k call.width call.values.now call.first (length c.args.codes.now) index c.loop-index-test.true) in

@@ -38,7 +38,8 @@ loop-index-preserved g c =
     let bytes = c.args.bytes.now in
     let at = c.args.first + index in
     let bits_are : bits ≡ number_of (value_at width at bytes) =
-    c.bits_in-bits.ensures.is ∙ ap number_of c.value_at.ensures.is ∙ ap (λ (b : ℕ). number_of (value_at (b / 8) at bytes)) c.BITS-width.ensures in
+    c.bits_in-bits.ensures.is ∙ ap number_of c.value_at.ensures.is
+    ∙ ap (λ (b : ℕ). number_of (value_at (b / 8) at bytes)) c.BITS-width.ensures in
     let half : c.power_of_two-half.result ≡ 2 ^ (k.bits - 1) =
     c.power_of_two-half.ensures ∙ ap (λ (n : ℕ). 2 ^ (n - 1)) c.BITS.ensures in
     let next : values_in k width bytes c.args.first (index + 1)

@@ -7,5 +7,6 @@ fill_codes-requires-clause-written g c = (c.requires.has 0 (lit< tt)).0
 
 pub returns : goal.returns
 returns g c =
-    c.copy_codes.ensures c.args.self.now.overflow c.args.self.now.source (constants_of g.T.Flagged) c.args.self.now.round
+    c.copy_codes.ensures c.args.self.now.overflow c.args.self.now.source (constants_of g.T.Flagged)
+    c.args.self.now.round
     c.codes_of-codes.ensures.is c.fill_codes.ensures

@@ -25,7 +25,8 @@ returns-then-is_number g c =
     rw (c.write_number.ensures, c.from.ensures, sym c.bits_in-bits.ensures.is)
     (record {
       is_stored =
-          stored_bits c.args.self.now.overflow c.args.self.now.target k s c.args.self.now.plan.round c.bits_in-bits.result code
+          stored_bits c.args.self.now.overflow c.args.self.now.target k s c.args.self.now.plan.round
+          c.bits_in-bits.result code
           status (not (eqb status 0)) c.requires.format c.requires.word
           (not_special (biased_of k c.bits_in-bits.result) (2 ^ g.S.Semantics.EXP_BITS - 1) c.is_number.result
           c.if-is_number.true c.is_number.ensures) answer.ensures.below answer.ensures.stored answer.ensures.past;
